@@ -1,0 +1,4 @@
+pub mod Data
+pub mod Numbers
+pub mod Quoted
+pub mod View

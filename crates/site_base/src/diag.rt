@@ -1,0 +1,13 @@
+// Diagnostics.
+use crate::{DiagKind, ItemNo, Place, Text};
+
+/// One fault of a configuration or a script.
+#[derive(Debug, Drop)]
+pub struct Diag {
+    /// The number of the item that it belongs to; diagnostics of one phase are listed by it.
+    pub number: ItemNo,
+    pub place: Place,
+    pub kind: DiagKind,
+    /// The whole detail as it is printed, quotes included; empty where there is none.
+    pub text: Text,
+}

@@ -1,0 +1,13 @@
+// The numbers of items.
+use crate::TargetNo;
+
+/// The number of an item: by it objects and diagnostics are ordered, field by field.
+#[derive(Clone, Copy, Debug, PartialEq, Eq, PartialOrd, Ord)]
+pub struct ItemNo {
+    /// The place of the statement among all that register an item or a rule, from 1.
+    pub item: u32,
+    /// What an instance of an `apply` rule was applied to.
+    pub target: TargetNo,
+    /// The place among the instances that a `for` gives, from 1; 0 without one.
+    pub key: u32,
+}

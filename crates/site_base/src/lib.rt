@@ -1,0 +1,31 @@
+//! The plain values that every layer of the program speaks of.
+//!
+//! In reading order: the one error of memory, texts and lists, numbers and moments, places and
+//! diagnostics, and the trees that objects are made of.
+#![tactic(auto)]
+
+mod diag;
+mod diag_kind;
+mod item_no;
+mod memory;
+mod moment;
+mod num;
+mod place;
+mod quoting;
+mod row;
+mod target_no;
+mod text;
+mod tree;
+
+pub use diag::Diag;
+pub use diag_kind::DiagKind;
+pub use item_no::ItemNo;
+pub use memory::OutOfMemory;
+pub use moment::Moment;
+pub use num::Num;
+pub use place::Place;
+pub use quoting::{push_quoted, quote};
+pub use row::{Blob, Row, Texts};
+pub use target_no::TargetNo;
+pub use text::Text;
+pub use tree::{Tree, copy_tree};
