@@ -54,6 +54,12 @@ impl<T> Row<T> {
         self.items.is_empty()
     }
 
+    pub fn into_vec(self) -> Vec<T>
+        ensures { result.items ≡ self }
+    {
+        self.items
+    }
+
     /// Adds an item at the end.
     pub fn push(&mut self, item: T) -> Result<(), OutOfMemory>
     where
