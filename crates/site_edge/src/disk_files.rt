@@ -1,0 +1,177 @@
+// The real files.
+ghost use Rattle.std.specs.Prelude.{◌≡◌, ◌≤◌, None, OnErr};
+ghost use Rattle.site_edge.specs.Told.{Rose};
+
+use crate::folder::folder_prefix;
+use crate::{FileFault, Files};
+use site_base::{Blob, Row, Text, Texts};
+use std::fs;
+use std::fs::DirEntry;
+use std::io::{ErrorKind, Read};
+
+/// No file of more bytes is read.
+const MAX_BYTES: u64 = 1 << 30;
+
+/// No folder with more files below it is listed.
+const MAX_FILES: usize = 1_000_000;
+
+/// No folder with more levels of folders below it is listed.
+const MAX_LEVELS: u32 = 100;
+
+/// The real files. Nothing is told of what they hold.
+///
+/// `read` takes whatever can be opened and read to its end, up to 1 GiB; a folder, a longer file and
+/// one without the right to read are `Failed`. `names` follows links and gives those that lead
+/// nowhere too, passes over devices, pipes and sockets, and is `Failed` at a folder without the
+/// right to read it, at a name that is no UTF-8, above 1,000,000 files and below 100 levels.
+#[derive(Drop)]
+pub struct DiskFiles<R: std::rt::Files + AllocGlobal + Clone + Drop> {
+    rt: R,
+    faults: u64,
+}
+
+/// A folder that is still to be listed.
+#[derive(Drop)]
+struct Folder {
+    path: Text,
+    level: u32,
+}
+
+impl<R: std::rt::Files + AllocGlobal + Clone + Drop> DiskFiles<R> {
+    pub fn new(rt: R) -> DiskFiles<R> {
+        DiskFiles { rt, faults: 0 }
+    }
+
+    /// Counts an error.
+    fn counted<T>(&mut self, answer: Result<T, FileFault>) -> Result<T, FileFault>
+        ensures same { result ≡ answer }
+        ensures rises { OnErr answer (Rose self.old.faults self.new.faults) }
+        ensures counts { self.old.faults ≤ self.new.faults }
+    {
+        if answer.is_err() {
+            self.faults = self.faults.saturating_add(1);
+        }
+        answer
+    }
+}
+
+impl<R: std::rt::Files + AllocGlobal + Clone + Drop> Files for DiskFiles<R> {
+    ghost told = { λ _. None };
+
+    ghost faults = { λ f. f.faults };
+
+    fn read(&mut self, name: &str) -> Result<Option<Blob>, FileFault> {
+        let answer = read_whole(&self.rt, name);
+        self.counted(answer)
+    }
+
+    fn names(&mut self, dir: &str) -> Result<Texts, FileFault> {
+        let answer = list_files(&self.rt, dir);
+        self.counted(answer)
+    }
+}
+
+/// The bytes of a file; `None` where there is none, or where no file can have such a name.
+fn read_whole<R: std::rt::Files + AllocGlobal>(
+    rt: &R,
+    name: &str,
+) -> Result<Option<Blob>, FileFault> {
+    let file = match fs::open(rt, name) {
+        Ok(file) => file,
+        Err(error) => {
+            return match error.kind() {
+                ErrorKind::NotFound
+                | ErrorKind::NotADirectory
+                | ErrorKind::InvalidInput
+                | ErrorKind::InvalidFilename => Ok(None),
+                _ => Err(FileFault::from(error)),
+            };
+        }
+    };
+    let mut bytes = Vec::new(rt.alloc());
+    let _ = file.take(MAX_BYTES + 1).read_to_end(&mut bytes)?;
+    if bytes.len() as u64 > MAX_BYTES {
+        return Err(FileFault::Failed);
+    }
+    Ok(Some(Blob::from(bytes)))
+}
+
+/// The paths of all files below a folder, in byte order.
+fn list_files<R: std::rt::Files + AllocGlobal + Clone + Drop>(
+    rt: &R,
+    dir: &str,
+) -> Result<Texts, FileFault> {
+    let alloc = rt.alloc();
+    let mut names = Vec::new(alloc);
+    let mut folders = Vec::new(alloc);
+    folders.push(Folder {
+        path: Text::copy_of(alloc, dir)?,
+        level: 0,
+    })?;
+    for _ in 0..u64::MAX {
+        match folders.pop() {
+            Some(folder) => list_folder(rt, &folder, &mut names, &mut folders)?,
+            None => break,
+        }
+    }
+    names.sort()?;
+    Ok(Row::from(names))
+}
+
+/// Adds the files of one folder, and the folders in it that are to be listed.
+fn list_folder<R: std::rt::Files + AllocGlobal + Clone + Drop>(
+    rt: &R,
+    folder: &Folder,
+    names: &mut Vec<Text>,
+    folders: &mut Vec<Folder>,
+) -> Result<(), FileFault> {
+    let prefix = folder_prefix(rt.alloc(), folder.path.as_str())?;
+    let path = if prefix.is_empty() {
+        "."
+    } else {
+        prefix.as_str()
+    };
+    let entries = match fs::read_dir(rt, path) {
+        Ok(entries) => entries,
+        Err(error) if error.kind() == ErrorKind::NotFound => return Ok(()),
+        Err(error) => return Err(FileFault::from(error)),
+    };
+    for entry in entries {
+        let mut path = prefix.clone()?;
+        path.push_str(entry?.file_name())?;
+        list_entry(rt, path, folder.level, names, folders)?;
+    }
+    Ok(())
+}
+
+/// Adds a path where it is that of a file, or of a folder to be listed.
+fn list_entry<R: std::rt::Files>(
+    rt: &R,
+    path: Text,
+    level: u32,
+    names: &mut Vec<Text>,
+    folders: &mut Vec<Folder>,
+) -> Result<(), FileFault> {
+    let is_file = match fs::metadata(rt, path.as_str()) {
+        Ok(metadata) if metadata.is_dir() => {
+            if level >= MAX_LEVELS {
+                return Err(FileFault::Failed);
+            }
+            folders.push(Folder {
+                path,
+                level: level + 1,
+            })?;
+            return Ok(());
+        }
+        Ok(metadata) => metadata.is_file(),
+        Err(error) if error.kind() == ErrorKind::NotFound => true,
+        Err(error) => return Err(FileFault::from(error)),
+    };
+    if is_file {
+        if names.len() >= MAX_FILES {
+            return Err(FileFault::Failed);
+        }
+        names.push(path)?;
+    }
+    Ok(())
+}

@@ -1,0 +1,30 @@
+// The failing calls of a fake.
+ghost use Rattle.std.specs.Prelude.{◌≡◌, ◌↔◌, IsTrue, Contains};
+ghost use Rattle.site_edge.specs.Fakes.{fresh, counted};
+
+use site_base::Row;
+
+/// Counts the calls of a fake, and knows which of them are to fail.
+#[derive(Debug, Drop)]
+pub struct Failures {
+    calls: u64,
+    listed: Row<u64>,
+}
+
+impl Failures {
+    /// No call was made yet.
+    pub fn new(listed: Row<u64>) -> Failures
+        ensures { result ≡ fresh listed }
+    {
+        Failures { calls: 0, listed }
+    }
+
+    /// Counts a call, and tells whether it is to fail.
+    pub fn next_fails(&mut self) -> bool
+        ensures counted { self.new ≡ counted self.old }
+        ensures listed { IsTrue result ↔ Contains self.new.listed self.new.calls }
+    {
+        self.calls = self.calls.saturating_add(1);
+        self.listed.as_slice().contains(&self.calls)
+    }
+}

@@ -1,0 +1,66 @@
+// A sink in memory.
+ghost use Rattle.std.specs.Prelude.{◌≡◌, ◌≤◌, [], IsErrOf, Some, OnOk, OnErr};
+ghost use Rattle.site_edge.specs.Fakes.{fresh, sink_failures, FailsAsListed};
+ghost use Rattle.site_edge.specs.Lists.{Adds, AddsPart};
+ghost use Rattle.site_edge.specs.Told.{Rose};
+
+use crate::mem_failures::Failures;
+use crate::{Sink, SinkFault};
+use site_base::Row;
+use std::alloc::Global;
+
+/// A sink in memory, of which all is told. The n-th call fails exactly where n is listed, counted
+/// from 1; it then writes the first half of its bytes.
+#[derive(Debug, Drop)]
+pub struct MemSink {
+    bytes: Vec<u8>,
+    failures: Failures,
+    faults: u64,
+}
+
+impl MemSink {
+    pub fn new(alloc: Global, failing: Row<u64>) -> MemSink
+        ensures told { ⟦<MemSink as Sink>⟧.written result ≡ Some [] }
+        ensures failing { sink_failures result ≡ fresh failing }
+        ensures faults { ⟦<MemSink as Sink>⟧.faults result ≡ 0 }
+    {
+        MemSink {
+            bytes: Vec::new(alloc),
+            failures: Failures::new(failing),
+            faults: 0,
+        }
+    }
+
+    /// All bytes that were written.
+    pub fn written(&self) -> &[u8]
+        ensures { ⟦<MemSink as Sink>⟧.written self.now ≡ Some result.now }
+    {
+        self.bytes.as_slice()
+    }
+}
+
+impl Sink for MemSink {
+    ghost written = { λ s. Some s.bytes.items };
+
+    ghost faults = { λ s. s.faults };
+
+    fn put(&mut self, bytes: &[u8]) -> Result<(), SinkFault>
+        ensures ok { OnOk result (Adds bytes.now (Some self.old.bytes.items) (Some self.new.bytes.items)) }
+        ensures err { OnErr result
+            (AddsPart bytes.now (Some self.old.bytes.items) (Some self.new.bytes.items)) }
+        ensures failing { FailsAsListed (sink_failures self.old) (sink_failures self.new)
+            (IsErrOf result SinkFault.Failed) }
+        ensures cause { IsErrOf result SinkFault.Failed → Rose self.old.faults self.new.faults }
+        ensures counts { self.old.faults ≤ self.new.faults }
+    {
+        if self.failures.next_fails() {
+            self.faults = self.faults.saturating_add(1);
+            let _ = self.bytes.extend_from_slice(&bytes[..bytes.len() / 2]);
+            return Err(SinkFault::Failed);
+        }
+        match self.bytes.extend_from_slice(bytes) {
+            Ok(()) => Ok(()),
+            Err(_) => Err(SinkFault::OutOfMemory),
+        }
+    }
+}

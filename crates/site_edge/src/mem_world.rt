@@ -1,0 +1,86 @@
+// A world in memory.
+ghost use Rattle.std.specs.Prelude.{◌≡◌, ◌≤◌, ◌++◌, [], IfOk, IsErrOf, Some, OnOk, OnErr};
+ghost use Rattle.site_edge.specs.Fakes.{fresh, world_failures, FailsAsListed};
+ghost use Rattle.site_edge.specs.Lists.{IsFirst};
+ghost use Rattle.site_edge.specs.Told.{Rose};
+
+use crate::mem_failures::Failures;
+use crate::{Order, Turn, World, WorldError};
+use site_base::Row;
+use std::alloc::Global;
+use std::collections::VecDeque;
+
+/// A world in memory, of which all is told. The n-th call fails exactly where n is listed, counted
+/// from 1, `next` and `start` together; a failing `start` starts none of its orders.
+#[derive(Debug, Drop)]
+pub struct MemWorld {
+    turns: VecDeque<Turn>,
+    started: Vec<Order>,
+    failures: Failures,
+    faults: u64,
+}
+
+impl MemWorld {
+    /// A world that gives these turns.
+    pub fn new(alloc: Global, turns: Row<Turn>, failing: Row<u64>) -> MemWorld
+        ensures turns { ⟦<MemWorld as World>⟧.turns result ≡ Some turns }
+        ensures started { ⟦<MemWorld as World>⟧.started result ≡ Some [] }
+        ensures failing { world_failures result ≡ fresh failing }
+        ensures faults { ⟦<MemWorld as World>⟧.faults result ≡ 0 }
+    {
+        MemWorld {
+            turns: VecDeque::from(turns.into_vec()),
+            started: Vec::new(alloc),
+            failures: Failures::new(failing),
+            faults: 0,
+        }
+    }
+
+    /// All orders that were started.
+    pub fn started(&self) -> &[Order]
+        ensures { ⟦<MemWorld as World>⟧.started self.now ≡ Some result.now }
+    {
+        self.started.as_slice()
+    }
+}
+
+impl World for MemWorld {
+    ghost turns = { λ w. Some w.turns.items };
+
+    ghost started = { λ w. Some w.started.items };
+
+    ghost faults = { λ w. w.faults };
+
+    fn next(&mut self) -> Result<Option<Turn>, WorldError>
+        ensures ok { IfOk result (IsFirst self.old.turns.items (Some self.new.turns.items)) }
+        ensures err { OnErr result (self.new.turns.items ≡ self.old.turns.items) }
+        ensures same { self.new.started.items ≡ self.old.started.items }
+        ensures failing { FailsAsListed (world_failures self.old) (world_failures self.new)
+            (IsErrOf result WorldError.Failed) }
+        ensures cause { IsErrOf result WorldError.Failed → Rose self.old.faults self.new.faults }
+        ensures counts { self.old.faults ≤ self.new.faults }
+    {
+        if self.failures.next_fails() {
+            self.faults = self.faults.saturating_add(1);
+            return Err(WorldError::Failed);
+        }
+        Ok(self.turns.pop_front())
+    }
+
+    fn start(&mut self, orders: &[Order]) -> Result<(), WorldError>
+        ensures ok { OnOk result (self.new.started.items ≡ self.old.started.items ++ orders.now) }
+        ensures err { OnErr result (self.new.started.items ≡ self.old.started.items) }
+        ensures same { self.new.turns.items ≡ self.old.turns.items }
+        ensures failing { FailsAsListed (world_failures self.old) (world_failures self.new)
+            (IsErrOf result WorldError.Failed) }
+        ensures cause { IsErrOf result WorldError.Failed → Rose self.old.faults self.new.faults }
+        ensures counts { self.old.faults ≤ self.new.faults }
+    {
+        if self.failures.next_fails() {
+            self.faults = self.faults.saturating_add(1);
+            return Err(WorldError::Failed);
+        }
+        self.started.extend_with_clones(orders)?;
+        Ok(())
+    }
+}

@@ -1,0 +1,24 @@
+// Where the program writes.
+ghost use Rattle.std.specs.Prelude.{◌≡◌, ◌≤◌, List, ℕ, Option, OnOk, OnErr, IsErrOf};
+ghost use Rattle.site_edge.specs.Lists.{Adds, AddsPart};
+ghost use Rattle.site_edge.specs.Told.{Rose};
+
+use crate::SinkFault;
+
+/// A place that bytes are written to.
+pub trait Sink {
+    /// The bytes written, where they are told.
+    ghost written: { Self → Option (List ℕ) };
+
+    /// How often a call has failed.
+    ghost faults: { Self → ℕ };
+
+    /// Writes all of the bytes, or after an error some prefix of them.
+    ///
+    /// `Failed` comes only where the count of faults rose in this call.
+    fn put(&mut self, bytes: &[u8]) -> Result<(), SinkFault>
+        ensures ok { OnOk result (Adds bytes.now (written self.old) (written self.new)) }
+        ensures err { OnErr result (AddsPart bytes.now (written self.old) (written self.new)) }
+        ensures cause { IsErrOf result SinkFault.Failed → Rose (faults self.old) (faults self.new) }
+        ensures counts { faults self.old ≤ faults self.new };
+}

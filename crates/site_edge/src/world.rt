@@ -1,0 +1,41 @@
+// The world as the program sees it.
+ghost use Rattle.std.specs.Prelude.{◌≡◌, ◌≤◌, List, ℕ, Option, IfOk, OnOk, OnErr, IsErrOf};
+ghost use Rattle.site_edge.specs.Lists.{Adds, AddsPart, TakesFirst};
+ghost use Rattle.site_edge.specs.Told.{Rose};
+ghost use Rattle.site_edge.specs.declared.order.Order.{Order};
+ghost use Rattle.site_edge.specs.declared.turn.Turn.{Turn};
+
+use crate::{Order, Turn, WorldError};
+
+/// What gives turns and runs check programs.
+pub trait World {
+    /// The turns that are left, where they are told.
+    ghost turns: { Self → Option (List Turn) };
+
+    /// The orders that were started, where they are told.
+    ghost started: { Self → Option (List Order) };
+
+    /// How often a call has failed.
+    ghost faults: { Self → ℕ };
+
+    /// The next turn, which is taken off the turns left; `None` where there is none.
+    ///
+    /// After an error the turns left are as before. `Failed` comes only where the count of faults
+    /// rose in this call.
+    fn next(&mut self) -> Result<Option<Turn>, WorldError>
+        ensures ok { IfOk result (TakesFirst (turns self.old) (turns self.new)) }
+        ensures err { OnErr result (turns self.new ≡ turns self.old) }
+        ensures same { started self.new ≡ started self.old }
+        ensures cause { IsErrOf result WorldError.Failed → Rose (faults self.old) (faults self.new) }
+        ensures counts { faults self.old ≤ faults self.new };
+
+    /// Starts all of the orders, or after an error some prefix of them.
+    ///
+    /// `Failed` comes only where the count of faults rose in this call.
+    fn start(&mut self, orders: &[Order]) -> Result<(), WorldError>
+        ensures ok { OnOk result (Adds orders.now (started self.old) (started self.new)) }
+        ensures err { OnErr result (AddsPart orders.now (started self.old) (started self.new)) }
+        ensures same { turns self.new ≡ turns self.old }
+        ensures cause { IsErrOf result WorldError.Failed → Rose (faults self.old) (faults self.new) }
+        ensures counts { faults self.old ≤ faults self.new };
+}
