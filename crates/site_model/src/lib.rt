@@ -1,0 +1,6 @@
+//! The typed site that a configuration gives.
+#![tactic(auto)]
+
+mod object;
+
+pub use object::Object;
