@@ -1,0 +1,24 @@
+use Rattle.std.proofs.Common.{List, ℕ, [], Some, None, Option, append-nil, refl, sym, ap}
+use Rattle.std.specs.List.{concat}
+use Rattle.site_edge.specs.Lists.{AddsPart}
+use Rattle.icinga_site.specs.Answers.{reply_to}
+use Rattle.icinga_site.proofs.AnswerLaws.{answers_content, some_answer}
+use Rattle.icinga_site.proofs.run_one.list_objects.Goals as goal
+
+-- nothing was added
+adds_none : (more : List ℕ) (old : Option (List ℕ)) → AddsPart more old old
+adds_none more None = refl
+adds_none more (Some all) = ([], more, refl, ap Some (sym (append-nil all)))
+
+pub returns-in-Ok-clause-written : goal.returns-in-Ok-clause-written
+returns-in-Ok-clause-written g c =
+    (reply_to c.args.root.now c.in-Ok.content, (c.in-Ok.content, c.in-Ok.ensures.bytes, answers_content c.args.root.now c.in-Ok.content), c.write_answer.ensures.written)
+
+pub returns-in-Err-Failed-clause-written : goal.returns-in-Err-Failed-clause-written
+returns-in-Err-Failed-clause-written g c =
+    let some = some_answer c.args.root.now (g.F.Files.told c.args.files.now) in (some.0, some.1, refl)
+
+pub returns-in-Err-OutOfMemory-clause-written : goal.returns-in-Err-OutOfMemory-clause-written
+returns-in-Err-OutOfMemory-clause-written g c =
+    let some = some_answer c.args.root.now (g.F.Files.told c.args.files.now) in
+    (some.0, some.1, adds_none (concat some.0.lines) (g.S.Sink.written c.args.out.now))
