@@ -96,12 +96,20 @@ fn a_sink_in_memory_keeps_what_was_put(rt: HostRuntime) -> Result<(), Fail> {
     Ok(())
 }
 
-/// A folder of its own for a test, with files, folders and links in it.
-fn make_folder(rt: &HostRuntime, top: &str) -> io::Result<()> {
-    let _ = fs::remove_dir_all(rt, top);
-    for folder in ["", "/b", "/b/d"] {
-        fs::create_dir_all(rt, format!(in rt.alloc(); "{top}{folder}")?)?;
+/// A new folder with files, folders and links in it.
+fn make_folder(rt: &HostRuntime) -> Result<String, Fail> {
+    for i in 0..1000 {
+        let top = format!(in rt.alloc(); "/tmp/site_edge_{i}")?;
+        if fs::create_dir(rt, &top).is_ok() {
+            fill_folder(rt, &top)?;
+            return Ok(top);
+        }
     }
+    Err(Fail::from("no folder could be made"))
+}
+
+fn fill_folder(rt: &HostRuntime, top: &str) -> io::Result<()> {
+    fs::create_dir_all(rt, format!(in rt.alloc(); "{top}/b/d")?)?;
     for file in ["a.conf", "b/c", "b/d/e.conf", "b.conf", "\"\n", ".f"] {
         fs::write(rt, format!(in rt.alloc(); "{top}/{file}")?, file)?;
     }
@@ -121,8 +129,8 @@ fn expect_names(rt: &impl Abort, names: &Texts, top: &str, expected: &[&str]) {
 
 #[test]
 fn real_files_are_read_and_listed(rt: HostRuntime) -> Result<(), Fail> {
-    let top = "/tmp/site_edge_real_files";
-    make_folder(&rt, top)?;
+    let alloc = rt.alloc();
+    let top = make_folder(&rt)?;
     let mut files = DiskFiles::new(&rt);
     let expected = [
         "/\"\n",
@@ -136,39 +144,27 @@ fn real_files_are_read_and_listed(rt: HostRuntime) -> Result<(), Fail> {
         "/m/d/e.conf",
         "/n",
     ];
-    expect_names(&rt, &files.names(top)?, top, &expected);
-    expect_names(
-        &rt,
-        &files.names("/tmp/site_edge_real_files/b/")?,
-        top,
-        &["/b/c", "/b/d/e.conf"],
-    );
-    expect_names(
-        &rt,
-        &files.names("/tmp/site_edge_real_files/none")?,
-        top,
-        &[],
-    );
-    assert_eq!(rt;
-        files.names("/tmp/site_edge_real_files/b.conf"),
-        Err(FileFault::Failed)
-    );
+    expect_names(&rt, &files.names(&top)?, &top, &expected);
+    let folder = format!(in alloc; "{top}/b/")?;
+    expect_names(&rt, &files.names(&folder)?, &top, &["/b/c", "/b/d/e.conf"]);
+    let folder = format!(in alloc; "{top}/none")?;
+    expect_names(&rt, &files.names(&folder)?, &top, &[]);
+    let file = format!(in alloc; "{top}/b.conf")?;
+    assert_eq!(rt; files.names(&file), Err(FileFault::Failed));
 
-    let alloc = rt.alloc();
+    let file = format!(in alloc; "{top}/m/c")?;
     let content = Blob::copy_of(alloc, b"b/c")?;
-    assert_eq!(rt;
-        files.read("/tmp/site_edge_real_files/m/c"),
-        Ok(Some(content))
-    );
+    assert_eq!(rt; files.read(&file), Ok(Some(content)));
     for missing in ["n", "none", "a.conf/b", "a\0b"] {
         let name = format!(in alloc; "{top}/{missing}")?;
         assert_eq!(rt; files.read(&name), Ok(None));
     }
-    assert_eq!(rt; files.read(top), Err(FileFault::Failed));
+    assert_eq!(rt; files.read(&top), Err(FileFault::Failed));
 
-    symlink(&rt, ".", "/tmp/site_edge_real_files/b/d/loop")?;
-    assert_eq!(rt; files.names(top), Err(FileFault::Failed));
-    fs::remove_dir_all(&rt, top)?;
+    let link = format!(in alloc; "{top}/b/d/loop")?;
+    symlink(&rt, ".", link.as_str())?;
+    assert_eq!(rt; files.names(&top), Err(FileFault::Failed));
+    fs::remove_dir_all(&rt, &top)?;
     Ok(())
 }
 
