@@ -38,7 +38,9 @@ struct Folder {
 }
 
 impl<R: std::rt::Files + AllocGlobal + Clone + Drop> DiskFiles<R> {
-    pub fn new(rt: R) -> DiskFiles<R> {
+    pub fn new(rt: R) -> DiskFiles<R>
+        ensures { ⟦<DiskFiles<R> as Files>⟧.faults result ≡ 0 }
+    {
         DiskFiles { rt, faults: 0 }
     }
 
