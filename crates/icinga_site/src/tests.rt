@@ -158,3 +158,21 @@ fn faults_end_the_run(rt: HostRuntime) -> Result<(), Fail> {
     assert_eq!(rt; status, Some(Status::Done));
     Ok(())
 }
+
+#[test]
+fn statuses_have_numbers_and_names(rt: HostRuntime) -> Result<(), Fail> {
+    for (status, number, name) in [
+        (Status::Done, 0, "Done"),
+        (Status::Diagnosed, 1, "Diagnosed"),
+        (Status::Usage, 2, "Usage"),
+        (Status::ReadFault, 3, "ReadFault"),
+        (Status::WriteFault, 4, "WriteFault"),
+        (Status::WorldFault, 5, "WorldFault"),
+        (Status::OutOfMemory, 6, "OutOfMemory"),
+    ] {
+        assert_eq!(rt; status.number(), number);
+        let text = format!(in rt.alloc(); "{status}")?;
+        assert_eq!(rt; text.as_str(), name);
+    }
+    Ok(())
+}
