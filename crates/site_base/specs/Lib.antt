@@ -1,4 +1,6 @@
 pub mod Data
 pub mod Numbers
 pub mod Quoted
+pub mod Syntax
+pub mod SyntaxView
 pub mod View
