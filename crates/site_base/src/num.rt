@@ -1,6 +1,6 @@
 // Numbers of the configuration language.
-ghost use Rattle.std.specs.Prelude.{◌≡◌, ◌++◌, ◌+◌, ◌<◌, ◌%◌, ◌/◌, OnOk};
-ghost use Rattle.site_base.specs.Numbers.{number_text, amount_text, fraction_text};
+ghost use Rattle.std.specs.Prelude.{◌≡◌, ◌++◌, ◌+◌, ◌<◌, ◌%◌, ◌/◌, OnOk, IfSome, Some, ◌*ℤ◌};
+ghost use Rattle.site_base.specs.Numbers.{number_text, amount_text, fraction_text, ranged, sum_of, difference_of, product_of, quotient_of, rest_of, seconds_of};
 
 use crate::{OutOfMemory, Text};
 use std::marker::Model;
@@ -35,6 +35,63 @@ impl Num {
         self.thousandths
     }
 
+    /// The sum; `None` where it is out of range.
+    pub fn plus(&self, other: &Num) -> Option<Num>
+        ensures value { result ≡ sum_of self.now other.now }
+        ensures undone { IfSome result (λ sum. difference_of sum other.now ≡ Some self.now) }
+    {
+        let thousandths = self.thousandths.checked_add(other.thousandths)?;
+        Some(Num { thousandths })
+    }
+
+    /// The difference; `None` where it is out of range.
+    pub fn minus(&self, other: &Num) -> Option<Num>
+        ensures value { result ≡ difference_of self.now other.now }
+        ensures undone { IfSome result (λ difference. sum_of difference other.now ≡ Some self.now) }
+    {
+        let thousandths = self.thousandths.checked_sub(other.thousandths)?;
+        Some(Num { thousandths })
+    }
+
+    /// The product, cut toward zero to a whole number of thousandths; `None` where it is out of range.
+    pub fn times(&self, other: &Num) -> Option<Num>
+        ensures { result ≡ product_of self.now other.now }
+    {
+        narrowed(wide_product(self.thousandths, other.thousandths) / 1000)
+    }
+
+    /// The quotient, cut toward zero to a whole number of thousandths; `None` where it is out of
+    /// range, and where the divisor is 0.
+    pub fn over(&self, divisor: &Num) -> Option<Num>
+        ensures { result ≡ quotient_of self.now divisor.now }
+    {
+        if divisor.thousandths == 0 {
+            return None;
+        }
+        narrowed(i128::from(self.thousandths) * 1000 / i128::from(divisor.thousandths))
+    }
+
+    /// What is left when the divisor is taken away as often as the quotient says, cut toward zero to a
+    /// whole number: it has this number's sign. `None` where the divisor is 0.
+    pub fn rest(&self, divisor: &Num) -> Option<Num>
+        ensures { result ≡ rest_of self.now divisor.now }
+    {
+        if divisor.thousandths == 0 {
+            return None;
+        }
+        Some(Num {
+            thousandths: self.thousandths.wrapping_rem(divisor.thousandths),
+        })
+    }
+
+    /// Whole seconds, rounded up, of a number of seconds; `None` where it is negative.
+    pub fn seconds(&self) -> Option<u64>
+        ensures { result ≡ seconds_of self.now }
+    {
+        let thousandths = u64::try_from(self.thousandths).ok()?;
+        Some(thousandths.div_ceil(1000))
+    }
+
     /// Adds the number's text, the shortest decimal, at the end of a text: `1.5`, `300`, `-0.001`.
     pub fn push_to(&self, out: &mut Text) -> Result<(), OutOfMemory>
         ensures { OnOk result (out.new ≡ out.old ++ number_text self.now) }
@@ -44,6 +101,20 @@ impl Num {
         }
         push_amount(out, self.thousandths.unsigned_abs())
     }
+}
+
+fn wide_product(left: i64, right: i64) -> i128
+    ensures { result ≡ left *ℤ right }
+{
+    i128::from(left) * i128::from(right)
+}
+
+/// The number of so many thousandths, if it is in range.
+fn narrowed(thousandths: i128) -> Option<Num>
+    ensures { result ≡ ranged thousandths }
+{
+    let thousandths = i64::try_from(thousandths).ok()?;
+    Some(Num { thousandths })
 }
 
 /// Adds so many thousandths.
