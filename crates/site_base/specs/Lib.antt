@@ -1,6 +1,7 @@
 pub mod Data
 pub mod Numbers
 pub mod Quoted
+pub mod Reading
 pub mod Syntax
 pub mod SyntaxView
 pub mod View

@@ -15,6 +15,7 @@ mod num;
 mod period_spec;
 mod place;
 mod quoting;
+mod reading;
 mod row;
 mod syntax;
 mod target_no;

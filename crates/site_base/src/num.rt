@@ -1,7 +1,9 @@
 // Numbers of the configuration language.
-ghost use Rattle.std.specs.Prelude.{◌≡◌, ◌++◌, ◌+◌, ◌<◌, ◌%◌, ◌/◌, OnOk, IfSome, Some, ◌*ℤ◌};
+ghost use Rattle.std.specs.Prelude.{◌≡◌, ◌++◌, ◌+◌, ◌<◌, ◌%◌, ◌/◌, OnOk, IfSome, Some, ◌*ℤ◌, ℕ, ◌^◌, pos};
+ghost use Rattle.site_base.specs.Reading.{number_read, Spells};
 ghost use Rattle.site_base.specs.Numbers.{number_text, amount_text, fraction_text, ranged, sum_of, difference_of, product_of, quotient_of, rest_of, seconds_of};
 
+use crate::reading::read_number;
 use crate::{OutOfMemory, Text};
 use std::marker::Model;
 
@@ -33,6 +35,18 @@ impl Num {
         ensures { result ≡ self.now }
     {
         self.thousandths
+    }
+
+    /// The number that a text stands for: digits, then maybe `.` and digits, then maybe a unit. The units
+    /// are `ms`, `s`, `m`, `h` and `d`, for thousandths, ones, minutes, hours and days in seconds. There
+    /// may be any number of digits. `None` where the text has another form, where what it stands for
+    /// is no whole number of thousandths, and where it is out of range.
+    pub fn read(text: &str) -> Option<Num>
+        ensures value { result ≡ number_read text.now }
+        ensures spelled { IfSome result (Spells text.now) }
+        ensures only { (n : ℕ) → n < 2 ^ 63 → Spells text.now (pos n) → result ≡ Some (pos n) }
+    {
+        read_number(text.as_bytes())
     }
 
     /// The sum; `None` where it is out of range.
