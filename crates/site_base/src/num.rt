@@ -1,5 +1,5 @@
 // Numbers of the configuration language.
-ghost use Rattle.std.specs.Prelude.{◌≡◌, ◌++◌, ◌+◌, ◌<◌, ◌%◌, ◌/◌, OnOk, IfSome, Some, ◌*ℤ◌, ℕ, ◌^◌, pos};
+ghost use Rattle.std.specs.Prelude.{◌≡◌, ◌++◌, ◌+◌, ◌<◌, ◌%◌, ◌/◌, OnOk, IfSome, Some, ◌*ℤ◌, ℕ, ◌^◌, pos, ◌≤ℤ◌};
 ghost use Rattle.site_base.specs.Reading.{number_read, Spells};
 ghost use Rattle.site_base.specs.Numbers.{number_text, amount_text, fraction_text, ranged, sum_of, difference_of, product_of, quotient_of, rest_of, seconds_of};
 
@@ -106,9 +106,12 @@ impl Num {
         Some(thousandths.div_ceil(1000))
     }
 
-    /// Adds the number's text, the shortest decimal, at the end of a text: `1.5`, `300`, `-0.001`.
+    /// Adds the number's text, the shortest decimal, at the end of a text: `1.5`, `300`, `-0.001`. What is
+    /// added of a number that isn't negative is read back as that number.
+    #[tactic(auto, using(crate::proofs::Printed::read_back))]
     pub fn push_to(&self, out: &mut Text) -> Result<(), OutOfMemory>
-        ensures { OnOk result (out.new ≡ out.old ++ number_text self.now) }
+        ensures ok { OnOk result (out.new ≡ out.old ++ number_text self.now) }
+        ensures read_back { pos 0 ≤ℤ self.now → number_read (number_text self.now) ≡ Some self.now }
     {
         if self.thousandths < 0 {
             out.push('-')?;
