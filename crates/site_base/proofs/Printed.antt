@@ -1,13 +1,13 @@
 -- What is printed of a number is read back.
-use Rattle.std.proofs.Common.{◌≡◌, ℕ, ◌+◌, ◌-◌, ◌*◌, ◌/◌, ◌%◌, ◌^◌, ◌<◌, ◌≤◌, ◌==◌, Bool, true, false, List, [], ◌∷◌, ◌++◌, append-nil, length, arith, ap, sym, ◌∙◌, refl, subst, Some, ℤ, pos, negsuc, ◌≤ℤ◌, FitsSigned, w64, if◌then◌else◌}
+use Rattle.std.proofs.Common.{◌≡◌, ℕ, ◌+◌, ◌*◌, ◌/◌, ◌%◌, ◌^◌, ◌<◌, ◌≤◌, ◌==◌, Bool, true, false, List, [], ◌∷◌, ◌++◌, append-nil, length, arith, ap, sym, ◌∙◌, refl, Some, ℤ, pos, negsuc, ◌≤ℤ◌, FitsSigned, w64, if◌then◌else◌}
 use Rattle.std.proofs.lemmas.Bool.Decides.{nat_tests}
 use Rattle.std.proofs.lemmas.Fmt.{decimal_is_IsNumeral}
 use Rattle.std.proofs.lemmas.Int.{ints}
 use Rattle.std.specs.Char.{digit_value}
 use Rattle.std.specs.Fmt.{decimal}
 use Rattle.std.specs.Str.Parse.{AllDigits, digits_value}
-use Rattle.site_base.specs.Numbers.{fraction_text, amount_text, number_text}
-use Rattle.site_base.specs.Reading.{pointed, number_read, Spells, IsWritten}
+use Rattle.site_base.specs.Numbers.{amount_text, number_text}
+use Rattle.site_base.specs.Reading.{pointed, number_read, Spells}
 use Rattle.site_base.proofs.Digits.{value_append}
 use Rattle.site_base.proofs.Spelled.{spells_read}
 
@@ -52,11 +52,15 @@ amount_spells n small =
     let c = fraction_case (n % 1000) (omega arith) (n % 1000 == 0) refl (n % 1000 % 100 == 0) refl (n % 1000 % 10 == 0) refl in
     let d = decimal_is_IsNumeral (n / 1000) (omega arith) in
     let value : digits_value 10 (decimal (n / 1000) ++ c.0) ≡ n / 1000 * 10 ^ length c.0 + digits_value 10 c.0 =
-        value_append (decimal (n / 1000)) c.0 ∙ ap (λ q. q * 10 ^ length c.0 + digits_value 10 c.0) d.1 in
-    ( decimal (n / 1000), c.0, [], 1000,
+    value_append (decimal (n / 1000)) c.0 ∙ ap (λ q. q * 10 ^ length c.0 + digits_value 10 c.0) d.1 in (
+      decimal (n / 1000),
+      c.0,
+      [],
+      1000,
       record { spelled = ap (λ t. decimal (n / 1000) ++ t) (c.1 ∙ sym (append-nil (pointed c.0))); digits = d.0; more_digits = c.2 },
       refl,
-      amount_step n (n % 1000) (n / 1000) (digits_value 10 c.0) (10 ^ length c.0) refl refl c.3 ∙ ap (λ v. v * 1000) (sym value) )
+      amount_step n (n % 1000) (n / 1000) (digits_value 10 c.0) (10 ^ length c.0) refl refl c.3 ∙ ap (λ v. v * 1000) (sym value),
+    )
 
 pub read_back : (z : ℤ) → FitsSigned w64 z → pos 0 ≤ℤ z → number_read (number_text z) ≡ Some z
 read_back (pos n) fits h = spells_read (amount_text n) n (omega (arith, ints)) (amount_spells n (omega (arith, ints)))

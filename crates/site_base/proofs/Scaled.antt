@@ -1,11 +1,11 @@
 -- The digits before and behind the point, times the unit.
-use Rattle.std.proofs.Common.{◌≡◌, ◌≢◌, ℕ, suc, ◌+◌, ◌-◌, ◌*◌, ◌/◌, ◌%◌, ◌^◌, ◌<◌, ◌≤◌, ◌==◌, Bool, true, false, List, ◌++◌, length, arith, ap, sym, ◌∙◌, refl, subst, Option, Some, None, pos, ℤ, nat_lt, if◌then◌else◌}
-use Rattle.std.proofs.Math.Nat.{mul-mod_left, mul-div_cancel, le_of_mul-le-mul_left, mul-le-mul_left, mul-le-mul_right}
+use Rattle.std.proofs.Common.{◌≡◌, ◌≢◌, ℕ, ◌+◌, ◌-◌, ◌*◌, ◌/◌, ◌%◌, ◌^◌, ◌<◌, ◌≤◌, ◌==◌, Bool, true, false, List, ◌++◌, length, arith, ap, sym, ◌∙◌, refl, Option, Some, None, pos, ℤ, nat_lt, if◌then◌else◌}
+use Rattle.std.proofs.Math.Nat.{mul-mod_left, mul-div_cancel, le_of_mul-le-mul_left}
 use Rattle.std.proofs.lemmas.Bool.Decides.{nat_tests}
 use Rattle.std.specs.Str.Parse.{digits_value}
 use Rattle.site_base.specs.Numbers.{ranged}
 use Rattle.site_base.specs.Reading.{scaled}
-use Rattle.site_base.proofs.Digits.{ten_power, value_append, cancel}
+use Rattle.site_base.proofs.Digits.{ten_power, value_append}
 
 -- what `scaled` gives of a product and a power of ten
 cut : ℕ → ℕ → Option ℤ

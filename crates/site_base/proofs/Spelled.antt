@@ -1,16 +1,14 @@
 -- What is read of a text is what the text spells.
-use Rattle.std.proofs.Common.{◌≡◌, ◌≢◌, ℕ, suc, ◌+◌, ◌-◌, ◌*◌, ◌^◌, ◌<◌, ◌≤◌, ◌==◌, ◌&&◌, ◌||◌, Bool, true, false, cond, List, [], ◌∷◌, ◌++◌, length, take, drop, codes, arith, ap, sym, ◌∙◌, refl, subst, Option, Some, None, IfSome, inl, inr, ℤ, pos, negsuc, if◌then◌else◌}
+use Rattle.std.proofs.Common.{◌≡◌, ◌≢◌, ℕ, ◌+◌, ◌^◌, ◌<◌, ◌≤◌, ◌==◌, Bool, true, false, cond, List, [], ◌∷◌, ◌++◌, length, take, drop, arith, ap, sym, ◌∙◌, refl, subst, Option, Some, None, IfSome, inl, inr, ℤ, pos, if◌then◌else◌}
 use Rattle.std.proofs.Math.Seq.{take-append_seam, drop-append_seam}
 use Rattle.std.proofs.lemmas.Bool.{cases_lt}
 use Rattle.std.proofs.lemmas.Bool.Decides.{nat_tests}
 use Rattle.std.proofs.lemmas.List.{take-append-drop}
-use Rattle.std.specs.Char.{is_ascii_digit, digit_value}
+use Rattle.std.specs.Char.{is_ascii_digit}
 use Rattle.std.specs.List.{take_while, prefix_len}
 use Rattle.std.specs.Str.{bytes_eq}
-use Rattle.std.specs.Str.Parse.{AllDigits, IsNumeral, digits_value}
-use Rattle.site_base.specs.Numbers.{ranged}
+use Rattle.std.specs.Str.Parse.{AllDigits, IsNumeral}
 use Rattle.site_base.specs.Reading.{unit_size, pointed, digits_behind, scaled, number_read, IsWritten, Spells}
-use Rattle.site_base.proofs.Digits.{ten_power}
 use Rattle.site_base.proofs.Scaled.{scaled_number, ranged_small, scaled_some, none_some}
 use Rattle.site_base.proofs.Front.{below_digit, front_digits, behind_digits, read_empty, read_some, read_none}
 

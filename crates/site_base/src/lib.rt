@@ -19,6 +19,8 @@ mod reading;
 mod row;
 mod syntax;
 mod target_no;
+#[cfg(test)]
+mod tests;
 mod text;
 mod tree;
 

@@ -1,4 +1,4 @@
-use Rattle.std.proofs.Common.{◌≡◌, ◌+◌, ◌∙◌, ap, take, take_all, arith}
+use Rattle.std.proofs.Common.{◌≡◌, ◌+◌, ◌∙◌, ap, take_all, arith}
 use Rattle.std.specs.Str.Parse.{digits_value}
 use Rattle.site_base.proofs.Digits.{digit_in_range, value_more, value_most}
 use Rattle.site_base.proofs.reading.digits_number.Goals as goal

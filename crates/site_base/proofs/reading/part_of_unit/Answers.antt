@@ -1,4 +1,3 @@
-use Rattle.std.proofs.Common.{rules, ◌≡◌, ℕ}
 use Rattle.site_base.proofs.Digits.{last_in_range, part_none, part_more}
 use Rattle.site_base.proofs.reading.part_of_unit.Goals as goal
 

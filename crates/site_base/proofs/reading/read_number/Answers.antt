@@ -1,4 +1,4 @@
-use Rattle.std.proofs.Common.{◌≡◌, ◌==◌, length, subst, sym, ◌∙◌, false, true}
+use Rattle.std.proofs.Common.{subst, sym, ◌∙◌}
 use Rattle.std.specs.Str.Parse.{AllDigits}
 use Rattle.site_base.proofs.Front.{front_digits, behind_digits, read_empty, read_none, read_some}
 use Rattle.site_base.proofs.reading.read_number.Goals as goal
