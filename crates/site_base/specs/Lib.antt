@@ -1,5 +1,6 @@
 pub mod Data
 pub mod Numbers
+pub mod Order
 pub mod Quoted
 pub mod Reading
 pub mod Syntax

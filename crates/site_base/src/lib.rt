@@ -26,7 +26,7 @@ mod tree;
 
 pub use day::Day;
 pub use day_span::{DaySpan, Ranges};
-pub use diag::Diag;
+pub use diag::{Diag, Diags};
 pub use diag_kind::DiagKind;
 pub use item_no::ItemNo;
 pub use memory::OutOfMemory;

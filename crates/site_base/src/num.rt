@@ -40,7 +40,8 @@ impl Num {
     /// The number that a text stands for: digits, then maybe `.` and digits, then maybe a unit. The units
     /// are `ms`, `s`, `m`, `h` and `d`, for thousandths, ones, minutes, hours and days in seconds. There
     /// may be any number of digits. `None` where the text has another form, where what it stands for
-    /// is no whole number of thousandths, and where it is out of range.
+    /// is no whole number of thousandths, and where it is out of range: the greatest is
+    /// `9223372036854775.807`.
     pub fn read(text: &str) -> Option<Num>
         ensures value { result ≡ number_read text.now }
         ensures spelled { IfSome result (Spells text.now) }
@@ -107,7 +108,8 @@ impl Num {
     }
 
     /// Adds the number's text, the shortest decimal, at the end of a text: `1.5`, `300`, `-0.001`. What is
-    /// added of a number that isn't negative is read back as that number.
+    /// added of a number that isn't negative is read back as that number. After an error the front of the
+    /// text may stand there.
     #[tactic(auto, using(crate::proofs::Printed::read_back))]
     pub fn push_to(&self, out: &mut Text) -> Result<(), OutOfMemory>
         ensures ok { OnOk result (out.new ≡ out.old ++ number_text self.now) }

@@ -8,6 +8,9 @@ ghost use Rattle.site_base.specs.Reading.{unit_size, pointed, digits_behind, sca
 
 use crate::Num;
 
+/// The thousandths of a day, the greatest unit.
+const DAY: u64 = 24 * 60 * 60 * 1000;
+
 /// The number that a text stands for.
 pub(crate) fn read_number(text: &[u8]) -> Option<Num>
     ensures { result ≡ number_read text.now }
@@ -54,14 +57,14 @@ fn split_fraction(text: &[u8]) -> (&[u8], &[u8])
 fn thousandths_in(unit: &[u8]) -> Option<u64>
     ensures value { result ≡ unit_size unit.now }
     ensures least { IfSome result (λ size. 0 < size) }
-    ensures greatest { IfSome result (λ size. size ≤ 86400000) }
+    ensures greatest { IfSome result (λ size. size ≤ DAY) }
 {
     match unit {
         b"" | b"s" => Some(1000),
         b"ms" => Some(1),
         b"m" => Some(60 * 1000),
         b"h" => Some(60 * 60 * 1000),
-        b"d" => Some(24 * 60 * 60 * 1000),
+        b"d" => Some(DAY),
         _ => None,
     }
 }
@@ -71,7 +74,7 @@ fn scaled_digits(whole: &[u8], behind: &[u8], size: u64) -> Option<Num>
     requires whole { AllDigits 10 whole.now }
     requires behind { AllDigits 10 behind.now }
     requires least { 0 < size }
-    requires greatest { size ≤ 86400000 }
+    requires greatest { size ≤ DAY }
     ensures { result ≡ scaled whole.now behind.now size }
 {
     let part = part_of_unit(behind, size)?;
@@ -91,7 +94,7 @@ fn total(units: u64, size: u64, part: u64) -> Option<Num>
 /// The thousandths that the digits behind the point stand for, if they are whole.
 fn part_of_unit(behind: &[u8], size: u64) -> Option<u64>
     requires digits { AllDigits 10 behind.now }
-    requires greatest { size ≤ 86400000 }
+    requires greatest { size ≤ DAY }
     ensures value { MatchOption result ((n : ℕ) → n * 10 ^ length behind.now ≢ digits_value 10 behind.now * size) (λ n. n * 10 ^ length behind.now ≡ digits_value 10 behind.now * size) }
     ensures within { IfSome result (λ n. n ≤ size) }
 {

@@ -57,8 +57,8 @@ fn items_are_ordered(rt: HostRuntime) {
         [2, 0, 0, 0, 4],
     ] {
         let next = item_no(next);
-        assert!(rt; last < next);
-        assert!(rt; last != next);
+        assert!(rt; last < next && last != next);
+        assert!(rt; last.is_before(&next) && !next.is_before(&last) && !next.is_before(&next));
         last = next;
     }
 }
