@@ -1,8 +1,8 @@
 // Diagnostics.
-use crate::{DiagKind, ItemNo, Place, Text};
+use crate::{DiagKind, ItemNo, Place, Row, Text};
 
 /// One fault of a configuration or a script.
-#[derive(Debug, Drop)]
+#[derive(Clone, Debug, Drop, PartialEq, Eq)]
 pub struct Diag {
     /// The number of the item that it belongs to; diagnostics of one phase are listed by it.
     pub number: ItemNo,
@@ -11,3 +11,6 @@ pub struct Diag {
     /// The whole detail as it is printed, quotes included; empty where there is none.
     pub text: Text,
 }
+
+/// A list of diagnostics.
+pub type Diags = Row<Diag>;

@@ -1,5 +1,6 @@
 // The numbers of items.
 use crate::TargetNo;
+use std::cmp::Ordering;
 
 /// The number of an item: by it objects and diagnostics are ordered, field by field.
 #[derive(Clone, Copy, Debug, PartialEq, Eq, PartialOrd, Ord)]
@@ -10,4 +11,16 @@ pub struct ItemNo {
     pub target: TargetNo,
     /// The place among the instances that a `for` gives, from 1; 0 without one.
     pub key: u32,
+}
+
+impl ItemNo {
+    ghost use Rattle.std.specs.Prelude.{◌≡◌, ◌↔◌, IsTrue};
+    ghost use Rattle.site_base.specs.Order.{by_fields};
+
+    /// Whether this number stands before another: in the first field in which they differ it has less.
+    pub fn is_before(&self, other: &ItemNo) -> bool
+        ensures { IsTrue result ↔ (by_fields self.now other.now ≡ Ordering.Less) }
+    {
+        self < other
+    }
 }

@@ -4,28 +4,42 @@
 //! diagnostics, and the trees that objects are made of.
 #![tactic(auto)]
 
+mod day;
+mod day_span;
 mod diag;
 mod diag_kind;
 mod item_no;
 mod memory;
 mod moment;
 mod num;
+mod period_spec;
 mod place;
 mod quoting;
+mod reading;
 mod row;
+mod syntax;
 mod target_no;
+#[cfg(test)]
+mod tests;
 mod text;
 mod tree;
 
-pub use diag::Diag;
+pub use day::Day;
+pub use day_span::{DaySpan, Ranges};
+pub use diag::{Diag, Diags};
 pub use diag_kind::DiagKind;
 pub use item_no::ItemNo;
 pub use memory::OutOfMemory;
 pub use moment::Moment;
 pub use num::Num;
+pub use period_spec::PeriodSpec;
 pub use place::Place;
 pub use quoting::{push_quoted, quote};
 pub use row::{Blob, Row, Texts};
+pub use syntax::{
+    Arm, Base, BinOp, Block, Each, Expr, ExprKind, File, Func, SetOp, Step, Stmt, StmtKind, UnOp,
+    Use,
+};
 pub use target_no::TargetNo;
 pub use text::Text;
 pub use tree::{Tree, copy_tree};

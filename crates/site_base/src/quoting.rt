@@ -6,6 +6,8 @@ ghost use Rattle.site_base.specs.Quoted.{quoted, octal, escaped};
 use crate::{OutOfMemory, Text};
 use std::alloc::Global;
 
+/// A text between quotes, with `\"`, `\\`, `\n`, `\t` and `\r`, and each other byte below 32 and byte 127 as a
+/// backslash and three octal digits.
 pub fn quote(alloc: Global, text: &str) -> Result<Text, OutOfMemory>
     ensures { IfOk result (λ t. t ≡ quoted text.now) }
 {
@@ -14,7 +16,7 @@ pub fn quote(alloc: Global, text: &str) -> Result<Text, OutOfMemory>
     Ok(out)
 }
 
-/// Adds the text between quotes.
+/// Adds a text as [`quote`] gives it. After an error the front of it may stand there.
 pub fn push_quoted(out: &mut Text, text: &str) -> Result<(), OutOfMemory>
     ensures { OnOk result (out.new ≡ out.old ++ quoted text.now) }
 {

@@ -83,7 +83,7 @@ impl Text {
         Ok(())
     }
 
-    /// Adds a whole number in decimal digits at the end.
+    /// Adds a whole number in decimal digits at the end. After an error some of them may stand there.
     pub fn push_decimal(&mut self, number: u64) -> Result<(), OutOfMemory>
         ensures { OnOk result (self.new ≡ self.old ++ decimal number) }
     {

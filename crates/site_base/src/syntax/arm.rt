@@ -1,0 +1,10 @@
+// The arms of an `if`.
+use crate::{Expr, Stmt};
+
+/// One condition of an `if`, and what is run where it is the first that holds.
+#[cycle(syntax)]
+#[derive(Debug, Drop)]
+pub struct Arm {
+    pub cond: Expr,
+    pub block: Vec<Stmt>,
+}

@@ -1,0 +1,9 @@
+// Bodies that are shared.
+use crate::Stmt;
+
+/// The body of an object, a template or an apply rule, which what is made of it shares.
+#[cycle(syntax)]
+#[derive(Debug, Drop)]
+pub struct Block {
+    pub statements: Vec<Stmt>,
+}

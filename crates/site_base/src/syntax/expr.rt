@@ -1,0 +1,10 @@
+// Expressions.
+use crate::{ExprKind, Place};
+
+/// An expression at its place, which is that of its first token.
+#[cycle(syntax)]
+#[derive(Debug, Drop)]
+pub struct Expr {
+    pub place: Place,
+    pub kind: ExprKind,
+}

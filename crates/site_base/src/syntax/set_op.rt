@@ -1,0 +1,16 @@
+// The operators of assignments.
+
+/// How an assignment makes the new value.
+#[derive(Clone, Copy, Debug, PartialEq, Eq)]
+pub enum SetOp {
+    /// `=`
+    Plain,
+    /// `+=`
+    Add,
+    /// `-=`
+    Sub,
+    /// `*=`
+    Mul,
+    /// `/=`
+    Div,
+}

@@ -1,0 +1,12 @@
+// The ways into a value.
+use crate::{Expr, Text};
+
+/// One step from a value to a value inside it, in the target of an assignment.
+#[cycle(syntax)]
+#[derive(Debug, Drop)]
+pub enum Step {
+    /// `.name`
+    Member(Text),
+    /// `[expr]`
+    Index(Expr),
+}
