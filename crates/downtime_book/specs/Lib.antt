@@ -1,0 +1,4 @@
+pub mod Calls
+pub mod Downtime
+pub mod Held
+pub mod Naming
