@@ -1,5 +1,7 @@
 // The worked example, a table of sequences, random sequences against a plain look back, and what past
 // downtimes cost.
+ghost use Rattle.std.specs.Prelude.{◌≤◌};
+
 mod look_back;
 mod table;
 
@@ -161,7 +163,7 @@ fn random_call(
             }
         }
         2 => {
-            let number = dice.below(count + 1);
+            let number = dice.below(14);
             let live = is_live_by(calls, number, now);
             let moment = next(rt, book, now);
             assert_eq!(rt; book.is_live(number, moment), live);
@@ -193,11 +195,11 @@ fn random_sequences(rt: HostRuntime) {
     for _ in 0..10_000 {
         let mut book = Book::new(rt.alloc());
         let mut calls = Vec::new(rt.alloc());
-        let mut now = 0;
+        let mut now = 0u64;
         for count in 0..14 {
-            now = (now + dice.below(8)) % 1_000;
+            now = now.saturating_add(dice.below(8));
             random_call(&rt, &mut dice, &mut book, &mut calls, now, count);
-            for later in [now, now + 1 + dice.below(20)] {
+            for later in [now, now.saturating_add(1 + dice.below(20))] {
                 let moment = next(&rt, &book, later);
                 assert_eq!(rt; book.in_effect(moment), named_by(&calls, later));
                 let problem = dice.below(2) == 0;
