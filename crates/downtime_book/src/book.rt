@@ -95,6 +95,7 @@ impl Book {
     {
         let downtime = Downtime::new(number, start, end, fixed, duration);
         if downtime.is_live(self.latest) {
+            trim(&mut self.standing);
             let until = downtime.until();
             let place = self
                 .standing
@@ -123,6 +124,7 @@ impl Book {
         }
         self.latest = moment;
         self.standing.retain(|downtime| downtime.number != number && downtime.is_live(moment));
+        free_when_empty(&mut self.standing);
         Ok(())
     }
 
@@ -147,6 +149,7 @@ impl Book {
         self.latest = moment;
         meet_result(&mut self.standing, moment, problem);
         self.standing.retain(|downtime| downtime.is_live(moment));
+        free_when_empty(&mut self.standing);
     }
 
     /// The number of the downtime that is in effect at this moment: of several the one that starts
@@ -183,6 +186,25 @@ impl Book {
     }
 }
 
+// Gives back room of which less than a quarter is used.
+fn trim(standing: &mut Vec<Downtime>)
+    ensures { standing.new.items ≡ standing.old.items }
+{
+    let held = standing.len();
+    if held < standing.capacity() / 4 {
+        standing.shrink_to(held);
+    }
+}
+
+// Gives all room back where nothing is left. It asks for no memory.
+fn free_when_empty(standing: &mut Vec<Downtime>)
+    ensures { standing.new.items ≡ standing.old.items }
+{
+    if standing.is_empty() {
+        standing.shrink_to_fit();
+    }
+}
+
 // Lets each downtime meet the result, and puts them back in order.
 fn meet_result(standing: &mut [Downtime], moment: Moment, problem: bool)
     ensures met { IsPermutation (map (after_result moment problem) standing.old) standing.new }
@@ -209,3 +231,6 @@ fn trigger_all(standing: &mut [Downtime], moment: Moment) -> bool
     }
     triggered
 }
+
+#[cfg(test)]
+mod tests;

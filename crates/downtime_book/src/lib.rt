@@ -26,8 +26,6 @@ mod kind;
 mod naming;
 mod no_downtime;
 mod rank;
-#[cfg(test)]
-mod tests;
 
 pub use book::Book;
 pub use no_downtime::NoDowntime;

@@ -13,12 +13,12 @@ invariant_of-self c =
     let xs = c.self.inside.standing.items in
     let d = c.new-downtime.result in
     let until = c.until-until.result in
-    let point = IsPartitionPoint-from_clause (λ (x : Downtime). nat_le (end_of x) until) xs _ (rw c.deref.ensures.value at c.partition_point-place.ensures.partitioned) (IsPartitionedBy-leb end_of xs until c.self.invariant) (λ a r f' k. search (rules, tests)) in
-    let order = insert_in_order xs _ d until c.until-until.ensures c.self.invariant (rw c.deref.ensures.value at c.partition_point-place.ensures.bound) point in
-    rw c.in_ok-insert.ensures.items order
+    let point = IsPartitionPoint-from_clause (λ (x : Downtime). nat_le (end_of x) until) xs _ (rw (c.deref.ensures.value, c.trim.ensures) at c.partition_point-place.ensures.partitioned) (IsPartitionedBy-leb end_of xs until c.self.invariant) (λ a r f' k. search (rules, tests)) in
+    let order = insert_in_order xs _ d until c.until-until.ensures c.self.invariant (rw (c.deref.ensures.value, c.trim.ensures) at c.partition_point-place.ensures.bound) point in
+    rw (c.in_ok-insert.ensures.items, c.trim.ensures) order
 
 pub invariant_of-self-in_err-insert : goal.invariant_of-self-in_err-insert
-invariant_of-self-in_err-insert c = rw c.in_err-insert.ensures.items c.self.invariant
+invariant_of-self-in_err-insert c = rw (c.in_err-insert.ensures.items, c.trim.ensures) c.self.invariant
 
 pub returns-in_ok-insert-clause-ok : goal.returns-in_ok-insert-clause-ok
 returns-in_ok-insert-clause-ok c = λ calls s.
@@ -26,7 +26,7 @@ returns-in_ok-insert-clause-ok c = λ calls s.
     let before = held c.self.inside.latest c.self.inside.standing.items in
     let stood : StandsFor before calls = subst (λ (b : Held). StandsFor b calls) (sym c.self.view_is) s in
     let live = rw c.new-downtime.ensures at (sym c.is_live.ensures ∙ c.if-is_live.true) in
-    let is = rw c.new-downtime.ensures at c.in_ok-insert.ensures.items in
+    let is = rw (c.new-downtime.ensures, c.trim.ensures) at c.in_ok-insert.ensures.items in
     StandsFor-added before calls a.number a.start a.end a.fixed a.duration _ _ stood live is
 
 pub returns-else-is_live-clause-ok : goal.returns-else-is_live-clause-ok

@@ -11,7 +11,7 @@ invariant_of-self c =
     let m = c.args.moment in
     let met = c.meet_result.new.standing in
     let whole = refilled met (drop (length met) c.self.inside.standing.items) c.self.inside.standing.len (omega (arith, c.deref_mut.ensures.len)) in
-    let kept = filter_same _ (is_live m) _ (λ x b f' k. search (rules, tests)) _ _ c.retain.ensures.filtered ∙ ap (filter (is_live m)) whole in
+    let kept = c.free_when_empty.ensures ∙ filter_same _ (is_live m) _ (λ x b f' k. search (rules, tests)) _ _ c.retain.ensures.filtered ∙ ap (filter (is_live m)) whole in
     let order = (rw c.deref_mut.ensures.value at c.meet_result.ensures.ordered) c.self.invariant in
     rw kept (IsNonDecreasingBy-filter end_of (is_live m) met order)
 
@@ -20,6 +20,6 @@ returns-clause-stands c = λ calls s.
     let m = c.args.moment in
     let met = c.meet_result.new.standing in
     let whole = refilled met (drop (length met) c.self.inside.standing.items) c.self.inside.standing.len (omega (arith, c.deref_mut.ensures.len)) in
-    let kept = filter_same _ (is_live m) _ (λ x b f' k. search (rules, tests)) _ _ c.retain.ensures.filtered ∙ ap (filter (is_live m)) whole in
+    let kept = c.free_when_empty.ensures ∙ filter_same _ (is_live m) _ (λ x b f' k. search (rules, tests)) _ _ c.retain.ensures.filtered ∙ ap (filter (is_live m)) whole in
     let moved : IsPermutation (map (after_result m c.args.problem) c.args.self.now.standing) met = rw (← c.self.view_is, ← c.deref_mut.ensures.value) c.meet_result.ensures.met in
     StandsFor-resulted c.args.self.now calls m c.args.problem met _ s c.requires moved kept

@@ -5,7 +5,7 @@ ghost use Rattle.std.specs.Prelude.{◌≤◌};
 mod look_back;
 mod table;
 
-use crate::book::Book;
+use super::Book;
 use crate::no_downtime::NoDowntime;
 use look_back::{Dice, Event, is_live_by, kept_by, named_by};
 use site_base::Moment;
@@ -240,5 +240,12 @@ fn past_downtimes_cost_nothing(rt: HostRuntime) -> Result<(), Fail> {
     book.add(100_001, at(&rt, 140_000), at(&rt, 150_000), true, 0)?;
     assert_eq!(rt; book.len(), 1);
     assert_eq!(rt; book.in_effect(next(&rt, &book, 200_000)), Some(100_000));
+
+    // The room for what is past is given back by the next downtime, or once nothing is left.
+    book.add(100_002, at(&rt, 400_000), at(&rt, 500_000), true, 0)?;
+    assert!(rt; book.standing.capacity() < 100);
+    let moment = next(&rt, &book, 500_000);
+    book.on_result(moment, true);
+    assert_eq!(rt; book.standing.capacity(), 0);
     Ok(())
 }
