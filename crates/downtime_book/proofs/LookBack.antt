@@ -4,8 +4,8 @@ use Rattle.std.proofs.lemmas.Bool.Decides.{nat_tests}
 use Rattle.downtime_book.specs.declared.downtime.Downtime.{Downtime}
 use Rattle.downtime_book.specs.declared.kind.Kind.{Kind}
 use Rattle.downtime_book.specs.declared.kind.Kind.TheVariants.{Fixed, Flexible}
-use Rattle.downtime_book.specs.Downtime.{after_result, is_waiting, triggered_at}
-use Rattle.downtime_book.specs.Calls.{Call, added, result, cancelled, first_problem, is_cancelled, downtime_of, downtimes, latest}
+use Rattle.downtime_book.specs.Downtime.{after_result, kind_is_waiting, triggered_at}
+use Rattle.downtime_book.specs.Calls.{Call, added, resulted, cancelled, first_problem, is_cancelled, downtime_of, downtimes, latest}
 
 abbrev made : ℕ → ℕ → ℕ → Kind → Downtime
 made n s e k = record { number = n; start = s; «end» = e; kind = k }
@@ -18,14 +18,14 @@ module _ (n s e : ℕ) (f : Bool) (d : ℕ) where
   first_problem-added : (start finish : ℕ) (h : List Call) → first_problem start finish (h ++ added n s e f d ∷ []) ≡ first_problem start finish h
   first_problem-added start finish [] = refl
   first_problem-added start finish (added _ _ _ _ _ ∷ h) = first_problem-added start finish h
-  first_problem-added start finish (result t p ∷ h) =
+  first_problem-added start finish (resulted t p ∷ h) =
       ap (λ o. cond (p && nat_le start t && nat_lt t finish) (Some t) o) (first_problem-added start finish h)
   first_problem-added start finish (cancelled _ _ ∷ h) = first_problem-added start finish h
 
   is_cancelled-added : (k : ℕ) (h : List Call) → is_cancelled k (h ++ added n s e f d ∷ []) ≡ is_cancelled k h
   is_cancelled-added k [] = refl
   is_cancelled-added k (added _ _ _ _ _ ∷ h) = is_cancelled-added k h
-  is_cancelled-added k (result _ _ ∷ h) = is_cancelled-added k h
+  is_cancelled-added k (resulted _ _ ∷ h) = is_cancelled-added k h
   is_cancelled-added k (cancelled i _ ∷ h) = ap (λ b. (i == k) || b) (is_cancelled-added k h)
 
   downtime_of-added : (n' s' e' : ℕ) (f' : Bool) (d' : ℕ) (h : List Call) → downtime_of n' s' e' f' d' (h ++ added n s e f d ∷ []) ≡ downtime_of n' s' e' f' d' h
@@ -38,13 +38,13 @@ module _ (n s e : ℕ) (f : Bool) (d : ℕ) where
       let parted : (b : Bool) → cond b (downtimes h ++ more) (downtime_of n' s' e' f' d' h ∷ (downtimes h ++ more)) ≡ cond b (downtimes h) (downtime_of n' s' e' f' d' h ∷ downtimes h) ++ more =
       λ b. elim b as (λ b. cond b (downtimes h ++ more) (downtime_of n' s' e' f' d' h ∷ (downtimes h ++ more)) ≡ cond b (downtimes h) (downtime_of n' s' e' f' d' h ∷ downtimes h) ++ more) [ true ↦ refl | false ↦ refl ] in
       entry-same _ _ _ _ _ _ (is_cancelled-added n' h) (downtimes-added h) (downtime_of-added n' s' e' f' d' h) ∙ parted (is_cancelled n' h)
-  downtimes-added (result _ _ ∷ h) = downtimes-added h
+  downtimes-added (resulted _ _ ∷ h) = downtimes-added h
   downtimes-added (cancelled _ _ ∷ h) = downtimes-added h
 
   pub latest-added : (h : List Call) → latest (h ++ added n s e f d ∷ []) ≡ latest h
   latest-added [] = refl
   latest-added (added _ _ _ _ _ ∷ h) = latest-added h
-  latest-added (result t _ ∷ h) = ap (max t) (latest-added h)
+  latest-added (resulted t _ ∷ h) = ap (max t) (latest-added h)
   latest-added (cancelled _ t ∷ h) = ap (max t) (latest-added h)
 
 -- ---- a result more
@@ -57,7 +57,7 @@ after_fixed : (n s e m : ℕ) (p : Bool) → after_result m p (made n s e Fixed)
 after_fixed n s e m true = refl
 after_fixed n s e m false = refl
 
-after_flexible : (n s e d m : ℕ) (p a b : Bool) (o : Option ℕ) → made n s e (Flexible d (trigger_after m (p && a && b) o)) ≡ cond (p && (is_waiting (Flexible d o) && a && b)) (made n s e (triggered_at m (Flexible d o))) (made n s e (Flexible d o))
+after_flexible : (n s e d m : ℕ) (p a b : Bool) (o : Option ℕ) → made n s e (Flexible d (trigger_after m (p && a && b) o)) ≡ cond (p && (kind_is_waiting (Flexible d o) && a && b)) (made n s e (triggered_at m (Flexible d o))) (made n s e (Flexible d o))
 after_flexible n s e d m true true true None = refl
 after_flexible n s e d m true true false None = refl
 after_flexible n s e d m true false b None = refl
@@ -66,44 +66,44 @@ after_flexible n s e d m true a b (Some t) = refl
 after_flexible n s e d m false a b (Some t) = refl
 
 module _ (m : ℕ) (p : Bool) where
-  first_problem-result : (start finish : ℕ) (h : List Call) → first_problem start finish (h ++ result m p ∷ []) ≡ trigger_after m (p && nat_le start m && nat_lt m finish) (first_problem start finish h)
-  first_problem-result start finish [] = refl
-  first_problem-result start finish (added _ _ _ _ _ ∷ h) = first_problem-result start finish h
-  first_problem-result start finish (result t q ∷ h) =
+  first_problem-resulted : (start finish : ℕ) (h : List Call) → first_problem start finish (h ++ resulted m p ∷ []) ≡ trigger_after m (p && nat_le start m && nat_lt m finish) (first_problem start finish h)
+  first_problem-resulted start finish [] = refl
+  first_problem-resulted start finish (added _ _ _ _ _ ∷ h) = first_problem-resulted start finish h
+  first_problem-resulted start finish (resulted t q ∷ h) =
       let b = p && nat_le start m && nat_lt m finish in
       let parted : (a : Bool) → cond a (Some t) (trigger_after m b (first_problem start finish h)) ≡ trigger_after m b (cond a (Some t) (first_problem start finish h)) =
       λ a. elim a as (λ a. cond a (Some t) (trigger_after m b (first_problem start finish h)) ≡ trigger_after m b (cond a (Some t) (first_problem start finish h))) [ true ↦ refl | false ↦ refl ] in
-      rw (first_problem-result start finish h) (parted (q && nat_le start t && nat_lt t finish))
-  first_problem-result start finish (cancelled _ _ ∷ h) = first_problem-result start finish h
+      rw (first_problem-resulted start finish h) (parted (q && nat_le start t && nat_lt t finish))
+  first_problem-resulted start finish (cancelled _ _ ∷ h) = first_problem-resulted start finish h
 
-  is_cancelled-result : (k : ℕ) (h : List Call) → is_cancelled k (h ++ result m p ∷ []) ≡ is_cancelled k h
-  is_cancelled-result k [] = refl
-  is_cancelled-result k (added _ _ _ _ _ ∷ h) = is_cancelled-result k h
-  is_cancelled-result k (result _ _ ∷ h) = is_cancelled-result k h
-  is_cancelled-result k (cancelled i _ ∷ h) = ap (λ b. (i == k) || b) (is_cancelled-result k h)
+  is_cancelled-resulted : (k : ℕ) (h : List Call) → is_cancelled k (h ++ resulted m p ∷ []) ≡ is_cancelled k h
+  is_cancelled-resulted k [] = refl
+  is_cancelled-resulted k (added _ _ _ _ _ ∷ h) = is_cancelled-resulted k h
+  is_cancelled-resulted k (resulted _ _ ∷ h) = is_cancelled-resulted k h
+  is_cancelled-resulted k (cancelled i _ ∷ h) = ap (λ b. (i == k) || b) (is_cancelled-resulted k h)
 
   -- the calls before h settle whether what came before them is triggered
-  downtime_of-result : (n s e : ℕ) (f : Bool) (d : ℕ) (h : List Call) → downtime_of n s e f d (h ++ result m p ∷ []) ≡ after_result m p (downtime_of n s e f d h)
-  downtime_of-result n s e true d h = sym (after_fixed n s e m p)
-  downtime_of-result n s e false d h =
-      ap (λ o. made n s e (Flexible d o)) (first_problem-result s e h) ∙ after_flexible n s e d m p (nat_le s m) (nat_lt m e) (first_problem s e h)
+  downtime_of-resulted : (n s e : ℕ) (f : Bool) (d : ℕ) (h : List Call) → downtime_of n s e f d (h ++ resulted m p ∷ []) ≡ after_result m p (downtime_of n s e f d h)
+  downtime_of-resulted n s e true d h = sym (after_fixed n s e m p)
+  downtime_of-resulted n s e false d h =
+      ap (λ o. made n s e (Flexible d o)) (first_problem-resulted s e h) ∙ after_flexible n s e d m p (nat_le s m) (nat_lt m e) (first_problem s e h)
 
-  pub downtimes-result : (h : List Call) → downtimes (h ++ result m p ∷ []) ≡ map (after_result m p) (downtimes h)
-  downtimes-result [] = refl
-  downtimes-result (added n s e f d ∷ h) =
+  pub downtimes-resulted : (h : List Call) → downtimes (h ++ resulted m p ∷ []) ≡ map (after_result m p) (downtimes h)
+  downtimes-resulted [] = refl
+  downtimes-resulted (added n s e f d ∷ h) =
       let f' = after_result m p in
       let x = downtime_of n s e f d h in
       let parted : (b : Bool) → cond b (map f' (downtimes h)) (f' x ∷ map f' (downtimes h)) ≡ map f' (cond b (downtimes h) (x ∷ downtimes h)) =
       λ b. elim b as (λ b. cond b (map f' (downtimes h)) (f' x ∷ map f' (downtimes h)) ≡ map f' (cond b (downtimes h) (x ∷ downtimes h))) [ true ↦ refl | false ↦ refl ] in
-      entry-same _ _ _ _ _ _ (is_cancelled-result n h) (downtimes-result h) (downtime_of-result n s e f d h) ∙ parted (is_cancelled n h)
-  downtimes-result (result _ _ ∷ h) = downtimes-result h
-  downtimes-result (cancelled _ _ ∷ h) = downtimes-result h
+      entry-same _ _ _ _ _ _ (is_cancelled-resulted n h) (downtimes-resulted h) (downtime_of-resulted n s e f d h) ∙ parted (is_cancelled n h)
+  downtimes-resulted (resulted _ _ ∷ h) = downtimes-resulted h
+  downtimes-resulted (cancelled _ _ ∷ h) = downtimes-resulted h
 
-  pub latest-result : (h : List Call) → latest h ≤ m → latest (h ++ result m p ∷ []) ≡ m
-  latest-result [] l = omega arith
-  latest-result (added _ _ _ _ _ ∷ h) l = latest-result h l
-  latest-result (result t _ ∷ h) l = let e = latest-result h (omega arith) in omega (arith, e)
-  latest-result (cancelled _ t ∷ h) l = let e = latest-result h (omega arith) in omega (arith, e)
+  pub latest-resulted : (h : List Call) → latest h ≤ m → latest (h ++ resulted m p ∷ []) ≡ m
+  latest-resulted [] l = omega arith
+  latest-resulted (added _ _ _ _ _ ∷ h) l = latest-resulted h l
+  latest-resulted (resulted t _ ∷ h) l = let e = latest-resulted h (omega arith) in omega (arith, e)
+  latest-resulted (cancelled _ t ∷ h) l = let e = latest-resulted h (omega arith) in omega (arith, e)
 
 -- ---- a cancel more
 eqb-sym : (a b : ℕ) → (a == b) ≡ (b == a)
@@ -118,20 +118,20 @@ module _ (n m : ℕ) where
   first_problem-cancelled : (start finish : ℕ) (h : List Call) → first_problem start finish (h ++ cancelled n m ∷ []) ≡ first_problem start finish h
   first_problem-cancelled start finish [] = refl
   first_problem-cancelled start finish (added _ _ _ _ _ ∷ h) = first_problem-cancelled start finish h
-  first_problem-cancelled start finish (result t p ∷ h) =
+  first_problem-cancelled start finish (resulted t p ∷ h) =
       ap (λ o. cond (p && nat_le start t && nat_lt t finish) (Some t) o) (first_problem-cancelled start finish h)
   first_problem-cancelled start finish (cancelled _ _ ∷ h) = first_problem-cancelled start finish h
 
   pub latest-cancelled : (h : List Call) → latest h ≤ m → latest (h ++ cancelled n m ∷ []) ≡ m
   latest-cancelled [] l = omega arith
   latest-cancelled (added _ _ _ _ _ ∷ h) l = latest-cancelled h l
-  latest-cancelled (result t _ ∷ h) l = let e = latest-cancelled h (omega arith) in omega (arith, e)
+  latest-cancelled (resulted t _ ∷ h) l = let e = latest-cancelled h (omega arith) in omega (arith, e)
   latest-cancelled (cancelled _ t ∷ h) l = let e = latest-cancelled h (omega arith) in omega (arith, e)
 
   is_cancelled-cancelled : (k : ℕ) (h : List Call) → is_cancelled k (h ++ cancelled n m ∷ []) ≡ (k == n) || is_cancelled k h
   is_cancelled-cancelled k [] = ap (λ b. b || false) (eqb-sym n k)
   is_cancelled-cancelled k (added _ _ _ _ _ ∷ h) = is_cancelled-cancelled k h
-  is_cancelled-cancelled k (result _ _ ∷ h) = is_cancelled-cancelled k h
+  is_cancelled-cancelled k (resulted _ _ ∷ h) = is_cancelled-cancelled k h
   is_cancelled-cancelled k (cancelled i _ ∷ h) = ap (λ b. (i == k) || b) (is_cancelled-cancelled k h) ∙ or_turn (i == k) (k == n) (is_cancelled k h)
 
   downtime_of-cancelled : (n' s' e' : ℕ) (f' : Bool) (d' : ℕ) (h : List Call) → downtime_of n' s' e' f' d' (h ++ cancelled n m ∷ []) ≡ downtime_of n' s' e' f' d' h
@@ -149,5 +149,5 @@ module _ (n m : ℕ) where
       let out : (b : Bool) → cond b r (cond (not (n' == n)) (x ∷ r) r) ≡ filter q (cond b (downtimes h) (x ∷ downtimes h)) =
       λ b. elim b as (λ b. cond b r (cond (not (n' == n)) (x ∷ r) r) ≡ filter q (cond b (downtimes h) (x ∷ downtimes h))) [ true ↦ refl | false ↦ refl ] in
       entry-same _ _ _ _ _ _ (is_cancelled-cancelled n' h) (downtimes-cancelled h) (downtime_of-cancelled n' s' e' f' d' h) ∙ parted (n' == n) (is_cancelled n' h) ∙ out (is_cancelled n' h)
-  downtimes-cancelled (result _ _ ∷ h) = downtimes-cancelled h
+  downtimes-cancelled (resulted _ _ ∷ h) = downtimes-cancelled h
   downtimes-cancelled (cancelled _ _ ∷ h) = downtimes-cancelled h

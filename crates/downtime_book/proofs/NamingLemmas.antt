@@ -6,7 +6,7 @@ use Rattle.std.proofs.lemmas.Bool.Decides.{nat_tests}
 use Rattle.std.proofs.lemmas.List.Elements.{All-nil, All-cons, All-weaker}
 use Rattle.downtime_book.specs.declared.downtime.Downtime.{Downtime}
 use Rattle.downtime_book.specs.declared.rank.Rank.{Rank}
-use Rattle.downtime_book.specs.Downtime.{is_in_effect, is_awaiting, triggered_at, after_result}
+use Rattle.downtime_book.specs.Downtime.{is_in_effect, is_triggered_by, triggered_at, after_result}
 use Rattle.downtime_book.specs.Naming.{rank_of, goes_first, lesser, least, number_of, named, Precedes, Names}
 use Rattle.downtime_book.proofs.Lists.{along_permutation}
 
@@ -134,7 +134,7 @@ merged_more (Some a) b o = ap (λ z. Some z) (lesser_group b a o ∙ lesser_turn
 rank_of-after_result : (m : ℕ) (p : Bool) (d : Downtime) → rank_of (after_result m p d) ≡ rank_of d
 rank_of-after_result m p d =
     let e : Downtime = record d { kind = triggered_at m d.kind } in
-    elim (p && is_awaiting m d) as (λ b. rank_of (cond b e d) ≡ rank_of d) [ true ↦ refl | false ↦ refl ]
+    elim (p && is_triggered_by m d) as (λ b. rank_of (cond b e d) ≡ rank_of d) [ true ↦ refl | false ↦ refl ]
 
 -- one more, and the rest
 module _ (m : ℕ) (p : Bool) (xs : List Downtime) (i : ℕ) (x : Downtime) (h : i < length xs) (is : x ≡ get_or xs i x) where

@@ -5,8 +5,8 @@ use Rattle.std.proofs.lemmas.Bool.{le-ltb, ltb-false, leb-true, leb-false, not-t
 use Rattle.std.proofs.lemmas.List.{take_rest}
 use Rattle.std.proofs.lemmas.List.Sorted.{IsNonDecreasingBy-insert}
 use Rattle.downtime_book.specs.declared.downtime.Downtime.{Downtime}
-use Rattle.downtime_book.specs.Downtime.{end_of, is_live}
-use Rattle.downtime_book.specs.Held.{IsInOrder}
+use Rattle.downtime_book.specs.Downtime.{until, is_live}
+use Rattle.downtime_book.specs.Contents.{IsInOrder}
 use Rattle.downtime_book.proofs.Lists.{filter_from_point}
 
 abbrev pub is_past : ℕ → Downtime → Bool
@@ -27,8 +27,8 @@ live_rest m xs k point u =
     take_rest xs k ∙ filter_from_point (is_past m) (is_live m) (λ d. twice (is_live m d)) xs k point u
 
 -- a downtime goes in behind those that end no later
-pub insert_in_order : (xs : List Downtime) (place : ℕ) (d : Downtime) (until : ℕ) → until ≡ end_of d → IsInOrder xs → place ≤ length xs → IsPartitionPoint (λ y. nat_le (end_of y) until ≡ true) (λ y. nat_le (end_of y) until ≡ false) xs place → IsInOrder (insert xs place d)
-insert_in_order xs place d until e up u point =
-    IsNonDecreasingBy-insert end_of xs place d up u
-    (λ k x b. let h = leb-true _ until (point.0 k x (omega arith) b) in omega (arith, h, e))
-    (λ k x a b. let h = leb-false _ until (point.1 k x a b) in omega (arith, h, e))
+pub insert_in_order : (xs : List Downtime) (place : ℕ) (d : Downtime) (last : ℕ) → last ≡ until d → IsInOrder xs → place ≤ length xs → IsPartitionPoint (λ y. nat_le (until y) last ≡ true) (λ y. nat_le (until y) last ≡ false) xs place → IsInOrder (insert xs place d)
+insert_in_order xs place d last e up u point =
+    IsNonDecreasingBy-insert until xs place d up u
+    (λ k x b. let h = leb-true _ last (point.0 k x (omega arith) b) in omega (arith, h, e))
+    (λ k x a b. let h = leb-false _ last (point.1 k x a b) in omega (arith, h, e))

@@ -6,17 +6,18 @@ use Rattle.downtime_book.specs.declared.kind.Kind.{Kind}
 use Rattle.downtime_book.specs.declared.kind.Kind.TheVariants.{Fixed, Flexible}
 use Rattle.downtime_book.specs.Downtime.{is_live}
 
--- a call that changed a book, in the order of their coming; one that was refused is none of them
+-- a call that changed a book: a downtime was added, a result came, a downtime was cancelled; a call that was refused is none.
+-- Lists of them have the first call first.
 pub data Call : Type 0 where
   added : (number start finish : ℕ) → (fixed : Bool) → (duration : ℕ) → Call
-  result : (moment : ℕ) → (problem : Bool) → Call
+  resulted : (moment : ℕ) → (problem : Bool) → Call
   cancelled : (number moment : ℕ) → Call
 
 -- the moment of the first problem result that comes in the span
 abbrev pub first_problem : ℕ → ℕ → List Call → Option ℕ
 first_problem start finish [] = None
 first_problem start finish (added n s e f d ∷ calls) = first_problem start finish calls
-first_problem start finish (result t problem ∷ calls) =
+first_problem start finish (resulted t problem ∷ calls) =
     if problem && nat_le start t && nat_lt t finish then Some t else first_problem start finish calls
 first_problem start finish (cancelled n t ∷ calls) = first_problem start finish calls
 
@@ -24,7 +25,7 @@ first_problem start finish (cancelled n t ∷ calls) = first_problem start finis
 abbrev pub is_cancelled : ℕ → List Call → Bool
 is_cancelled number [] = false
 is_cancelled number (added n s e f d ∷ calls) = is_cancelled number calls
-is_cancelled number (result t p ∷ calls) = is_cancelled number calls
+is_cancelled number (resulted t p ∷ calls) = is_cancelled number calls
 is_cancelled number (cancelled n t ∷ calls) = (n == number) || is_cancelled number calls
 
 -- how a downtime takes effect, by the calls after it
@@ -42,14 +43,14 @@ downtimes [] = []
 downtimes (added n s e f d ∷ later) =
     if is_cancelled n later then downtimes later
     else downtime_of n s e f d later ∷ downtimes later
-downtimes (result t p ∷ later) = downtimes later
+downtimes (resulted t p ∷ later) = downtimes later
 downtimes (cancelled n t ∷ later) = downtimes later
 
 -- the latest moment that a result or a cancel brought, or 0
 abbrev pub latest : List Call → ℕ
 latest [] = 0
 latest (added n s e f d ∷ calls) = latest calls
-latest (result t p ∷ calls) = max t (latest calls)
+latest (resulted t p ∷ calls) = max t (latest calls)
 latest (cancelled n t ∷ calls) = max t (latest calls)
 
 -- whether a downtime of this number is live at the moment

@@ -1,4 +1,4 @@
 pub mod Calls
+pub mod Contents
 pub mod Downtime
-pub mod Held
 pub mod Naming

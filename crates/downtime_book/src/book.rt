@@ -1,9 +1,9 @@
 // The book.
-ghost use Rattle.std.specs.Prelude.{◌≡◌, ◌≤◌, ◌↔◌, ◌==◌, false, true, List, [], ◌∷◌, ◌++◌, IsTrue, OnOk, OnErr, is_ok, length, filter, map, IsPermutation};
-ghost use Rattle.downtime_book.specs.Downtime.{after_result};
-ghost use Rattle.downtime_book.specs.Held.{IsInOrder};
+ghost use Rattle.std.specs.Prelude.{◌≡◌, ◌≤◌, ◌↔◌, ◌==◌, List, [], ◌∷◌, ◌++◌, IsTrue, OnOk, OnErr, is_ok, length, filter};
+ghost use Rattle.downtime_book.specs.Downtime.{is_live};
 
 use crate::downtime::Downtime;
+use crate::keeping::{drop_past, meet_result, remove, trim};
 use crate::naming::first_in_effect;
 use crate::no_downtime::NoDowntime;
 use site_base::{Moment, OutOfMemory};
@@ -12,30 +12,28 @@ use std::marker::Model;
 
 /// The downtimes of one checkable.
 ///
-/// Moments don't fall from call to call. The book keeps only downtimes that weren't past at the
-/// latest moment that a result or a cancel brought it, in order of when they end: so a call costs
-/// what is live or still to come, and past downtimes cost neither time nor memory. Only `add` takes
-/// memory.
+/// Moments don't fall: none is below the latest one that a result or a cancel brought. So the book
+/// keeps only what wasn't past then, in order of when it ends, and a call walks what is live or
+/// still to come at most: past downtimes cost neither time nor memory. Only `add` takes memory.
 #[derive(Debug, Drop)]
 pub struct Book {
     latest: Moment,
-    standing: Vec<Downtime>,
+    downtimes: Vec<Downtime>,
 }
 
 impl Model for Book {
-    ghost use Rattle.downtime_book.specs.Held.{Held, IsInOrder};
+    ghost use Rattle.downtime_book.specs.Contents.{Contents, IsInOrder};
 
-    ghost Value = { Held };
+    ghost Value = { Contents };
 
-    ghost view = { λ b. record { latest = b.latest; standing = b.standing.items } };
+    ghost view = { λ b. record { latest = b.latest; downtimes = b.downtimes.items } };
 
-    ghost invariant = { λ b. IsInOrder b.standing.items };
+    ghost invariant = { λ b. IsInOrder b.downtimes.items };
 }
 
 impl Book {
-    ghost use Rattle.downtime_book.specs.Calls.{Call, added, result as resulted, cancelled, downtimes, is_live_in};
-    ghost use Rattle.downtime_book.specs.Downtime.{is_live};
-    ghost use Rattle.downtime_book.specs.Held.{StandsFor, remaining};
+    ghost use Rattle.downtime_book.specs.Calls.{Call, added, resulted, cancelled, downtimes, is_live_in};
+    ghost use Rattle.downtime_book.specs.Contents.{StandsFor, live_downtimes};
     ghost use Rattle.downtime_book.specs.Naming.{named, Names};
 
     /// A book without a downtime.
@@ -45,7 +43,7 @@ impl Book {
     {
         Book {
             latest: Moment::of(0).unwrap(),
-            standing: Vec::new(alloc),
+            downtimes: Vec::new(alloc),
         }
     }
 
@@ -56,26 +54,28 @@ impl Book {
         self.latest
     }
 
-    /// How many downtimes the book holds: those that weren't past at its latest moment.
+    /// How many downtimes the book keeps: those that weren't past at its latest moment.
     pub fn len(&self) -> usize
-        ensures held { result ≡ length self.now.standing }
-        ensures remaining { (calls : List Call) → StandsFor self.now calls →
-            result ≡ length (remaining calls) }
+        ensures kept { result ≡ length self.now.downtimes }
+        ensures live { (calls : List Call) → StandsFor self.now calls →
+            result ≡ length (live_downtimes calls) }
     {
-        self.standing.len()
+        self.downtimes.len()
     }
 
-    /// Whether it holds none.
+    /// Whether it keeps none.
     pub fn is_empty(&self) -> bool
-        ensures held { IsTrue result ↔ (self.now.standing ≡ []) }
-        ensures remaining { (calls : List Call) → StandsFor self.now calls →
-            result ≡ (length (remaining calls) == 0) }
+        ensures kept { IsTrue result ↔ (self.now.downtimes ≡ []) }
+        ensures live { (calls : List Call) → StandsFor self.now calls →
+            result ≡ (length (live_downtimes calls) == 0) }
     {
-        self.standing.is_empty()
+        self.downtimes.is_empty()
     }
 
     /// Adds a downtime from `start` up to but not at `end`. A flexible one is in effect for
-    /// `duration` seconds from its trigger on; of a fixed one the duration counts for nothing.
+    /// `duration` seconds from its trigger on; of a fixed one the duration counts for nothing. The
+    /// number names it from then on, so a caller gives each number once; of two downtimes with one
+    /// number a cancel takes both away. One whose span is empty is never in effect.
     ///
     /// # Errors
     ///
@@ -95,12 +95,12 @@ impl Book {
     {
         let downtime = Downtime::new(number, start, end, fixed, duration);
         if downtime.is_live(self.latest) {
-            trim(&mut self.standing);
+            trim(&mut self.downtimes);
             let until = downtime.until();
             let place = self
-                .standing
+                .downtimes
                 .partition_point(|other| other.until() <= until);
-            self.standing.insert(place, downtime)?;
+            self.downtimes.insert(place, downtime)?;
         }
         Ok(())
     }
@@ -123,8 +123,8 @@ impl Book {
             return Err(NoDowntime);
         }
         self.latest = moment;
-        self.standing.retain(|downtime| downtime.number != number && downtime.is_live(moment));
-        free_when_empty(&mut self.standing);
+        remove(&mut self.downtimes, number);
+        drop_past(&mut self.downtimes, moment);
         Ok(())
     }
 
@@ -147,9 +147,8 @@ impl Book {
         ensures latest { self.new.latest ≡ moment }
     {
         self.latest = moment;
-        meet_result(&mut self.standing, moment, problem);
-        self.standing.retain(|downtime| downtime.is_live(moment));
-        free_when_empty(&mut self.standing);
+        meet_result(&mut self.downtimes, moment, problem);
+        drop_past(&mut self.downtimes, moment);
     }
 
     /// The number of the downtime that is in effect at this moment: of several the one that starts
@@ -177,59 +176,13 @@ impl Book {
 
     // The downtimes that aren't past at this moment.
     fn live_at(&self, moment: Moment) -> &[Downtime]
-        ensures { result.now ≡ filter (is_live moment) self.now.standing }
+        ensures { result.now ≡ filter (is_live moment) self.now.downtimes }
     {
         let past = self
-            .standing
+            .downtimes
             .partition_point(|downtime| !downtime.is_live(moment));
-        &self.standing[past..]
+        &self.downtimes[past..]
     }
-}
-
-// Gives back room of which less than a quarter is used.
-fn trim(standing: &mut Vec<Downtime>)
-    ensures { standing.new.items ≡ standing.old.items }
-{
-    let held = standing.len();
-    if held < standing.capacity() / 4 {
-        standing.shrink_to(held);
-    }
-}
-
-// Gives all room back where nothing is left. It asks for no memory.
-fn free_when_empty(standing: &mut Vec<Downtime>)
-    ensures { standing.new.items ≡ standing.old.items }
-{
-    if standing.is_empty() {
-        standing.shrink_to_fit();
-    }
-}
-
-// Lets each downtime meet the result, and puts them back in order.
-fn meet_result(standing: &mut [Downtime], moment: Moment, problem: bool)
-    ensures met { IsPermutation (map (after_result moment problem) standing.old) standing.new }
-    ensures ordered { IsInOrder standing.old → IsInOrder standing.new }
-{
-    if !problem {
-        return;
-    }
-    if trigger_all(standing, moment) {
-        standing.sort_unstable_by_key(|downtime| downtime.until());
-    }
-}
-
-// Lets each downtime meet a problem, and says whether that triggered one.
-fn trigger_all(standing: &mut [Downtime], moment: Moment) -> bool
-    ensures after { standing.new ≡ map (after_result moment true) standing.old }
-    ensures none { result ≡ false → standing.new ≡ standing.old }
-{
-    let mut triggered = false;
-    for downtime in standing.iter_mut() {
-        if downtime.meet_problem(moment) {
-            triggered = true;
-        }
-    }
-    triggered
 }
 
 #[cfg(test)]

@@ -14,7 +14,7 @@ pub struct Downtime {
 }
 
 impl Downtime {
-    ghost use Rattle.downtime_book.specs.Downtime.{end_of, has_begun, is_live, is_in_effect, is_awaiting, after_result};
+    ghost use Rattle.downtime_book.specs.Downtime.{until, is_live, is_in_effect, is_triggered_by, after_result};
     ghost use Rattle.downtime_book.specs.Calls.{downtime_of};
 
     /// A downtime that nothing has triggered.
@@ -40,7 +40,7 @@ impl Downtime {
     /// The first second at which it is past for good, if nothing more happens. It can lie beyond the
     /// greatest moment.
     pub fn until(&self) -> u128
-        ensures { result ≡ end_of self.now }
+        ensures { result ≡ until self.now }
     {
         match &self.kind {
             Kind::Flexible {
@@ -58,27 +58,21 @@ impl Downtime {
         u128::from(moment.secs()) < self.until()
     }
 
-    fn has_begun(&self, moment: Moment) -> bool
-        ensures { result ≡ has_begun moment self.now }
+    fn is_in_effect(&self, moment: Moment) -> bool
+        ensures { result ≡ is_in_effect moment self.now }
     {
         match &self.kind {
-            Kind::Fixed => self.start <= moment,
+            Kind::Fixed => self.start <= moment && moment < self.end,
             Kind::Flexible { trigger, .. } => match trigger {
-                Some(trigger) => *trigger <= moment,
+                Some(trigger) => *trigger <= moment && self.is_live(moment),
                 None => false,
             },
         }
     }
 
-    fn is_in_effect(&self, moment: Moment) -> bool
-        ensures { result ≡ is_in_effect moment self.now }
-    {
-        self.has_begun(moment) && self.is_live(moment)
-    }
-
     /// Whether a problem at this moment triggers it.
-    pub fn is_awaiting(&self, moment: Moment) -> bool
-        ensures { result ≡ is_awaiting moment self.now }
+    pub fn is_triggered_by(&self, moment: Moment) -> bool
+        ensures { result ≡ is_triggered_by moment self.now }
     {
         match &self.kind {
             Kind::Flexible { trigger: None, .. } => self.start <= moment && moment < self.end,
@@ -90,8 +84,9 @@ impl Downtime {
     pub fn is_in_effect_after(&self, moment: Moment, problem: bool) -> bool
         ensures { result ≡ is_in_effect moment (after_result moment problem self.now) }
     {
+        let triggered = problem && self.is_triggered_by(moment);
         match &self.kind {
-            Kind::Flexible { duration, .. } if problem && self.is_awaiting(moment) => *duration > 0,
+            Kind::Flexible { duration, .. } if triggered => *duration > 0,
             _ => self.is_in_effect(moment),
         }
     }
@@ -99,9 +94,9 @@ impl Downtime {
     /// Takes note of a problem, and says whether that triggered it.
     pub fn meet_problem(&mut self, moment: Moment) -> bool
         ensures after { self.new ≡ after_result moment true self.old }
-        ensures triggered { result ≡ is_awaiting moment self.old }
+        ensures triggered { result ≡ is_triggered_by moment self.old }
     {
-        if !self.is_awaiting(moment) {
+        if !self.is_triggered_by(moment) {
             return false;
         }
         if let Kind::Flexible { trigger, .. } = &mut self.kind {

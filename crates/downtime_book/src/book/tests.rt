@@ -243,9 +243,9 @@ fn past_downtimes_cost_nothing(rt: HostRuntime) -> Result<(), Fail> {
 
     // The room for what is past is given back by the next downtime, or once nothing is left.
     book.add(100_002, at(&rt, 400_000), at(&rt, 500_000), true, 0)?;
-    assert!(rt; book.standing.capacity() < 100);
+    assert!(rt; book.downtimes.capacity() < 100);
     let moment = next(&rt, &book, 500_000);
     book.on_result(moment, true);
-    assert_eq!(rt; book.standing.capacity(), 0);
+    assert_eq!(rt; book.downtimes.capacity(), 0);
     Ok(())
 }

@@ -1,5 +1,5 @@
 use Rattle.std.proofs.Common.{[], ◌∷◌, ◌++◌, ◌∙◌, sym, subst}
-use Rattle.downtime_book.specs.Calls.{downtimes, result}
+use Rattle.downtime_book.specs.Calls.{downtimes, resulted}
 use Rattle.downtime_book.specs.Naming.{Names}
 use Rattle.downtime_book.proofs.NamingLemmas.{Names-named}
 use Rattle.downtime_book.proofs.Steps.{named-after}
@@ -11,4 +11,4 @@ returns-clause-value c = λ calls s.
 
 pub returns-clause-first : goal.returns-clause-first
 returns-clause-first c = λ calls s.
-    subst (Names c.args.moment (downtimes (calls ++ result c.args.moment c.args.problem ∷ []))) (sym (returns-clause-value c calls s)) (Names-named c.args.moment (downtimes (calls ++ result c.args.moment c.args.problem ∷ [])))
+    subst (Names c.args.moment (downtimes (calls ++ resulted c.args.moment c.args.problem ∷ []))) (sym (returns-clause-value c calls s)) (Names-named c.args.moment (downtimes (calls ++ resulted c.args.moment c.args.problem ∷ [])))

@@ -7,6 +7,6 @@ use Rattle.downtime_book.proofs.book.Book.live_at.Goals as goal
 pub returns : goal.returns
 returns c =
     let m = c.args.moment in
-    let xs = c.self.inside.standing.items in
+    let xs = c.self.inside.downtimes.items in
     let point = IsPartitionPoint-from_clause (is_past m) xs _ (rw c.deref.ensures.value at c.partition_point-past.ensures.partitioned) (past_first m xs c.self.invariant) (λ a r f' k. search rules) in
     rw (c.deref-2.ensures.value, ← c.self.view_is) (live_rest m xs _ point (rw c.deref.ensures.value at c.partition_point-past.ensures.bound))
