@@ -6,14 +6,14 @@ use Rattle.downtime_book.specs.declared.kind.Kind.{Kind}
 use Rattle.downtime_book.specs.declared.kind.Kind.TheVariants.{Fixed, Flexible}
 use Rattle.downtime_book.specs.Downtime.{is_live}
 
--- a call that changed a book: a downtime was added, a result came, a downtime was cancelled; a call that was refused is none.
--- Lists of them have the first call first.
+-- what changed a book: a downtime was added, a result came, a downtime was cancelled. A call that was refused is none.
+-- In lists of them the first call stands first.
 pub data Call : Type 0 where
   added : (number start finish : ℕ) → (fixed : Bool) → (duration : ℕ) → Call
   resulted : (moment : ℕ) → (problem : Bool) → Call
   cancelled : (number moment : ℕ) → Call
 
--- the moment of the first problem result that comes in the span
+-- the moment of the first problem result that comes from start on and before finish
 abbrev pub first_problem : ℕ → ℕ → List Call → Option ℕ
 first_problem start finish [] = None
 first_problem start finish (added n s e f d ∷ calls) = first_problem start finish calls
@@ -33,6 +33,7 @@ abbrev pub kind_of : ℕ → ℕ → Bool → ℕ → List Call → Kind
 kind_of start finish fixed duration later =
     if fixed then Fixed else Flexible duration (first_problem start finish later)
 
+-- a downtime that was added, by the calls after it
 abbrev pub downtime_of : ℕ → ℕ → ℕ → Bool → ℕ → List Call → Downtime
 downtime_of n s e fixed duration later =
     record { number = n; start = s; «end» = e; kind = kind_of s e fixed duration later }

@@ -1,4 +1,4 @@
--- What a book holds, and the calls that it stands for.
+-- What a book keeps, and the calls that it stands for.
 use Rattle.std.specs.Prelude.{◌≡◌, ℕ, List, filter, IsPermutation}
 use Rattle.std.specs.List.Sorted.{IsNonDecreasingBy}
 use Rattle.downtime_book.specs.declared.downtime.Downtime.{Downtime}

@@ -4,12 +4,13 @@ use Rattle.downtime_book.specs.declared.downtime.Downtime.{Downtime}
 use Rattle.downtime_book.specs.declared.kind.Kind.{Kind}
 use Rattle.downtime_book.specs.declared.kind.Kind.TheVariants.{Fixed, Flexible}
 
--- a fixed one is in effect from its start to its end, a flexible one from its trigger on for its duration
+-- a fixed one is in effect from its start up to but not at its end, a flexible one from its trigger on for its duration
 abbrev pub kind_is_in_effect : Kind → ℕ → ℕ → ℕ → Bool
 kind_is_in_effect Fixed start finish moment = nat_le start moment && nat_lt moment finish
 kind_is_in_effect (Flexible duration (Some trigger)) start finish moment = nat_le trigger moment && nat_lt moment (trigger + duration)
 kind_is_in_effect (Flexible duration None) start finish moment = false
 
+-- the same of a downtime
 abbrev pub is_in_effect : ℕ → Downtime → Bool
 is_in_effect moment d = kind_is_in_effect d.kind d.start d.«end» moment
 
@@ -19,6 +20,7 @@ kind_until Fixed finish = finish
 kind_until (Flexible duration (Some trigger)) finish = trigger + duration
 kind_until (Flexible duration None) finish = finish
 
+-- the first second at which a downtime is past
 abbrev pub until : Downtime → ℕ
 until d = kind_until d.kind d.«end»
 
@@ -36,6 +38,7 @@ kind_is_waiting (Flexible duration None) = true
 abbrev pub is_triggered_by : ℕ → Downtime → Bool
 is_triggered_by moment d = kind_is_waiting d.kind && nat_le d.start moment && nat_lt moment d.«end»
 
+-- the same kind, triggered at the moment
 abbrev pub triggered_at : ℕ → Kind → Kind
 triggered_at moment Fixed = Fixed
 triggered_at moment (Flexible duration trigger) = Flexible duration (Some moment)

@@ -4,12 +4,15 @@ use Rattle.downtime_book.specs.declared.downtime.Downtime.{Downtime}
 use Rattle.downtime_book.specs.declared.rank.Rank.{Rank}
 use Rattle.downtime_book.specs.Downtime.{is_in_effect}
 
+-- what decides between downtimes: the start, then the number
 abbrev pub rank_of : Downtime → Rank
 rank_of d = record { start = d.start; number = d.number }
 
+-- the earlier start, then the lesser number
 abbrev pub goes_first : Rank → Rank → Bool
 goes_first a b = nat_lt a.start b.start || ((a.start == b.start) && nat_le a.number b.number)
 
+-- the lesser of the two, where there is another
 abbrev pub lesser : Rank → Option Rank → Rank
 lesser a None = a
 lesser a (Some b) = if goes_first a b then a else b
@@ -19,10 +22,12 @@ abbrev pub least : ℕ → List Downtime → Option Rank
 least moment [] = None
 least moment (d ∷ ds) = if is_in_effect moment d then Some (lesser (rank_of d) (least moment ds)) else least moment ds
 
+-- the number of a rank, if there is one
 abbrev pub number_of : Option Rank → Option ℕ
 number_of None = None
 number_of (Some r) = Some r.number
 
+-- the number of the downtime that is named at the moment
 abbrev pub named : ℕ → List Downtime → Option ℕ
 named moment ds = number_of (least moment ds)
 
