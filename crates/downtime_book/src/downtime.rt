@@ -62,7 +62,7 @@ impl Downtime {
         ensures { result ≡ is_in_effect moment self.now }
     {
         match &self.kind {
-            Kind::Fixed => self.start <= moment && moment < self.end,
+            Kind::Fixed => self.start <= moment && self.is_live(moment),
             Kind::Flexible { trigger, .. } => match trigger {
                 Some(trigger) => *trigger <= moment && self.is_live(moment),
                 None => false,
