@@ -17,6 +17,7 @@ module _ {X : Type 0} where
       ] in
       by (q x) refl
 
+  -- two filters are one by both tests
   pub filter_twice : (p q : X → Bool) (xs : List X) → filter p (filter q xs) ≡ filter (λ x. q x && p x) xs
   filter_twice p q [] = refl
   filter_twice p q (x ∷ xs) =
@@ -34,6 +35,7 @@ module _ {X : Type 0} where
       ] in
       by (q x) refl
 
+  -- what the test refuses may be left out before
   pub list_any_within : (p q : X → Bool) → ((x : X) → q x ≡ false → p x ≡ false) → (xs : List X) → list_any p (filter q xs) ≡ list_any p xs
   list_any_within p q h [] = refl
   list_any_within p q h (x ∷ xs) =
@@ -44,6 +46,7 @@ module _ {X : Type 0} where
       ] in
       by (q x) refl
 
+  -- some element passes the test, of those that pass the filter
   pub list_any_filter : (p q : X → Bool) (xs : List X) → list_any p (filter q xs) ≡ list_any (λ x. p x && q x) xs
   list_any_filter p q [] = refl
   list_any_filter p q (x ∷ xs) =
@@ -57,6 +60,7 @@ module _ {X : Type 0} where
       ] in
       by (p x) (q x) ∙ ap (λ r. cond (q x) (p x || r) r) (list_any_filter p q xs) ∙ ors (p x) (q x)
 
+  -- writing the element that stands there changes nothing
   pub set_same : (xs : List X) (i : ℕ) (x : X) → i < length xs → x ≡ get_or xs i x → set xs i x ≡ xs
   set_same [] i x h e = absurd (omega arith)
   set_same (y ∷ xs) zero x h e = ap (λ z. z ∷ xs) e
@@ -66,6 +70,7 @@ module _ {X : Type 0} where
   pub refilled : (xs ys : List X) (n : ℕ) → n ≡ length xs → take n (xs ++ ys) ≡ xs
   refilled xs ys n e = ap (λ k. take k (xs ++ ys)) e ∙ take-append_seam xs ys
 
+  -- a function that changes no element changes no list
   pub map_same : (f : X → X) → ((x : X) → f x ≡ x) → (xs : List X) → map f xs ≡ xs
   map_same f h [] = refl
   map_same f h (x ∷ xs) = rw (h x, map_same f h xs) refl
@@ -82,6 +87,7 @@ module _ {X : Type 0} (f : X → X) where
   set-met (x ∷ xs) zero d h = refl
   set-met (x ∷ xs) (suc i) d h = ap (λ r. f x ∷ r) (set-met xs i d (omega arith))
 
+  -- the loop's step: y is what f makes of the element at i
   pub met_more : (before now : List X) (i : ℕ) (x y : X) → now ≡ map f (take i before) ++ drop i before → i < length before → x ≡ get_or now i x → y ≡ f x → set now i y ≡ map f (take (i + 1) before) ++ drop (i + 1) before
   met_more before now i x y e h is made =
       let at : x ≡ get_or before i x = is ∙ ap (λ (l : List X). get_or l i x) e ∙ get_or-met before i x h in
@@ -110,6 +116,7 @@ module _ {X : Type 0} (R : List X → List X → Type 0) (same : (xs : List X) �
   swapped [] i j p q = same []
   swapped (x ∷ l) i j p q = exchanged (x ∷ l) i j x p q
 
+  -- so the same holds of two orders of one list
   pub along_permutation : (xs ys : List X) → IsPermutation xs ys → R xs ys
   along_permutation xs = IsPermutation-keeps xs (R xs) (same xs) (λ l i j p q h. chain xs l _ h (swapped l i j p q))
 
@@ -130,6 +137,7 @@ module _ {X : Type 0} (p : X → Bool) where
       elim (p y) as (λ a. IsPermutation (cond (p x) (x ∷ cond a (y ∷ r) r) (cond a (y ∷ r) r)) (cond a (y ∷ cond (p x) (x ∷ r) r) (cond (p x) (x ∷ r) r)))
       [ true ↦ one (p x) | false ↦ none (p x) ]
 
+  -- filters keep permutations
   pub IsPermutation-filter : (xs ys : List X) → IsPermutation xs ys → IsPermutation (filter p xs) (filter p ys)
   IsPermutation-filter =
       along_permutation (λ xs ys. IsPermutation (filter p xs) (filter p ys)) (λ xs. IsPermutation-refl _) filter_skip filter_turn (λ xs ys zs. IsPermutation-trans _ _ _)

@@ -37,8 +37,8 @@ impl Downtime {
         }
     }
 
-    /// The first second at which it is past for good, if nothing more happens. It can lie beyond the
-    /// greatest moment.
+    /// The first second at which it is past, if nothing more happens. It can lie beyond the greatest
+    /// moment.
     pub fn until(&self) -> u128
         ensures { result ≡ until self.now }
     {

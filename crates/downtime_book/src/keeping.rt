@@ -23,7 +23,8 @@ pub fn remove(downtimes: &mut Vec<Downtime>, number: u64)
     downtimes.retain(|downtime| downtime.number != number);
 }
 
-/// Drops what is past at this moment, and the room too where nothing is left. It asks for no memory.
+/// Drops what is past at this moment, and the room too where nothing is left. It asks for no
+/// memory.
 pub fn drop_past(downtimes: &mut Vec<Downtime>, moment: Moment)
     ensures { downtimes.new.items ≡ filter (is_live moment) downtimes.old.items }
 {

@@ -1,5 +1,5 @@
-// The worked example, a table of sequences, random sequences against a plain look back, and what past
-// downtimes cost.
+// The worked example, a table of sequences, random sequences against a plain look back, and what
+// past downtimes cost.
 ghost use Rattle.std.specs.Prelude.{◌≤◌};
 
 mod look_back;

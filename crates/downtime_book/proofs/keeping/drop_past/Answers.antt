@@ -1,3 +1,4 @@
+-- `retain` keeps what is live.
 use Rattle.std.proofs.Common.{◌∙◌, rules, tests}
 use Rattle.std.proofs.lemmas.Fn.{filter_same}
 use Rattle.downtime_book.specs.Downtime.{is_live}

@@ -1,3 +1,4 @@
+-- A result that is no problem changes nothing, and a sort puts the list in order.
 use Rattle.std.proofs.Common.{rules}
 use Rattle.std.proofs.lemmas.List.Sorted.{IsPermutation-refl, IsNonDecreasingBy-from_sort_by_key}
 use Rattle.downtime_book.specs.Downtime.{until}

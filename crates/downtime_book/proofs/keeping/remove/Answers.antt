@@ -1,3 +1,4 @@
+-- `retain` keeps what has another number.
 use Rattle.std.proofs.Common.{◌==◌, not, rules, tests}
 use Rattle.std.proofs.lemmas.Fn.{filter_same}
 use Rattle.downtime_book.specs.declared.downtime.Downtime.{Downtime}

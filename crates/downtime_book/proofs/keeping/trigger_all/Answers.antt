@@ -1,3 +1,4 @@
+-- Each turn puts what the problem makes of a downtime in its place.
 use Rattle.std.proofs.Common.{◌≡◌, false, true, set, ◌∙◌, sym, ap, arith}
 use Rattle.std.proofs.lemmas.Bool.{true≢false}
 use Rattle.downtime_book.specs.declared.downtime.Downtime.{Downtime}

@@ -1,3 +1,4 @@
+-- So far each downtime is as the problem left it, and without a trigger all are as they were.
 use Rattle.std.proofs.Common.{◌≡◌, true, false, ◌++◌, map, take, drop}
 use Rattle.downtime_book.specs.Downtime.{after_result}
 use Rattle.downtime_book.proofs.keeping.trigger_all.Given as goal

@@ -1,3 +1,4 @@
+-- Each turn takes a downtime from the rest to the least rank so far.
 use Rattle.std.proofs.Common.{◌∙◌, sym, arith}
 use Rattle.downtime_book.proofs.NamingLemmas.{least_takes, least_leaves}
 use Rattle.downtime_book.proofs.naming.first_in_effect.Goals as goal

@@ -1,3 +1,4 @@
+-- The least rank of all is that of what was seen and of the rest.
 use Rattle.std.proofs.Common.{◌≡◌, map, drop}
 use Rattle.downtime_book.specs.Naming.{least}
 use Rattle.downtime_book.specs.Downtime.{after_result}

@@ -1,3 +1,4 @@
+-- A downtime that is live goes in where the order asks for it; one that is past leaves the book as it was.
 use Rattle.std.proofs.Common.{nat_le, [], ◌∷◌, ◌++◌, ◌∙◌, sym, subst, rules, tests}
 use Rattle.std.proofs.lemmas.List.Sorted.{IsPartitionPoint-from_clause, IsPartitionedBy-leb}
 use Rattle.downtime_book.specs.declared.downtime.Downtime.{Downtime}

@@ -1,3 +1,4 @@
+-- What has the number goes, and then what is past: each leaves the rest in order.
 use Rattle.std.proofs.Common.{◌==◌, not, filter, ◌∙◌, ap}
 use Rattle.std.proofs.lemmas.List.Kept.{IsNonDecreasingBy-filter}
 use Rattle.downtime_book.specs.declared.downtime.Downtime.{Downtime}

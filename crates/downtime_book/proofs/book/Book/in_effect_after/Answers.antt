@@ -1,3 +1,4 @@
+-- The walk over what is live names what the look back with one more result names.
 use Rattle.std.proofs.Common.{[], ◌∷◌, ◌++◌, ◌∙◌, sym, subst}
 use Rattle.downtime_book.specs.Calls.{downtimes, resulted}
 use Rattle.downtime_book.specs.Naming.{Names}

@@ -1,3 +1,4 @@
+-- As many downtimes are kept as are live by the look back.
 use Rattle.std.proofs.Common.{◌≡◌, rules, length, ◌==◌, ◌∙◌, ap}
 use Rattle.downtime_book.specs.Contents.{Contents}
 use Rattle.downtime_book.proofs.Steps.{length-kept}

@@ -1,3 +1,4 @@
+-- The result is met, which keeps the order, and then what is past is dropped.
 use Rattle.std.proofs.Common.{◌∙◌, ap, map, filter, length, drop, arith, IsPermutation}
 use Rattle.std.proofs.lemmas.List.Kept.{IsNonDecreasingBy-filter}
 use Rattle.downtime_book.specs.Downtime.{until, is_live, after_result}
