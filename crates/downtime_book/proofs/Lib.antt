@@ -1,0 +1,5 @@
+pub mod Lists
+pub mod LookBack
+pub mod NamingLemmas
+pub mod Order
+pub mod Steps

@@ -1,0 +1,189 @@
+// The book.
+ghost use Rattle.std.specs.Prelude.{◌≡◌, ◌≤◌, ◌↔◌, ◌==◌, List, [], ◌∷◌, ◌++◌, IsTrue, OnOk, OnErr, is_ok, length, filter};
+ghost use Rattle.downtime_book.specs.Downtime.{is_live};
+
+use crate::downtime::Downtime;
+use crate::keeping::{drop_past, meet_result, remove, trim};
+use crate::naming::first_in_effect;
+use crate::no_downtime::NoDowntime;
+use site_base::{Moment, OutOfMemory};
+use std::alloc::Global;
+use std::marker::Model;
+
+/// The downtimes of one checkable.
+///
+/// Moments don't fall: none is below the latest one that a result or a cancel brought. So the book
+/// keeps only what wasn't past then, in order of when it ends, and a call walks what is live or
+/// still to come at most: past downtimes cost neither time nor memory. Only `add` takes memory.
+#[derive(Debug, Drop)]
+pub struct Book {
+    latest: Moment,
+    downtimes: Vec<Downtime>,
+}
+
+impl Model for Book {
+    ghost use Rattle.downtime_book.specs.Contents.{Contents, IsInOrder};
+
+    ghost Value = { Contents };
+
+    ghost view = { λ b. record { latest = b.latest; downtimes = b.downtimes.items } };
+
+    ghost invariant = { λ b. IsInOrder b.downtimes.items };
+}
+
+impl Book {
+    ghost use Rattle.downtime_book.specs.Calls.{Call, added, resulted, cancelled, downtimes, is_live_in};
+    ghost use Rattle.downtime_book.specs.Contents.{StandsFor, live_downtimes};
+    ghost use Rattle.downtime_book.specs.Naming.{named, Names};
+
+    /// A book without a downtime.
+    pub fn new(alloc: Global) -> Book
+        ensures empty { StandsFor result [] }
+        ensures latest { result.latest ≡ 0 }
+    {
+        Book {
+            latest: Moment::of(0).unwrap(),
+            downtimes: Vec::new(alloc),
+        }
+    }
+
+    /// The latest moment that a result or a cancel brought, or 0.
+    pub fn latest(&self) -> Moment
+        ensures { result ≡ self.now.latest }
+    {
+        self.latest
+    }
+
+    /// How many downtimes the book keeps: those that weren't past at its latest moment.
+    pub fn len(&self) -> usize
+        ensures kept { result ≡ length self.now.downtimes }
+        ensures live { (calls : List Call) → StandsFor self.now calls →
+            result ≡ length (live_downtimes calls) }
+    {
+        self.downtimes.len()
+    }
+
+    /// Whether it keeps none.
+    pub fn is_empty(&self) -> bool
+        ensures kept { IsTrue result ↔ (self.now.downtimes ≡ []) }
+        ensures live { (calls : List Call) → StandsFor self.now calls →
+            result ≡ (length (live_downtimes calls) == 0) }
+    {
+        self.downtimes.is_empty()
+    }
+
+    /// Adds a downtime from `start` up to but not at `end`. A flexible one is in effect for
+    /// `duration` seconds from its trigger on; of a fixed one the duration counts for nothing. The
+    /// number names it from then on, so a caller gives each number once; of two downtimes with one
+    /// number a cancel takes both away. One whose span is empty is never in effect.
+    ///
+    /// # Errors
+    ///
+    /// `OutOfMemory` where there is none for one more downtime; the book is then as before.
+    pub fn add(
+        &mut self,
+        number: u64,
+        start: Moment,
+        end: Moment,
+        fixed: bool,
+        duration: u64,
+    ) -> Result<(), OutOfMemory>
+        ensures ok { OnOk result ((calls : List Call) → StandsFor self.old calls →
+            StandsFor self.new (calls ++ added number start end fixed duration ∷ [])) }
+        ensures latest { self.new.latest ≡ self.old.latest }
+        ensures err { OnErr result (self.new ≡ self.old) }
+    {
+        let downtime = Downtime::new(number, start, end, fixed, duration);
+        if downtime.is_live(self.latest) {
+            trim(&mut self.downtimes);
+            let until = downtime.until();
+            let place = self
+                .downtimes
+                .partition_point(|other| other.until() <= until);
+            self.downtimes.insert(place, downtime)?;
+        }
+        Ok(())
+    }
+
+    /// Takes the downtime of this number away for good.
+    ///
+    /// # Errors
+    ///
+    /// `NoDowntime` where no downtime of this number is live; the book is then as before.
+    pub fn cancel(&mut self, number: u64, moment: Moment) -> Result<(), NoDowntime>
+        requires { self.old.latest ≤ moment }
+        ensures live { (calls : List Call) → StandsFor self.old calls →
+            is_ok result ≡ is_live_in calls number moment }
+        ensures ok { OnOk result ((calls : List Call) → StandsFor self.old calls →
+            StandsFor self.new (calls ++ cancelled number moment ∷ [])) }
+        ensures latest { OnOk result (self.new.latest ≡ moment) }
+        ensures err { OnErr result (self.new ≡ self.old) }
+    {
+        if !self.is_live(number, moment) {
+            return Err(NoDowntime);
+        }
+        self.latest = moment;
+        remove(&mut self.downtimes, number);
+        drop_past(&mut self.downtimes, moment);
+        Ok(())
+    }
+
+    /// Whether a downtime of this number is live at this moment: neither cancelled nor past.
+    pub fn is_live(&self, number: u64, moment: Moment) -> bool
+        requires { self.now.latest ≤ moment }
+        ensures { (calls : List Call) → StandsFor self.now calls →
+            result ≡ is_live_in calls number moment }
+    {
+        self.live_at(moment)
+            .iter()
+            .any(|downtime| downtime.number == number)
+    }
+
+    /// Takes note of a result. A problem triggers each flexible downtime that waits for one.
+    pub fn on_result(&mut self, moment: Moment, problem: bool)
+        requires { self.old.latest ≤ moment }
+        ensures stands { (calls : List Call) → StandsFor self.old calls →
+            StandsFor self.new (calls ++ resulted moment problem ∷ []) }
+        ensures latest { self.new.latest ≡ moment }
+    {
+        self.latest = moment;
+        meet_result(&mut self.downtimes, moment, problem);
+        drop_past(&mut self.downtimes, moment);
+    }
+
+    /// The number of the downtime that is in effect at this moment: of several the one that starts
+    /// first, and among those the one with the least number.
+    pub fn in_effect(&self, moment: Moment) -> Option<u64>
+        requires { self.now.latest ≤ moment }
+        ensures value { (calls : List Call) → StandsFor self.now calls →
+            result ≡ named moment (downtimes calls) }
+        ensures first { (calls : List Call) → StandsFor self.now calls →
+            Names moment (downtimes calls) result }
+    {
+        first_in_effect(self.live_at(moment), moment, false)
+    }
+
+    /// What `in_effect` gives at this moment once `on_result` took this result. It changes nothing.
+    pub fn in_effect_after(&self, moment: Moment, problem: bool) -> Option<u64>
+        requires { self.now.latest ≤ moment }
+        ensures value { (calls : List Call) → StandsFor self.now calls →
+            result ≡ named moment (downtimes (calls ++ resulted moment problem ∷ [])) }
+        ensures first { (calls : List Call) → StandsFor self.now calls →
+            Names moment (downtimes (calls ++ resulted moment problem ∷ [])) result }
+    {
+        first_in_effect(self.live_at(moment), moment, problem)
+    }
+
+    // The downtimes that aren't past at this moment.
+    fn live_at(&self, moment: Moment) -> &[Downtime]
+        ensures { result.now ≡ filter (is_live moment) self.now.downtimes }
+    {
+        let past = self
+            .downtimes
+            .partition_point(|downtime| !downtime.is_live(moment));
+        &self.downtimes[past..]
+    }
+}
+
+#[cfg(test)]
+mod tests;
