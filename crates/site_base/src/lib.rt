@@ -1,7 +1,7 @@
 //! The plain values that every layer of the program speaks of.
 //!
 //! In reading order: the one error of memory, texts and lists, numbers and moments, places and
-//! diagnostics, and the trees that objects are made of.
+//! diagnostics, the trees that objects are made of, time periods, and the syntax tree.
 #![tactic(auto)]
 
 mod day;
