@@ -60,60 +60,30 @@ word_by t w ts rest false e f = cc
 word_was : (ts : List Token) (w : List ℕ) (rest : List Token) → after_word ts w ≡ Some rest → ts ≡ token.Word w ∷ rest
 word_was [] w rest e = cc
 word_was (token.Word t ∷ ts) w rest e = word_by t w ts rest (bytes_eq t w) refl e
-word_was (token.Quoted s ∷ ts) w rest e = cc
-word_was (token.OpenBrace ∷ ts) w rest e = cc
-word_was (token.CloseBrace ∷ ts) w rest e = cc
-word_was (token.Equals ∷ ts) w rest e = cc
-word_was (token.Semicolon ∷ ts) w rest e = cc
-word_was (token.Comma ∷ ts) w rest e = cc
-word_was (token.NewLine ∷ ts) w rest e = cc
+word_was (t ∷ ts) w rest e = cc
 
 word_is : (w : List ℕ) (rest : List Token) → after_word (token.Word w ∷ rest) w ≡ Some rest
 word_is w rest = ap (λ b. cond b (Some rest) None) (text_is_itself w)
 
 open_was : (ts rest : List Token) → after_open ts ≡ Some rest → ts ≡ token.OpenBrace ∷ rest
 open_was [] rest e = cc
-open_was (token.Word t ∷ ts) rest e = cc
-open_was (token.Quoted s ∷ ts) rest e = cc
 open_was (token.OpenBrace ∷ ts) rest e = cc
-open_was (token.CloseBrace ∷ ts) rest e = cc
-open_was (token.Equals ∷ ts) rest e = cc
-open_was (token.Semicolon ∷ ts) rest e = cc
-open_was (token.Comma ∷ ts) rest e = cc
-open_was (token.NewLine ∷ ts) rest e = cc
+open_was (t ∷ ts) rest e = cc
 
 close_was : (ts rest : List Token) → after_close ts ≡ Some rest → ts ≡ token.CloseBrace ∷ rest
 close_was [] rest e = cc
-close_was (token.Word t ∷ ts) rest e = cc
-close_was (token.Quoted s ∷ ts) rest e = cc
-close_was (token.OpenBrace ∷ ts) rest e = cc
 close_was (token.CloseBrace ∷ ts) rest e = cc
-close_was (token.Equals ∷ ts) rest e = cc
-close_was (token.Semicolon ∷ ts) rest e = cc
-close_was (token.Comma ∷ ts) rest e = cc
-close_was (token.NewLine ∷ ts) rest e = cc
+close_was (t ∷ ts) rest e = cc
 
 equals_was : (ts rest : List Token) → after_equals ts ≡ Some rest → ts ≡ token.Equals ∷ rest
 equals_was [] rest e = cc
-equals_was (token.Word t ∷ ts) rest e = cc
-equals_was (token.Quoted s ∷ ts) rest e = cc
-equals_was (token.OpenBrace ∷ ts) rest e = cc
-equals_was (token.CloseBrace ∷ ts) rest e = cc
 equals_was (token.Equals ∷ ts) rest e = cc
-equals_was (token.Semicolon ∷ ts) rest e = cc
-equals_was (token.Comma ∷ ts) rest e = cc
-equals_was (token.NewLine ∷ ts) rest e = cc
+equals_was (t ∷ ts) rest e = cc
 
-pub quoted_was : (ts : List Token) (p : List ℕ × List Token) → quoted_first ts ≡ Some p → ts ≡ token.Quoted p.0 ∷ p.1
+quoted_was : (ts : List Token) (p : List ℕ × List Token) → quoted_first ts ≡ Some p → ts ≡ token.Quoted p.0 ∷ p.1
 quoted_was [] p e = cc
-quoted_was (token.Word t ∷ ts) p e = cc
 quoted_was (token.Quoted s ∷ ts) p e = let is : (s, ts) ≡ p = cc in ap (λ q. token.Quoted q.0 ∷ q.1) is
-quoted_was (token.OpenBrace ∷ ts) p e = cc
-quoted_was (token.CloseBrace ∷ ts) p e = cc
-quoted_was (token.Equals ∷ ts) p e = cc
-quoted_was (token.Semicolon ∷ ts) p e = cc
-quoted_was (token.Comma ∷ ts) p e = cc
-quoted_was (token.NewLine ∷ ts) p e = cc
+quoted_was (t ∷ ts) p e = cc
 
 -- the object at the head, and the tokens behind it
 record Read (kind attribute : List ℕ) (ts : List Token) (f : Found) : Type 0 where
