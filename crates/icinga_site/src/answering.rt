@@ -1,7 +1,7 @@
 // What answers to `objects ROOT`.
 ghost use Rattle.std.specs.Prelude.{◌≡◌, [], ◌∷◌, IfOk, option_map};
 ghost use Rattle.site_text.specs.Diags.{kind_text};
-ghost use Rattle.icinga_site.specs.Answers.{reply_of, reply_to, reply_to_objects, diagnosis as diagnosis_of, listing as listing_of, listed, not_yet as not_yet_of};
+ghost use Rattle.icinga_site.specs.Answers.{Reply, AnswersContent, reply_of, reply_to, reply_to_objects, diagnosis as diagnosis_of, listing as listing_of, listed, not_yet as not_yet_of};
 ghost use Rattle.icinga_site.specs.ObjectReading.{named_of, objects_of, pair_of};
 ghost use Rattle.icinga_site.specs.TokenReading.{tokens_of};
 
@@ -39,7 +39,10 @@ const NO_ITEM: ItemNo = ItemNo {
 
 /// What answers to what the root holds, where it is there.
 pub fn answer_to(alloc: Global, root: &str, content: Option<Blob>) -> Result<Answer, OutOfMemory>
-    ensures { IfOk result (λ a. reply_of a ≡ reply_to root.now content) }
+    ensures value { IfOk result (λ a. reply_of a ≡ reply_to root.now content) }
+    ensures answers { IfOk result (λ a. AnswersContent root.now content (reply_of a)) }
+    ensures only { IfOk result (λ a.
+        (reply : Reply) → AnswersContent root.now content reply → reply ≡ reply_of a) }
 {
     match content {
         None => diagnosis(alloc, root, DiagKind::NoFile, quote(alloc, root)?),
