@@ -1,0 +1,6 @@
+pub mod Changes
+pub mod Circles
+pub mod Firsts
+pub mod Scans
+pub mod Slots
+pub mod Walks

@@ -1,0 +1,6 @@
+pub mod Due
+pub mod Inside
+pub mod Links
+pub mod Members
+pub mod Rings
+pub mod Walk
