@@ -25,3 +25,6 @@ pub use links::Links;
 pub use present::Present;
 pub use steps::Steps;
 pub use wheel::Wheel;
+
+#[cfg(test)]
+mod tests;
