@@ -12,12 +12,13 @@ use Rattle.wheel_links.specs.Due.{IsBefore}
 use Rattle.wheel_links.specs.Inside.{IsWheel, IsLeast}
 use Rattle.wheel_links.specs.Links.{after_at, before_at, IsUnlinked, IsAppended, AreAlone}
 use Rattle.wheel_links.specs.Members.{Members, moment_of, member_count, insert, remove, empty}
-use Rattle.wheel_links.specs.Rings.{HasRings, AreInOrder, slot_of, flag_of}
+use Rattle.wheel_links.specs.Rings.{AreSlots, HasRings, AreInOrder, slot_of, flag_of}
 use Rattle.wheel_links.specs.Walk.{entry_of, is_before}
 use Rattle.wheel_links.proofs.Circles.{alone, taken_out, put_in}
 use Rattle.wheel_links.proofs.Firsts.{before_trans, before_true}
 use Rattle.wheel_links.proofs.Walks.{entry-member}
-use Rattle.wheel_links.proofs.Slots.{slot-head, slot-id, slot-member, slot-set_other, slot-set_same, member_of_slot, member_within, slot_within}
+use Rattle.wheel_links.proofs.Members.{count-empty, count-insert, count-remove, length-empty, member_left, member_then, member_within, none_at_first}
+use Rattle.wheel_links.proofs.Slots.{slot-head, slot-id, slot-member, slot-set_other, slot-set_same, member_of_slot, slot_within}
 
 when_equal : {A : Type 0} (x y : ℕ) (a b : A) → x ≡ y → (if x == y then a else b) ≡ a
 when_equal x y a b e = grind (arith, nat_tests)
@@ -56,29 +57,6 @@ appended_cell n ms links links' id m some r at within app =
     (λ x ne new. app.before x ∙ when_other x s _ _ ne ∙ when_other x c _ _ new)
     (slot-set_same n ms id (Some m) within)
     (λ x ne. slot-set_other n ms id (Some m) x ne)
-
--- at another id a change is not seen
-moment-set_other : (ms : Members) (id : ℕ) (v : Option ℕ) (other : ℕ) → other ≢ id → moment_of (set ms id v) other ≡ moment_of ms other
-moment-set_other ms id v other ne = get_or-set_other ms id other v None ne
-
--- a member after a removal is another, and was one before
-member_left : (ms : Members) (id other m : ℕ) → moment_of (remove ms id) other ≡ Some m → (other ≢ id) × (moment_of ms other ≡ Some m)
-member_left ms id other m at =
-    elim (cases_eq other id) [
-      | inl e ↦ elim (cases_lt id (length ms)) [
-        | inl within ↦ absurd (none-some m (sym (get_or-set_same ms id None None within) ∙ ap (moment_of (remove ms id)) (sym e) ∙ at))
-        | inr past ↦ absurd (none-some m (sym (get_or_past (remove ms id) other None (omega (arith, length-set ms id None))) ∙ at))
-      ]
-      | inr ne ↦ (ne, sym (moment-set_other ms id None other ne) ∙ at)
-    ]
-
--- a member after an insertion is the new one, or was one before
-member_then : (ms : Members) (id m other k : ℕ) → id < length ms → moment_of (insert ms id m) other ≡ Some k → ((other ≡ id) × (k ≡ m)) ⊎ ((other ≢ id) × (moment_of ms other ≡ Some k))
-member_then ms id m other k within at =
-    elim (cases_eq other id) [
-      | inl e ↦ inl (e, same_Some k m (sym at ∙ ap (moment_of (insert ms id m)) e ∙ get_or-set_same ms id (Some m) None within))
-      | inr ne ↦ inr (ne, sym (moment-set_other ms id (Some m) other ne) ∙ at)
-    ]
 
 order_left : (n : ℕ) (ms : Members) (links links' : List Link) (flags : List Bool) (id m : ℕ) → HasRings n ms links → moment_of ms id ≡ Some m → IsUnlinked links links' (n + id)
     → AreInOrder n ms links flags → AreInOrder n (remove ms id) links' flags
@@ -170,21 +148,6 @@ order_then n ms links links' flags id m some len r at within app ordered = λ x 
     ordered x k other j w.1 old_other old_back old_marked)
     (member_then ms id m x k within at_x)
 
--- one member for each place that holds a moment
-count-insert : (ms : Members) (id m : ℕ) → id < length ms → moment_of ms id ≡ None → member_count (insert ms id m) ≡ member_count ms + 1
-count-insert ms id m within at =
-    let h = sum_by-set (λ (x : Option ℕ). cond (is_some x) 1 0) ms id (Some m) None within in
-    let held : Option ℕ → ℕ = λ o. cond (is_some o) 1 0 in
-    let z : held (moment_of ms id) ≡ 0 = ap held at in
-    omega (arith, h, z)
-
-count-remove : (ms : Members) (id m : ℕ) → moment_of ms id ≡ Some m → member_count (remove ms id) + 1 ≡ member_count ms
-count-remove ms id m at =
-    let h = sum_by-set (λ (x : Option ℕ). cond (is_some x) 1 0) ms id None None (member_within ms id m at) in
-    let held : Option ℕ → ℕ = λ o. cond (is_some o) 1 0 in
-    let z : held (moment_of ms id) ≡ 1 = ap held at in
-    omega (arith, h, z)
-
 least_then : (ms : Members) (id m least : ℕ) → id < length ms → moment_of ms id ≡ None → IsLeast ms least → IsLeast (insert ms id m) (if member_count ms == 0 then m else min least m)
 least_then ms id m least within at is_least = λ x k at_x. ⊎_elim
     (λ w. grind (arith, nat_tests))
@@ -209,78 +172,71 @@ least_left n ms links' id least raised some r empty is_least = λ x k at_x.
 
 -- a member is put in
 pub wheel-insert : (n : ℕ) (ms : Members) (links links' : List Link) (flags : List Bool) (least count id m : ℕ) → IsWheel n ms links flags least count
-    → id < length ms → moment_of ms id ≡ None → m ≤ 99999999999 → length links' ≡ length links → IsAppended links links' (m % n) (n + id)
+    → id < length ms → moment_of ms id ≡ None → length links' ≡ length links → IsAppended links links' (m % n) (n + id)
     → IsWheel n (insert ms id m) links' (set flags (m % n) (stays n ms links flags id m)) (if count == 0 then m else min least m) (count + 1)
-wheel-insert n ms links links' flags least count id m w within at small len app = record {
-  some_slots = w.some_slots;
-  few_slots = w.few_slots;
-  few_ids = omega (arith, length-set ms id (Some m), w.few_ids);
-  cells = omega (arith, length-set ms id (Some m), w.cells);
-  flags_len = length-set flags (m % n) (stays n ms links flags id m) ∙ w.flags_len;
-  counted = omega (arith, count-insert ms id m within at, w.counted);
-  least_in = grind (arith, nat_tests, w.least_in);
-  least_is = subst (λ k. IsLeast (insert ms id m) (if k == 0 then m else min least m)) (sym w.counted) (least_then ms id m least within at w.least_is);
-  rings = appended_cell n ms links links' id m w.some_slots w.rings at within app;
-  in_order = order_then n ms links links' flags id m w.some_slots w.flags_len w.rings at within app w.in_order;
-}
+wheel-insert n ms links links' flags least count id m w within at len app =
+    let a = w.slotted in
+    record {
+      slotted = record {
+        some_slots = a.some_slots;
+        few_slots = a.few_slots;
+        few_ids = omega (arith, length-set ms id (Some m), a.few_ids);
+        cells = omega (arith, length-set ms id (Some m), a.cells);
+        flag_each = length-set flags (m % n) (stays n ms links flags id m) ∙ a.flag_each;
+        rings = appended_cell n ms links links' id m a.some_slots a.rings at within app;
+        in_order = order_then n ms links links' flags id m a.some_slots a.flag_each a.rings at within app a.in_order;
+      };
+      least_is = subst (λ k. IsLeast (insert ms id m) (if k == 0 then m else min least m)) (sym w.counted) (least_then ms id m least within at w.least_is);
+      counted = omega (arith, count-insert ms id m within at, w.counted);
+    }
 
 -- a member is taken out
 pub wheel-remove : (n : ℕ) (ms : Members) (links links' : List Link) (flags : List Bool) (least count id m raised : ℕ) → IsWheel n ms links flags least count
-    → moment_of ms id ≡ Some m → length links' ≡ length links → IsUnlinked links links' (n + id) → raised ≤ 99999999999
+    → moment_of ms id ≡ Some m → length links' ≡ length links → IsUnlinked links links' (n + id)
     → ((k : ℕ) → least ≤ k → k < raised → after_at links' (k % n) ≡ k % n)
     → IsWheel n (remove ms id) links' flags raised (count - 1)
-wheel-remove n ms links links' flags least count id m raised w at len un small empty = record {
-  some_slots = w.some_slots;
-  few_slots = w.few_slots;
-  few_ids = omega (arith, length-set ms id None, w.few_ids);
-  cells = omega (arith, length-set ms id None, w.cells);
-  flags_len = w.flags_len;
-  counted = omega (arith, count-remove ms id m at, w.counted);
-  least_in = small;
-  least_is = least_left n ms links' id least raised w.some_slots (unlinked_cell n ms links links' id m w.rings at un) empty w.least_is;
-  rings = unlinked_cell n ms links links' id m w.rings at un;
-  in_order = order_left n ms links links' flags id m w.rings at un w.in_order;
-}
+wheel-remove n ms links links' flags least count id m raised w at len un empty =
+    let a = w.slotted in
+    record {
+      slotted = record {
+        some_slots = a.some_slots;
+        few_slots = a.few_slots;
+        few_ids = omega (arith, length-set ms id None, a.few_ids);
+        cells = omega (arith, length-set ms id None, a.cells);
+        flag_each = a.flag_each;
+        rings = unlinked_cell n ms links links' id m a.rings at un;
+        in_order = order_left n ms links links' flags id m a.rings at un a.in_order;
+      };
+      least_is = least_left n ms links' id least raised a.some_slots (unlinked_cell n ms links links' id m a.rings at un) empty w.least_is;
+      counted = omega (arith, count-remove ms id m at, w.counted);
+    }
 
 -- the neighbours of a ring's cell exist
-pub before_within : (n : ℕ) (ms : Members) (links : List Link) (flags : List Bool) (least count c s : ℕ) → IsWheel n ms links flags least count → slot_of n ms c ≡ Some s → before_at links c < length links
-before_within n ms links flags least count c s w here =
-    let h = slot_within n ms (before_at links c) s (w.rings.before_in c s here) in
-    omega (arith, h, w.cells)
+pub before_within : (n : ℕ) (ms : Members) (links : List Link) (flags : List Bool) (c s : ℕ) → AreSlots n ms links flags → slot_of n ms c ≡ Some s → before_at links c < length links
+before_within n ms links flags c s a here =
+    let h = slot_within n ms (before_at links c) s (a.rings.before_in c s here) in
+    omega (arith, h, a.cells)
 
-pub after_within : (n : ℕ) (ms : Members) (links : List Link) (flags : List Bool) (least count c s : ℕ) → IsWheel n ms links flags least count → slot_of n ms c ≡ Some s → after_at links c < length links
-after_within n ms links flags least count c s w here =
-    let h = slot_within n ms (after_at links c) s (w.rings.after_in c s here) in
-    omega (arith, h, w.cells)
+pub after_within : (n : ℕ) (ms : Members) (links : List Link) (flags : List Bool) (c s : ℕ) → AreSlots n ms links flags → slot_of n ms c ≡ Some s → after_at links c < length links
+after_within n ms links flags c s a here =
+    let h = slot_within n ms (after_at links c) s (a.rings.after_in c s here) in
+    omega (arith, h, a.cells)
 
--- what put_in leaves, in the terms of its calls
-pub wheel-insert_as : (n : ℕ) (ms : Members) (links links' : List Link) (flags : List Bool) (least count id m secs : ℕ) (stay : Bool) (low : ℕ) → IsWheel n ms links flags least count
-    → id < length ms → moment_of ms id ≡ None → secs ≤ 99999999999 → length links' ≡ length links → IsAppended links links' (secs % n) (n + id)
-    → secs ≡ m → stay ≡ stays n ms links flags id secs → low ≡ (if count == 0 then secs else min least secs)
-    → IsWheel n (insert ms id m) links' (set flags (secs % n) stay) low (count + 1)
-wheel-insert_as n ms links links' flags least count id m secs stay low w within at small len app same stay_is low_is =
-    subst (λ z. IsWheel n (insert ms id z) links' (set flags (secs % n) stay) low (count + 1)) same
-    (subst (λ z. IsWheel n (insert ms id secs) links' (set flags (secs % n) z) low (count + 1)) (sym stay_is)
-    (subst (λ z. IsWheel n (insert ms id secs) links' (set flags (secs % n) (stays n ms links flags id secs)) z (count + 1)) (sym low_is)
-    (wheel-insert n ms links links' flags least count id secs w within at small len app)))
-
-length-empty : (capacity : ℕ) → length (empty capacity) ≡ capacity
-length-empty capacity = length-replicate capacity None
-
-none_at_first : (capacity id m : ℕ) → moment_of (empty capacity) id ≡ Some m → ⊥
-none_at_first capacity id m at = none-some m (sym (elim (cases_lt id capacity) [
-  | inl low ↦ get_or-replicate capacity id None None low
-  | inr high ↦ get_or_past (empty capacity) id None (omega (arith, length-empty capacity))
-]) ∙ at)
-
-count-empty : (capacity : ℕ) → member_count (empty capacity) ≡ 0
-count-empty zero = refl
-count-empty (suc capacity) = count-empty capacity
+-- the same, in the terms of the calls that do it
+pub wheel-insert_as : (n : ℕ) (ms : Members) (links links' : List Link) (flags : List Bool) (least count id m s : ℕ) (stay : Bool) (low : ℕ) → IsWheel n ms links flags least count
+    → id < length ms → moment_of ms id ≡ None → length links' ≡ length links → IsAppended links links' s (n + id)
+    → s ≡ m % n → stay ≡ stays n ms links flags id m → low ≡ (if count == 0 then m else min least m)
+    → IsWheel n (insert ms id m) links' (set flags s stay) low (count + 1)
+wheel-insert_as n ms links links' flags least count id m s stay low w within at len app slot_is stay_is low_is =
+    subst (λ z. IsWheel n (insert ms id m) links' (set flags z stay) low (count + 1)) (sym slot_is)
+    (subst (λ z. IsWheel n (insert ms id m) links' (set flags (m % n) z) low (count + 1)) (sym stay_is)
+    (subst (λ z. IsWheel n (insert ms id m) links' (set flags (m % n) (stays n ms links flags id m)) z (count + 1)) (sym low_is)
+    (wheel-insert n ms links links' flags least count id m w within at len (subst (λ z. IsAppended links links' z (n + id)) slot_is app))))
 
 -- a wheel with no member
-pub wheel-empty : (n capacity : ℕ) (links : List Link) (flags : List Bool) → 0 < n → n < 2 ^ 32 → capacity < 2 ^ 32 - 1 → length links ≡ n + capacity → length flags ≡ n → AreAlone links
-    → IsWheel n (empty capacity) links flags 0 0
-wheel-empty n capacity links flags some few few_ids cells len alone_each =
+pub wheel-empty : (n capacity least : ℕ) (links : List Link) (flags : List Bool) → 0 < n → n < 2 ^ 32 → capacity < 2 ^ 32 - 1 → length links ≡ n + capacity → length flags ≡ n → AreAlone links
+    → IsWheel n (empty capacity) links flags least 0
+wheel-empty n capacity least links flags some few few_ids cells len alone_each =
     let len_ms : length (empty capacity) ≡ capacity = length-empty capacity in
     let low : (c s : ℕ) → slot_of n (empty capacity) c ≡ Some s → c < n = λ c s here. elim (cases_lt c n) [
       | inl below ↦ below
@@ -289,21 +245,22 @@ wheel-empty n capacity links flags some few few_ids cells len alone_each =
     let own_after : (c s : ℕ) → slot_of n (empty capacity) c ≡ Some s → after_at links c ≡ c = λ c s here. let below = low c s here in ap (λ (l : Link). l.after) (alone_each c (omega arith)) in
     let own_before : (c s : ℕ) → slot_of n (empty capacity) c ≡ Some s → before_at links c ≡ c = λ c s here. let below = low c s here in ap (λ (l : Link). l.before) (alone_each c (omega arith)) in
     record {
-      some_slots = some;
-      few_slots = few;
-      few_ids = omega (arith, len_ms);
-      cells = omega (arith, len_ms);
-      flags_len = len;
-      counted = sym (count-empty capacity);
-      least_in = omega arith;
-      least_is = λ id m at. absurd (none_at_first capacity id m at);
-      rings = record {
-        rank = λ c. c;
-        after_in = λ c s here. ap (slot_of n (empty capacity)) (own_after c s here) ∙ here;
-        before_in = λ c s here. ap (slot_of n (empty capacity)) (own_before c s here) ∙ here;
-        back = λ c s here. ap (before_at links) (own_after c s here) ∙ own_before c s here;
-        forth = λ c s here. ap (after_at links) (own_before c s here) ∙ own_after c s here;
-        rises = λ c s here high. let below = low c s here in absurd (omega arith);
+      slotted = record {
+        some_slots = some;
+        few_slots = few;
+        few_ids = omega (arith, len_ms);
+        cells = omega (arith, len_ms);
+        flag_each = len;
+        rings = record {
+          rank = λ c. c;
+          after_in = λ c s here. ap (slot_of n (empty capacity)) (own_after c s here) ∙ here;
+          before_in = λ c s here. ap (slot_of n (empty capacity)) (own_before c s here) ∙ here;
+          back = λ c s here. ap (before_at links) (own_after c s here) ∙ own_before c s here;
+          forth = λ c s here. ap (after_at links) (own_before c s here) ∙ own_after c s here;
+          rises = λ c s here high. let below = low c s here in absurd (omega arith);
+        };
+        in_order = λ id m other j at_id at_other back marked. absurd (none_at_first capacity id m at_id);
       };
-      in_order = λ id m other j at_id at_other back marked. absurd (none_at_first capacity id m at_id);
+      least_is = λ id m at. absurd (none_at_first capacity id m at);
+      counted = sym (count-empty capacity);
     }

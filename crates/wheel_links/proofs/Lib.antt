@@ -1,6 +1,7 @@
 pub mod Changes
 pub mod Circles
 pub mod Firsts
+pub mod Members
 pub mod Scans
 pub mod Slots
 pub mod Walks

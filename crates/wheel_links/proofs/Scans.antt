@@ -1,12 +1,12 @@
 -- The search over the slots: which members were passed, and when the first of those is the first that is due.
-use Rattle.std.proofs.Common.{◌≡◌, ℕ, ◌+◌, ◌-◌, ◌%◌, ◌<◌, ◌≤◌, ◌⊎◌, ⊎_elim, Option, Some, None, IfSome, true, false, is_some, refl, sym, ap, subst, ◌∙◌, inl, inr, arith}
+use Rattle.std.proofs.Common.{◌≡◌, ℕ, ◌+◌, ◌-◌, ◌%◌, ◌<◌, ◌≤◌, ◌⊎◌, ⊎_elim, Option, Some, None, IfSome, true, false, refl, sym, ap, ◌∙◌, inl, inr, arith}
 use Rattle.std.proofs.Math.Nat.{add-mod_right, add-mod-mod, mod-add-mod, mod-eq_of_lt, mod-lt}
 use Rattle.std.proofs.lemmas.Bool.{cases_lt, false≢true}
 use Rattle.std.proofs.lemmas.Bool.Decides.{nat_tests}
 use Rattle.wheel_links.specs.declared.entry.Entry.{Entry}
 use Rattle.wheel_links.specs.Inside.{IsLeast}
 use Rattle.wheel_links.specs.Members.{Members}
-use Rattle.wheel_links.specs.Walk.{IsFirst, due_by, earlier_of}
+use Rattle.wheel_links.specs.Walk.{IsFirst, is_due_by, earlier_of}
 use Rattle.wheel_links.proofs.Firsts.{first_of_both, first_of_same}
 
 -- the remainder of a sum that is below twice the divisor
@@ -99,33 +99,32 @@ pub all_passed : (ms : Members) (least n : ℕ) (a : Option Entry) → 0 < n →
 all_passed ms least n a some first =
     first_of_same ms (IsPassed least n n) (λ m. m ≡ m) a (λ id m at h. refl) (λ id m at h. mod-lt (m - least) some) first
 
-due_by_true : (e : Entry) (at : ℕ) → e.moment ≤ at → due_by (Some e) at ≡ Some e
-due_by_true e at low = grind (arith, nat_tests)
+due_by_true : (e : Entry) (at : ℕ) → is_due_by (Some e) at ≡ true → e.moment ≤ at
+due_by_true e at h = grind (arith, nat_tests)
 
-due_by_false : (e : Entry) (at : ℕ) → at < e.moment → due_by (Some e) at ≡ None
-due_by_false e at high = grind (arith, nat_tests)
+due_by_false : (e : Entry) (at : ℕ) → is_due_by (Some e) at ≡ false → at < e.moment
+due_by_false e at h = grind (arith, nat_tests)
 
 -- what the search returns early is the first that is due
 pub found : (ms : Members) (least n passed now : ℕ) (a : Option Entry) → IsLeast ms least → passed < n → least + passed ≤ now
-    → IsFirst ms (IsPassed least n (passed + 1)) a → is_some (due_by a (least + passed)) ≡ true → IsFirst ms (λ m. m ≤ now) (due_by a (least + passed))
+    → IsFirst ms (IsPassed least n (passed + 1)) a → is_due_by a (least + passed) ≡ true → IsFirst ms (λ m. m ≤ now) a
 found ms least n passed now None is_least low before first some = absurd (false≢true some)
-found ms least n passed now (Some e) is_least low before first some = elim (cases_lt (least + passed) e.moment) [
-  | inl high ↦ absurd (false≢true (sym (ap is_some (due_by_false e (least + passed) high)) ∙ some))
-  | inr near ↦ subst (IsFirst ms (λ m. m ≤ now)) (sym (due_by_true e (least + passed) near)) (found_due ms least n passed now e is_least low before near first)
-]
+found ms least n passed now (Some e) is_least low before first some =
+    found_due ms least n passed now e is_least low before (due_by_true e (least + passed) some) first
 
 -- and where it goes on, the first so far lies beyond
-pub goes_on : (a : Option Entry) (at : ℕ) → is_some (due_by a at) ≡ false → IfSome a (λ e. at + 1 ≤ e.moment)
+pub goes_on : (a : Option Entry) (at : ℕ) → is_due_by a at ≡ false → IfSome a (λ e. at + 1 ≤ e.moment)
 goes_on None at none = tt
-goes_on (Some e) at none = elim (cases_lt at e.moment) [
-  | inl high ↦ omega arith
-  | inr near ↦ absurd (false≢true (sym none ∙ ap is_some (due_by_true e at near)))
-]
+goes_on (Some e) at none = let h = due_by_false e at none in omega (arith, h)
 
 -- at the end it has the first of all members
-pub found_last : (ms : Members) (now : ℕ) (a : Option Entry) → IsFirst ms (λ m. m ≡ m) a → IsFirst ms (λ m. m ≤ now) (due_by a now)
-found_last ms now None first = λ id m at due. first id m at refl
-found_last ms now (Some e) first = elim (cases_lt now e.moment) [
-  | inl late ↦ subst (IsFirst ms (λ m. m ≤ now)) (sym (due_by_false e now late)) (λ id m at due. let h = first.2 id m at refl in omega (arith, h.0))
-  | inr due ↦ subst (IsFirst ms (λ m. m ≤ now)) (sym (due_by_true e now due)) (first.0, due, λ id m at h. first.2 id m at refl)
-]
+pub found_last : (ms : Members) (now : ℕ) (a : Option Entry) → IsFirst ms (λ m. m ≡ m) a → is_due_by a now ≡ true → IsFirst ms (λ m. m ≤ now) a
+found_last ms now None first some = absurd (false≢true some)
+found_last ms now (Some e) first some = (first.0, due_by_true e now some, λ id m at h. first.2 id m at refl)
+
+pub none_last : (ms : Members) (now : ℕ) (a : Option Entry) → IsFirst ms (λ m. m ≡ m) a → is_due_by a now ≡ false → IsFirst ms (λ m. m ≤ now) None
+none_last ms now None first none = λ id m at due. first id m at refl
+none_last ms now (Some e) first none = λ id m at due.
+    let late = due_by_false e now none in
+    let h = first.2 id m at refl in
+    omega (arith, late, h.0)

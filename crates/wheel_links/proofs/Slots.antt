@@ -1,11 +1,12 @@
 -- The slot of a cell, and the slots after a change of one member.
-use Rattle.std.proofs.Common.{◌≡◌, ◌≢◌, ℕ, ◌+◌, ◌-◌, ◌%◌, ◌<◌, ◌≤◌, Option, Some, None, length, set, refl, sym, ap, ◌∙◌, inl, inr, arith, get_or-set_other, get_or-set_same}
+use Rattle.std.proofs.Common.{◌≡◌, ◌≢◌, ℕ, ◌+◌, ◌-◌, ◌%◌, ◌<◌, ◌≤◌, Option, Some, None, IsSome, length, set, refl, sym, ap, subst, ◌∙◌, inl, inr, arith, get_or-set_other, get_or-set_same}
 use Rattle.std.proofs.lemmas.Bool.{cases_lt}
 use Rattle.std.proofs.lemmas.Bool.Decides.{nat_tests}
 use Rattle.std.proofs.lemmas.List.{get_or_past}
 use Rattle.std.proofs.lemmas.Option.{none-some, same_Some}
 use Rattle.std.specs.Option.{option_map}
-use Rattle.wheel_links.specs.Members.{Members, moment_of}
+use Rattle.wheel_links.specs.Members.{Members, IsMember, moment_of}
+use Rattle.wheel_links.proofs.Members.{is_member, member_within}
 use Rattle.wheel_links.specs.Rings.{slot_of}
 
 option_map_some : (f : ℕ → ℕ) (o : Option ℕ) (s : ℕ) → option_map f o ≡ Some s → (m : ℕ) × (o ≡ Some m) × (f m ≡ s)
@@ -34,12 +35,8 @@ slot-member n ms id m e = slot-id n ms id ∙ ap (option_map (λ k. k % n)) e
 pub member_of_slot : (n : ℕ) (ms : Members) (c s : ℕ) → slot_of n ms c ≡ Some s → n ≤ c → (m : ℕ) × (moment_of ms (c - n) ≡ Some m) × (m % n ≡ s)
 member_of_slot n ms c s here high = option_map_some (λ m. m % n) (moment_of ms (c - n)) s (sym (slot-high n ms c high) ∙ here)
 
--- a member's id is below the capacity
-pub member_within : (ms : Members) (id m : ℕ) → moment_of ms id ≡ Some m → id < length ms
-member_within ms id m e = elim (cases_lt id (length ms)) [
-  | inl low ↦ low
-  | inr high ↦ absurd (none-some m (sym (get_or_past ms id None high) ∙ e))
-]
+pub is_member_of_slot : (n : ℕ) (ms : Members) (c s : ℕ) → slot_of n ms c ≡ Some s → n ≤ c → IsMember ms (c - n)
+is_member_of_slot n ms c s here high = let m = member_of_slot n ms c s here high in is_member ms (c - n) m.0 m.1
 
 -- a cell of a ring exists
 pub slot_within : (n : ℕ) (ms : Members) (c s : ℕ) → slot_of n ms c ≡ Some s → c < n + length ms

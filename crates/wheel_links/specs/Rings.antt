@@ -1,10 +1,10 @@
 -- The rings: one for each slot, through the slot's head and the cells of the slot's members.
 -- The cells below the number of slots are the heads, and an id's cell stands that much further on.
-use Rattle.std.specs.Prelude.{◌≡◌, ℕ, ◌+◌, ◌-◌, ◌%◌, ◌<◌, ◌≤◌, nat_lt, List, Bool, true, false, Option, Some, slice_index_or, if◌then◌else◌}
+use Rattle.std.specs.Prelude.{◌≡◌, ℕ, ◌+◌, ◌-◌, ◌%◌, ◌^◌, ◌<◌, ◌≤◌, nat_lt, List, Bool, true, false, Option, Some, length, slice_index_or, if◌then◌else◌}
 use Rattle.std.specs.Option.{option_map}
 use Rattle.wheel_links.specs.declared.link.Link.{Link}
 use Rattle.wheel_links.specs.Links.{after_at, before_at}
-use Rattle.wheel_links.specs.Members.{Members, moment_of}
+use Rattle.wheel_links.specs.Members.{Members, capacity_of, moment_of}
 use Rattle.wheel_links.specs.Due.{IsBefore}
 
 -- the slot whose ring the cell stands in: a head's own, and that of a member's moment
@@ -33,3 +33,13 @@ abbrev pub AreInOrder : ℕ → Members → List Link → List Bool → Type 0
 AreInOrder slots members links flags =
     (id moment other other_moment : ℕ) → moment_of members id ≡ Some moment → moment_of members other ≡ Some other_moment
     → before_at links (slots + id) ≡ slots + other → flag_of flags (moment % slots) ≡ true → IsBefore other_moment other moment id
+
+-- each member stands in the ring of its moment's slot, and what is marked is in order
+pub record AreSlots (slots : ℕ) (members : Members) (links : List Link) (flags : List Bool) : Type 0 where
+  pub some_slots : 0 < slots
+  pub few_slots : slots < 2 ^ 32
+  pub few_ids : capacity_of members < 2 ^ 32 - 1
+  pub cells : length links ≡ slots + capacity_of members
+  pub flag_each : length flags ≡ slots
+  pub rings : HasRings slots members links
+  pub in_order : AreInOrder slots members links flags

@@ -1,5 +1,5 @@
 -- The walk along a ring for the member that is due first.
-use Rattle.std.specs.Prelude.{◌≡◌, ◌==◌, ℕ, zero, suc, ◌-◌, ◌&&◌, ◌||◌, nat_lt, nat_le, Bool, List, [], ◌∷◌, Option, Some, None, if◌then◌else◌, unwrap_or}
+use Rattle.std.specs.Prelude.{◌≡◌, ◌==◌, ℕ, zero, suc, ◌-◌, ◌&&◌, ◌||◌, nat_lt, nat_le, Bool, false, List, [], ◌∷◌, Option, Some, None, if◌then◌else◌, unwrap_or}
 use Rattle.wheel_links.specs.declared.link.Link.{Link}
 use Rattle.wheel_links.specs.declared.entry.Entry.{Entry}
 use Rattle.wheel_links.specs.Links.{after_at}
@@ -19,10 +19,10 @@ earlier_of (Some a) (Some b) = Some (earlier a b)
 earlier_of (Some a) None = Some a
 earlier_of None b = b
 
--- the member, if its moment is at or before this one
-abbrev pub due_by : Option Entry → ℕ → Option Entry
-due_by None at = None
-due_by (Some e) at = if nat_le e.moment at then Some e else None
+-- there is one, and its moment is at or before this one
+abbrev pub is_due_by : Option Entry → ℕ → Bool
+is_due_by None at = false
+is_due_by (Some e) at = nat_le e.moment at
 
 abbrev pub entry_of : ℕ → Members → ℕ → Entry
 entry_of slots members cell = record { moment = unwrap_or (moment_of members (cell - slots)) 0; id = cell - slots }

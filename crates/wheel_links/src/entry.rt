@@ -1,23 +1,29 @@
-// A member and its moment.
+// A member with its moment.
 ghost use Rattle.std.specs.Prelude.{◌≡◌};
-ghost use Rattle.wheel_links.specs.Walk.{earlier, is_before};
 
-/// A member of the wheel and its moment, in seconds from 1970.
-#[derive(Clone, Copy, Debug, PartialEq, Eq)]
+use site_base::Moment;
+
+/// A member of the wheel with its moment.
+#[derive(Clone, Copy, Debug)]
 pub(crate) struct Entry {
-    pub(crate) moment: u64,
-    pub(crate) id: u64,
+    pub(crate) moment: Moment,
+    pub(crate) id: u32,
 }
 
-pub(crate) fn is_before(a: Entry, b: Entry) -> bool
-    ensures { result ≡ is_before a b }
-{
-    a.moment < b.moment || (a.moment == b.moment && a.id < b.id)
-}
+impl Entry {
+    ghost use Rattle.wheel_links.specs.Walk.{earlier, is_before};
 
-/// The one of two members that is due first.
-pub(crate) fn earlier(best: Entry, new: Entry) -> Entry
-    ensures { result ≡ earlier best new }
-{
-    if is_before(new, best) { new } else { best }
+    /// Whether this one is due before another: the moment decides, and then the id.
+    pub(crate) fn is_before(&self, other: &Entry) -> bool
+        ensures { result ≡ is_before self.now other.now }
+    {
+        self.moment < other.moment || (self.moment == other.moment && self.id < other.id)
+    }
+
+    /// The one of two that is due first.
+    pub(crate) fn earlier(self, new: Entry) -> Entry
+        ensures { result ≡ earlier self new }
+    {
+        if new.is_before(&self) { new } else { self }
+    }
 }

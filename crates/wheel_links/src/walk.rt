@@ -1,24 +1,22 @@
 // The walk along a slot's ring.
-ghost use Rattle.std.specs.Prelude.{◌≡◌, ◌+◌, ◌%◌, ◌<◌, ◌≤◌, ◌^◌, ◌&&◌, ◌||◌, nat_lt, length, Some};
-ghost use Rattle.wheel_links.specs.Links.{after_at};
-ghost use Rattle.wheel_links.specs.Rings.{HasRings, AreInOrder, slot_of};
+ghost use Rattle.std.specs.Prelude.{◌≡◌, ◌+◌, ◌-◌, ◌%◌, ◌<◌, ◌≤◌, ◌^◌, ◌&&◌, ◌||◌, nat_lt, length, Some};
+ghost use Rattle.wheel_links.specs.Members.{IsMember};
+ghost use Rattle.wheel_links.specs.Rings.{AreSlots, HasRings, slot_of};
 ghost use Rattle.wheel_links.specs.Walk.{IsFirst, earliest, entry_of, followed, is_before};
 
 use crate::Links;
-use crate::entry::{Entry, earlier, is_before};
+use crate::entry::Entry;
 use site_base::Moment;
 
 /// The member whose cell this is.
 fn entry_at(moments: &[Option<Moment>], slots: u64, cell: u64) -> Entry
+    requires few { length moments.now < 2 ^ 32 }
     requires cell { slots ≤ cell }
-    requires within { cell < slots + length moments.now }
+    requires member { IsMember moments.now (cell - slots) }
     ensures { result ≡ entry_of slots moments.now cell }
 {
-    let id = cell - slots;
-    let moment = match moments[id as usize] {
-        Some(moment) => moment.secs(),
-        None => 0,
-    };
+    let id = (cell - slots) as u32;
+    let moment = moments[id as usize].unwrap();
     Entry { moment, id }
 }
 
@@ -31,11 +29,11 @@ fn walked(
     first: Entry,
     start: u64,
 ) -> Entry
+    requires few_slots { slots < 2 ^ 32 }
+    requires few_ids { length moments.now < 2 ^ 32 }
     requires cells { length links.now ≡ slots + length moments.now }
-    requires few { length links.now < 2 ^ 33 }
-    requires head { head < slots }
-    requires start { slot_of slots moments.now start ≡ Some head }
     requires rings { HasRings slots moments.now links.now }
+    requires start { slot_of slots moments.now start ≡ Some head }
     ensures { result ≡ earliest slots moments.now first (followed links.now head (length links.now) start) }
 {
     let mut best = first;
@@ -44,7 +42,7 @@ fn walked(
         if cell == head {
             break;
         }
-        best = earlier(best, entry_at(moments, slots, cell));
+        best = best.earlier(entry_at(moments, slots, cell));
         cell = links.seen(cell).after;
     }
     best
@@ -59,12 +57,8 @@ pub(crate) fn first_of_slot(
     slots: u64,
     slot: u64,
 ) -> Option<Entry>
-    requires cells { length links.now ≡ slots + length moments.now }
-    requires few { length links.now < 2 ^ 33 }
-    requires flags { length in_order.now ≡ slots }
+    requires slotted { AreSlots slots moments.now links.now in_order.now }
     requires slot { slot < slots }
-    requires rings { HasRings slots moments.now links.now }
-    requires in_order { AreInOrder slots moments.now links.now in_order.now }
     ensures { IsFirst moments.now (λ moment. moment % slots ≡ slot) result }
 {
     let cell = links.seen(slot).after;
@@ -79,16 +73,18 @@ pub(crate) fn first_of_slot(
     Some(walked(links, moments, slots, slot, first, next))
 }
 
-/// Whether a ring is in order with a new member at its end, behind the cell that was last.
+/// Whether a ring stays in order with a new member at its end, behind the cell that was last: where
+/// that was the head, the new member is alone.
 pub(crate) fn stays_in_order(
     moments: &[Option<Moment>],
     in_order: bool,
     slots: u64,
     last: u64,
-    new: Entry,
+    new: &Entry,
 ) -> bool
-    requires { last < slots + length moments.now }
-    ensures { result ≡ (nat_lt last slots || (in_order && is_before (entry_of slots moments.now last) new)) }
+    requires few { length moments.now < 2 ^ 32 }
+    requires last { slots ≤ last → IsMember moments.now (last - slots) }
+    ensures { result ≡ (nat_lt last slots || (in_order && is_before (entry_of slots moments.now last) new.now)) }
 {
-    last < slots || (in_order && is_before(entry_at(moments, slots, last), new))
+    last < slots || (in_order && entry_at(moments, slots, last).is_before(new))
 }

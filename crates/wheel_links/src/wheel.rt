@@ -22,8 +22,8 @@ pub struct Wheel {
     moments: Vec<Option<Moment>>,
     in_order: Vec<bool>,
     slots: u64,
-    least: u64,
-    count: u64,
+    least: Moment,
+    count: u32,
 }
 
 impl Model for Wheel {
@@ -53,7 +53,7 @@ impl Wheel {
             moments,
             in_order,
             slots: u64::from(slots),
-            least: 0,
+            least: Moment::of(0).unwrap(),
             count: 0,
         })
     }
@@ -62,7 +62,7 @@ impl Wheel {
     pub fn len(&self) -> u32
         ensures { result ≡ member_count self.now }
     {
-        self.count as u32
+        self.count
     }
 
     /// Makes an id a member with this moment. `Present` comes exactly where it is a member
@@ -146,9 +146,9 @@ impl Wheel {
             &self.in_order,
             self.slots,
             self.least,
-            moment.secs(),
+            moment,
         )?;
-        Some(first.id as u32)
+        Some(first.id)
     }
 
     /// Makes an id that is no member one, at the end of its slot's ring.
@@ -158,22 +158,19 @@ impl Wheel {
         ensures placed { self.new ≡ insert self.old id moment }
         ensures cost { steps.new ≤ steps.old + 6 }
     {
-        let entry = Entry {
-            moment: moment.secs(),
-            id: u64::from(id),
-        };
-        let slot = entry.moment % self.slots;
-        let last = self.links.append(slot, self.slots + entry.id, steps);
+        let slot = moment.secs() % self.slots;
+        let last = self.links.append(slot, self.slots + u64::from(id), steps);
+        let new = Entry { moment, id };
         let stays = stays_in_order(
             &self.moments,
             self.in_order[slot as usize],
             self.slots,
             last,
-            entry,
+            &new,
         );
         self.in_order[slot as usize] = stays;
         self.moments[id as usize] = Some(moment);
-        self.least = lowered(self.least, self.count, entry.moment);
+        self.least = lowered(self.least, self.count, moment);
         self.count += 1;
     }
 

@@ -4,8 +4,7 @@ use Rattle.wheel_links.proofs.raising.raised.Given as goal
 
 abbrev pub invariant-loop : goal.invariant-loop
 invariant-loop g l = record {
-  from : l.least ≤ l.raised;
-  within : l.raised ≤ 99999999999;
-  empty : (moment : ℕ) → l.least ≤ moment → moment < l.raised → after_at l.links (moment % l.slots) ≡ moment % l.slots;
+  from : l.fn.least ≤ l.raised;
+  empty : (moment : ℕ) → l.fn.least ≤ moment → moment < l.raised → after_at l.links (moment % l.slots) ≡ moment % l.slots;
   cost : l.steps ≤ l.fn.steps + l.counter;
 }

@@ -2,15 +2,16 @@ use Rattle.std.proofs.Common.{◌≡◌, ◌+◌, ◌-◌, suc, ◌∷◌, lengt
 use Rattle.wheel_links.specs.Links.{after_at}
 use Rattle.wheel_links.specs.Rings.{slot_of}
 use Rattle.wheel_links.specs.Walk.{earlier, earliest, entry_of, followed}
-use Rattle.wheel_links.proofs.Slots.{high_in_slot, slot_within}
+use Rattle.wheel_links.proofs.Slots.{high_in_slot, is_member_of_slot, slot_within}
 use Rattle.wheel_links.proofs.Walks.{followed-head, followed-else}
 use Rattle.wheel_links.proofs.walk.walked.Goals as goal
 
 pub entry_at-requires-clause-cell : goal.entry_at-requires-clause-cell
 entry_at-requires-clause-cell c = high_in_slot _ _ _ _ c.loop.invariant.here c.if-cell-head.false
 
-pub entry_at-requires-clause-within : goal.entry_at-requires-clause-within
-entry_at-requires-clause-within c = slot_within _ _ _ _ c.loop.invariant.here
+pub entry_at-requires-clause-member : goal.entry_at-requires-clause-member
+entry_at-requires-clause-member c =
+    is_member_of_slot _ _ _ _ c.loop.invariant.here (high_in_slot _ _ _ _ c.loop.invariant.here c.if-cell-head.false)
 
 pub seen-cell-requires : goal.seen-cell-requires
 seen-cell-requires c =
