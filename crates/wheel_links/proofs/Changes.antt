@@ -1,19 +1,20 @@
 -- What a change of one member leaves of a wheel's inside.
-use Rattle.std.proofs.Common.{◌≡◌, ◌≢◌, ◌==◌, ℕ, zero, suc, ◌+◌, ◌-◌, ◌%◌, ◌^◌, ◌<◌, ◌≤◌, ◌⊎◌, ⊎_elim, ◌&&◌, ◌||◌, nat_lt, Bool, true, false, cond, if◌then◌else◌, List, Option, Some, None, length, set, min, is_some, refl, sym, ap, subst, ◌∙◌, inl, inr, arith, length-set, get_or-set_other, get_or-set_same}
+use Rattle.std.proofs.Common.{◌≡◌, ◌≢◌, ◌==◌, ℕ, ◌+◌, ◌-◌, ◌%◌, ◌^◌, ◌<◌, ◌⊎◌, ⊎_elim, ◌&&◌, ◌||◌, nat_lt, Bool, true, false, if◌then◌else◌, List, Option, Some, None, length, set, refl, sym, ap, subst, ◌∙◌, inl, inr, arith, length-set, get_or-set_other, get_or-set_same}
 use Rattle.std.proofs.lemmas.Bool.{cases_eq, cases_lt, false≢true}
 use Rattle.std.proofs.lemmas.Bool.Decides.{nat_tests}
 use Rattle.std.proofs.Math.Nat.{mod-lt}
-use Rattle.std.proofs.lemmas.List.{get_or_past, get_or-replicate, length-replicate}
-use Rattle.std.proofs.lemmas.List.Sums.{sum_by-set}
 use Rattle.std.proofs.lemmas.Option.{none-some, same_Some}
 use Rattle.std.specs.Option.{option_map}
 use Rattle.wheel_links.specs.declared.link.Link.{Link}
+use Rattle.wheel_links.specs.declared.bound.Bound.{Bound}
+use Rattle.wheel_links.specs.Bound.{HasLows, IsBound, low_of, low_with, low_without, lowered}
 use Rattle.wheel_links.specs.Due.{IsBefore}
-use Rattle.wheel_links.specs.Inside.{IsWheel, IsLeast}
+use Rattle.wheel_links.specs.Inside.{IsWheel}
 use Rattle.wheel_links.specs.Links.{after_at, before_at, IsUnlinked, IsAppended, AreAlone}
-use Rattle.wheel_links.specs.Members.{Members, moment_of, member_count, insert, remove, empty}
+use Rattle.wheel_links.specs.Members.{Members, moment_of, insert, remove, empty}
 use Rattle.wheel_links.specs.Rings.{AreSlots, HasRings, AreInOrder, slot_of, flag_of}
 use Rattle.wheel_links.specs.Walk.{entry_of, is_before}
+use Rattle.wheel_links.proofs.Bounds.{bound-insert, bound-remove, lows-insert, lows-remove}
 use Rattle.wheel_links.proofs.Circles.{alone, taken_out, put_in}
 use Rattle.wheel_links.proofs.Firsts.{before_trans, before_true}
 use Rattle.wheel_links.proofs.Walks.{entry-member}
@@ -148,69 +149,6 @@ order_then n ms links links' flags id m some len r at within app ordered = λ x 
     ordered x k other j w.1 old_other old_back old_marked)
     (member_then ms id m x k within at_x)
 
-least_then : (ms : Members) (id m least : ℕ) → id < length ms → moment_of ms id ≡ None → IsLeast ms least → IsLeast (insert ms id m) (if member_count ms == 0 then m else min least m)
-least_then ms id m least within at is_least = λ x k at_x. ⊎_elim
-    (λ w. grind (arith, nat_tests))
-    (λ w.
-    let counted = count-remove ms x k w.1 in
-    let above = is_least x k w.1 in
-    grind (arith, nat_tests))
-    (member_then ms id m x k within at_x)
-
-least_left : (n : ℕ) (ms : Members) (links' : List Link) (id least raised : ℕ) → 0 < n → HasRings n (remove ms id) links'
-    → ((k : ℕ) → least ≤ k → k < raised → after_at links' (k % n) ≡ k % n) → IsLeast ms least → IsLeast (remove ms id) raised
-least_left n ms links' id least raised some r empty is_least = λ x k at_x.
-    let w = member_left ms id x k at_x in
-    let above = is_least x k w.1 in
-    elim (cases_lt k raised) [
-      | inl low ↦
-          let slot_low : k % n < n = mod-lt k some in
-          let e : n + x ≡ k % n = alone r (slot-head n (remove ms id)) (k % n) (empty k above low) (n + x) (slot-member n (remove ms id) x k at_x) in
-          absurd (omega arith)
-      | inr high ↦ high
-    ]
-
--- a member is put in
-pub wheel-insert : (n : ℕ) (ms : Members) (links links' : List Link) (flags : List Bool) (least count id m : ℕ) → IsWheel n ms links flags least count
-    → id < length ms → moment_of ms id ≡ None → length links' ≡ length links → IsAppended links links' (m % n) (n + id)
-    → IsWheel n (insert ms id m) links' (set flags (m % n) (stays n ms links flags id m)) (if count == 0 then m else min least m) (count + 1)
-wheel-insert n ms links links' flags least count id m w within at len app =
-    let a = w.slotted in
-    record {
-      slotted = record {
-        some_slots = a.some_slots;
-        few_slots = a.few_slots;
-        few_ids = omega (arith, length-set ms id (Some m), a.few_ids);
-        cells = omega (arith, length-set ms id (Some m), a.cells);
-        flag_each = length-set flags (m % n) (stays n ms links flags id m) ∙ a.flag_each;
-        rings = appended_cell n ms links links' id m a.some_slots a.rings at within app;
-        in_order = order_then n ms links links' flags id m a.some_slots a.flag_each a.rings at within app a.in_order;
-      };
-      least_is = subst (λ k. IsLeast (insert ms id m) (if k == 0 then m else min least m)) (sym w.counted) (least_then ms id m least within at w.least_is);
-      counted = omega (arith, count-insert ms id m within at, w.counted);
-    }
-
--- a member is taken out
-pub wheel-remove : (n : ℕ) (ms : Members) (links links' : List Link) (flags : List Bool) (least count id m raised : ℕ) → IsWheel n ms links flags least count
-    → moment_of ms id ≡ Some m → length links' ≡ length links → IsUnlinked links links' (n + id)
-    → ((k : ℕ) → least ≤ k → k < raised → after_at links' (k % n) ≡ k % n)
-    → IsWheel n (remove ms id) links' flags raised (count - 1)
-wheel-remove n ms links links' flags least count id m raised w at len un empty =
-    let a = w.slotted in
-    record {
-      slotted = record {
-        some_slots = a.some_slots;
-        few_slots = a.few_slots;
-        few_ids = omega (arith, length-set ms id None, a.few_ids);
-        cells = omega (arith, length-set ms id None, a.cells);
-        flag_each = a.flag_each;
-        rings = unlinked_cell n ms links links' id m a.rings at un;
-        in_order = order_left n ms links links' flags id m a.rings at un a.in_order;
-      };
-      least_is = least_left n ms links' id least raised a.some_slots (unlinked_cell n ms links links' id m a.rings at un) empty w.least_is;
-      counted = omega (arith, count-remove ms id m at, w.counted);
-    }
-
 -- the neighbours of a ring's cell exist
 pub before_within : (n : ℕ) (ms : Members) (links : List Link) (flags : List Bool) (c s : ℕ) → AreSlots n ms links flags → slot_of n ms c ≡ Some s → before_at links c < length links
 before_within n ms links flags c s a here =
@@ -222,21 +160,81 @@ after_within n ms links flags c s a here =
     let h = slot_within n ms (after_at links c) s (a.rings.after_in c s here) in
     omega (arith, h, a.cells)
 
+-- a member is put in
+pub wheel-insert : (n : ℕ) (ms : Members) (links links' : List Link) (flags : List Bool) (lows : List (Option ℕ)) (b : Bound) (count id m : ℕ) → IsWheel n ms links flags lows b count
+    → id < length ms → moment_of ms id ≡ None → length links' ≡ length links → IsAppended links links' (m % n) (n + id)
+    → IsWheel n (insert ms id m) links' (set flags (m % n) (stays n ms links flags id m)) (set lows (m % n) (low_with (low_of lows (m % n)) m)) (lowered b m) (count + 1)
+wheel-insert n ms links links' flags lows b count id m w within at len app =
+    let a = w.slotted in
+    record {
+      slotted = record {
+        some_slots = a.some_slots;
+        few_slots = a.few_slots;
+        few_ids = omega (arith, length-set ms id (Some m), a.few_ids);
+        cells = omega (arith, length-set ms id (Some m), a.cells);
+        flag_each = length-set flags (m % n) (stays n ms links flags id m) ∙ a.flag_each;
+        rings = appended_cell n ms links links' id m a.some_slots a.rings at within app;
+        in_order = order_then n ms links links' flags id m a.some_slots a.flag_each a.rings at within app a.in_order;
+      };
+      low_each = length-set lows (m % n) (low_with (low_of lows (m % n)) m) ∙ w.low_each;
+      has_lows = lows-insert n ms lows id m a.some_slots w.low_each within w.has_lows;
+      bounded = bound-insert n ms b id m within w.bounded;
+      counted = omega (arith, count-insert ms id m within at, w.counted);
+    }
+
 -- the same, in the terms of the calls that do it
-pub wheel-insert_as : (n : ℕ) (ms : Members) (links links' : List Link) (flags : List Bool) (least count id m s : ℕ) (stay : Bool) (low : ℕ) → IsWheel n ms links flags least count
-    → id < length ms → moment_of ms id ≡ None → length links' ≡ length links → IsAppended links links' s (n + id)
-    → s ≡ m % n → stay ≡ stays n ms links flags id m → low ≡ (if count == 0 then m else min least m)
-    → IsWheel n (insert ms id m) links' (set flags s stay) low (count + 1)
-wheel-insert_as n ms links links' flags least count id m s stay low w within at len app slot_is stay_is low_is =
-    subst (λ z. IsWheel n (insert ms id m) links' (set flags z stay) low (count + 1)) (sym slot_is)
-    (subst (λ z. IsWheel n (insert ms id m) links' (set flags (m % n) z) low (count + 1)) (sym stay_is)
-    (subst (λ z. IsWheel n (insert ms id m) links' (set flags (m % n) (stays n ms links flags id m)) z (count + 1)) (sym low_is)
-    (wheel-insert n ms links links' flags least count id m w within at len (subst (λ z. IsAppended links links' z (n + id)) slot_is app))))
+pub wheel-insert_as : (n : ℕ) (ms : Members) (links links' : List Link) (flags : List Bool) (lows : List (Option ℕ)) (b : Bound) (count id m s : ℕ) (stay : Bool) (low : Option ℕ) (b' : Bound)
+    → IsWheel n ms links flags lows b count → id < length ms → moment_of ms id ≡ None → length links' ≡ length links → IsAppended links links' s (n + id)
+    → s ≡ m % n → stay ≡ stays n ms links flags id m → low ≡ low_with (low_of lows (m % n)) m → b' ≡ lowered b m
+    → IsWheel n (insert ms id m) links' (set flags s stay) (set lows s low) b' (count + 1)
+wheel-insert_as n ms links links' flags lows b count id m s stay low b' w within at len app slot_is stay_is low_is b_is =
+    subst (λ z. IsWheel n (insert ms id m) links' (set flags z stay) (set lows z low) b' (count + 1)) (sym slot_is)
+    (subst (λ z. IsWheel n (insert ms id m) links' (set flags (m % n) z) (set lows (m % n) low) b' (count + 1)) (sym stay_is)
+    (subst (λ z. IsWheel n (insert ms id m) links' (set flags (m % n) (stays n ms links flags id m)) (set lows (m % n) z) b' (count + 1)) (sym low_is)
+    (subst (λ z. IsWheel n (insert ms id m) links' (set flags (m % n) (stays n ms links flags id m)) (set lows (m % n) (low_with (low_of lows (m % n)) m)) z (count + 1)) (sym b_is)
+    (wheel-insert n ms links links' flags lows b count id m w within at len (subst (λ z. IsAppended links links' z (n + id)) slot_is app)))))
+
+-- a member is taken out, and the bound is then one of those that hold of the others
+pub wheel-remove : (n : ℕ) (ms : Members) (links links' : List Link) (flags : List Bool) (lows : List (Option ℕ)) (b b' : Bound) (count id m s : ℕ) (low : Option ℕ) (is_empty : Bool)
+    → IsWheel n ms links flags lows b count → moment_of ms id ≡ Some m → length links' ≡ length links → IsUnlinked links links' (n + id)
+    → s ≡ m % n → low ≡ low_without (low_of lows s) is_empty → (is_empty ≡ true → (before_at links (n + id) ≡ s) × (after_at links (n + id) ≡ s))
+    → ((members : Members) → HasLows (length (set lows s low)) members (set lows s low) → IsBound (length (set lows s low)) members b → IsBound (length (set lows s low)) members b')
+    → IsWheel n (remove ms id) links' flags (set lows s low) b' (count - 1)
+wheel-remove n ms links links' flags lows b b' count id m s low is_empty w at len un slot_is low_is alone advanced =
+    let a = w.slotted in
+    let rings = unlinked_cell n ms links links' id m a.rings at un in
+    let each : length (set lows s low) ≡ n = length-set lows s low ∙ w.low_each in
+    let slot_low : s < n = subst (λ z. z < n) (sym slot_is) (mod-lt m a.some_slots) in
+    let has_lows : HasLows n (remove ms id) (set lows s low) =
+    subst (λ z. HasLows n (remove ms id) (set lows s z)) (sym low_is)
+    (lows-remove n ms links' lows id s is_empty slot_low w.low_each rings
+    (λ e.
+    let h = alone e in
+    un.after s ∙ when_equal s (before_at links (n + id)) _ _ (sym h.0) ∙ h.1)
+    w.has_lows) in
+    record {
+      slotted = record {
+        some_slots = a.some_slots;
+        few_slots = a.few_slots;
+        few_ids = omega (arith, length-set ms id None, a.few_ids);
+        cells = omega (arith, length-set ms id None, a.cells);
+        flag_each = a.flag_each;
+        rings = rings;
+        in_order = order_left n ms links links' flags id m a.rings at un a.in_order;
+      };
+      low_each = each;
+      has_lows = has_lows;
+      bounded = subst (λ z. IsBound z (remove ms id) b') each
+          (advanced (remove ms id)
+          (subst (λ z. HasLows z (remove ms id) (set lows s low)) (sym each) has_lows)
+          (subst (λ z. IsBound z (remove ms id) b) (sym each) (bound-remove n ms b id w.bounded)));
+      counted = omega (arith, count-remove ms id m at, w.counted);
+    }
 
 -- a wheel with no member
-pub wheel-empty : (n capacity least : ℕ) (links : List Link) (flags : List Bool) → 0 < n → n < 2 ^ 32 → capacity < 2 ^ 32 - 1 → length links ≡ n + capacity → length flags ≡ n → AreAlone links
-    → IsWheel n (empty capacity) links flags least 0
-wheel-empty n capacity least links flags some few few_ids cells len alone_each =
+pub wheel-empty : (n capacity : ℕ) (links : List Link) (flags : List Bool) (lows : List (Option ℕ)) (b : Bound) → 0 < n → n < 2 ^ 32 → capacity < 2 ^ 32 - 1 → length links ≡ n + capacity → length flags ≡ n → length lows ≡ n → AreAlone links
+    → IsWheel n (empty capacity) links flags lows b 0
+wheel-empty n capacity links flags lows b some few few_ids cells len low_each alone_each =
     let len_ms : length (empty capacity) ≡ capacity = length-empty capacity in
     let low : (c s : ℕ) → slot_of n (empty capacity) c ≡ Some s → c < n = λ c s here. elim (cases_lt c n) [
       | inl below ↦ below
@@ -261,6 +259,11 @@ wheel-empty n capacity least links flags some few few_ids cells len alone_each =
         };
         in_order = λ id m other j at_id at_other back marked. absurd (none_at_first capacity id m at_id);
       };
-      least_is = λ id m at. absurd (none_at_first capacity id m at);
+      low_each = low_each;
+      has_lows = λ id m at. absurd (none_at_first capacity id m at);
+      bounded = record {
+        least_is = λ id m at. absurd (none_at_first capacity id m at);
+        found_is = λ id m at below. absurd (none_at_first capacity id m at);
+      };
       counted = sym (count-empty capacity);
     }

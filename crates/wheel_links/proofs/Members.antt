@@ -68,4 +68,3 @@ none_at_first capacity id m at = none-some m (sym (elim (cases_lt id capacity) [
 pub count-empty : (capacity : ℕ) → member_count (empty capacity) ≡ 0
 count-empty zero = refl
 count-empty (suc capacity) = count-empty capacity
-

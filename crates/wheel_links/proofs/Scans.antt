@@ -4,7 +4,7 @@ use Rattle.std.proofs.Math.Nat.{add-mod_right, add-mod-mod, mod-add-mod, mod-eq_
 use Rattle.std.proofs.lemmas.Bool.{cases_lt, false≢true}
 use Rattle.std.proofs.lemmas.Bool.Decides.{nat_tests}
 use Rattle.wheel_links.specs.declared.entry.Entry.{Entry}
-use Rattle.wheel_links.specs.Inside.{IsLeast}
+use Rattle.wheel_links.specs.Bound.{IsLeast}
 use Rattle.wheel_links.specs.Members.{Members}
 use Rattle.wheel_links.specs.Walk.{IsFirst, is_due_by, earlier_of}
 use Rattle.wheel_links.proofs.Firsts.{first_of_both, first_of_same}

@@ -1,3 +1,4 @@
+pub mod Bound
 pub mod Due
 pub mod Inside
 pub mod Links

@@ -9,11 +9,12 @@
 #![tactic(auto)]
 
 mod absent;
+mod bound;
 mod entry;
 mod link;
 mod links;
+mod lows;
 mod present;
-mod raising;
 mod scan;
 mod steps;
 mod walk;

@@ -68,12 +68,13 @@ impl Links {
         self.cells[cell as usize]
     }
 
-    /// Takes a cell out of its ring: its neighbours become each other's.
-    pub(crate) fn unlink<L: Ledger>(&mut self, cell: u64, steps: &mut Steps<L>)
+    /// Takes a cell out of its ring: its neighbours, which it gives, become each other's.
+    pub(crate) fn unlink<L: Ledger>(&mut self, cell: u64, steps: &mut Steps<L>) -> Link
         requires cell { cell < length self.old }
         requires before { before_at self.old cell < length self.old }
         requires after { after_at self.old cell < length self.old }
         ensures length { length self.new ≡ length self.old }
+        ensures link { result ≡ link_at self.old cell }
         ensures unlinked { IsUnlinked self.old self.new cell }
         ensures cost { steps.new ≡ steps.old + 5 }
     {
@@ -90,6 +91,7 @@ impl Links {
             after: after.after,
         };
         self.write(link.after, joined, steps);
+        link
     }
 
     /// Puts a cell at the end of a head's ring, and gives the cell that was last there: the head

@@ -1,6 +1,6 @@
 // The search for the member that is due first.
 ghost use Rattle.std.specs.Prelude.{◌≡◌, ◌+◌, ◌%◌, ◌<◌, ◌≤◌};
-ghost use Rattle.wheel_links.specs.Inside.{IsLeast};
+ghost use Rattle.wheel_links.specs.Bound.{IsLeast};
 ghost use Rattle.wheel_links.specs.Rings.{AreSlots};
 ghost use Rattle.wheel_links.specs.Walk.{IsFirst, earlier_of, is_due_by};
 

@@ -4,8 +4,9 @@ ghost use Rattle.std.specs.Result.{result_ok};
 ghost use Rattle.wheel_links.specs.Due.{IsNextDue, IsNoneDue};
 ghost use Rattle.wheel_links.specs.Members.{IsMember, capacity_of, empty, insert, member_count, moment_of, remove};
 
+use crate::bound::Bound;
 use crate::entry::Entry;
-use crate::raising::{lowered, raised};
+use crate::lows::{low_with, low_without};
 use crate::scan::first_due;
 use crate::walk::stays_in_order;
 use crate::{Absent, Links, Present, Steps};
@@ -21,8 +22,9 @@ pub struct Wheel {
     links: Links,
     moments: Vec<Option<Moment>>,
     in_order: Vec<bool>,
+    lows: Vec<Option<Moment>>,
     slots: u64,
-    least: Moment,
+    bound: Bound,
     count: u32,
 }
 
@@ -34,7 +36,7 @@ impl Model for Wheel {
 
     ghost view = { λ w. w.moments.items };
 
-    ghost invariant = { λ w. IsWheel w.slots w.moments.items w.links w.in_order.items w.least w.count };
+    ghost invariant = { λ w. IsWheel w.slots w.moments.items w.links w.in_order.items w.lows.items w.bound w.count };
 }
 
 impl Wheel {
@@ -48,12 +50,14 @@ impl Wheel {
         let links = Links::alone(alloc, u64::from(slots) + u64::from(capacity))?;
         let moments = vec![in alloc; None; capacity as usize]?;
         let in_order = vec![in alloc; true; slots as usize]?;
+        let lows = vec![in alloc; None; slots as usize]?;
         Ok(Wheel {
             links,
             moments,
             in_order,
+            lows,
             slots: u64::from(slots),
-            least: Moment::of(0).unwrap(),
+            bound: Bound::new(),
             count: 0,
         })
     }
@@ -145,7 +149,7 @@ impl Wheel {
             &self.moments,
             &self.in_order,
             self.slots,
-            self.least,
+            self.bound.least,
             moment,
         )?;
         Some(first.id)
@@ -169,22 +173,25 @@ impl Wheel {
             &new,
         );
         self.in_order[slot as usize] = stays;
+        self.lows[slot as usize] = low_with(self.lows[slot as usize], moment);
         self.moments[id as usize] = Some(moment);
-        self.least = lowered(self.least, self.count, moment);
+        self.bound = self.bound.lowered(moment);
         self.count += 1;
     }
 
-    /// Takes a member with this moment off the wheel, and raises the least moment by the slots that
-    /// are empty, at most four.
+    /// Takes a member with this moment off the wheel, and sweeps on.
     fn take_out<L: Ledger>(&mut self, id: u32, moment: Moment, steps: &mut Steps<L>)
         requires id { id < capacity_of self.old }
         requires member { moment_of self.old id ≡ Some moment }
         ensures removed { self.new ≡ remove self.old id }
-        ensures cost { steps.new ≤ steps.old + 9 }
+        ensures cost { steps.new ≤ steps.old + 5 }
     {
-        self.links.unlink(self.slots + u64::from(id), steps);
+        let slot = moment.secs() % self.slots;
+        let link = self.links.unlink(self.slots + u64::from(id), steps);
+        let was_alone = link.is_alone_at(slot);
+        self.lows[slot as usize] = low_without(self.lows[slot as usize], was_alone);
         self.moments[id as usize] = None;
         self.count -= 1;
-        self.least = raised(&self.links, self.slots, self.least, steps);
+        self.bound = self.bound.advanced(&self.lows);
     }
 }

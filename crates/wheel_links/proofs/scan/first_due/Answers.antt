@@ -1,5 +1,5 @@
 use Rattle.std.proofs.Common.{◌≡◌, ◌+◌, ◌≤◌, true, false, IfSome, sym, ap, subst, ◌∙◌, arith}
-use Rattle.wheel_links.specs.Inside.{IsLeast}
+use Rattle.wheel_links.specs.Bound.{IsLeast}
 use Rattle.wheel_links.specs.Walk.{IsFirst, is_due_by}
 use Rattle.wheel_links.proofs.Scans.{IsPassed, none_due, passed_more, all_passed, found, goes_on, found_last, none_last}
 use Rattle.wheel_links.proofs.scan.first_due.Goals as goal

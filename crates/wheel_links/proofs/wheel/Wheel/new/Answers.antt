@@ -10,5 +10,6 @@ invariant_of-result c =
     let n : c.from-3.result ≡ c.args.slots = c.from-3.ensures in
     let cells : length c.in_ok-links.links ≡ c.from-3.result + c.args.capacity = omega (arith, c.in_ok-links.ensures.length) in
     let flags : length c.in_ok-in_order.in_order.items ≡ c.from-3.result = omega (arith, c.in_ok-in_order.ensures.len) in
-    subst (λ ms. IsWheel c.from-3.result ms c.in_ok-links.links c.in_ok-in_order.in_order.items c.unwrap.result 0) (sym items)
-    (wheel-empty c.from-3.result c.args.capacity c.unwrap.result c.in_ok-links.links c.in_ok-in_order.in_order.items (omega arith) (omega arith) c.requires.capacity cells flags c.in_ok-links.ensures.alone)
+    let lows : length c.in_ok-lows.lows.items ≡ c.from-3.result = omega (arith, c.in_ok-lows.ensures.len) in
+    subst (λ ms. IsWheel c.from-3.result ms c.in_ok-links.links c.in_ok-in_order.in_order.items c.in_ok-lows.lows.items c.new.result 0) (sym items)
+    (wheel-empty c.from-3.result c.args.capacity c.in_ok-links.links c.in_ok-in_order.in_order.items c.in_ok-lows.lows.items c.new.result (omega arith) (omega arith) c.requires.capacity cells flags lows c.in_ok-links.ensures.alone)

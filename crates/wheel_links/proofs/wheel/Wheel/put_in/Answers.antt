@@ -1,6 +1,7 @@
 use Rattle.std.proofs.Common.{◌≡◌, ◌+◌, ◌-◌, ◌%◌, ◌<◌, ◌&&◌, ◌||◌, nat_lt, false, length, Some, None, ap, sym, subst, ◌∙◌, arith}
 use Rattle.std.proofs.Math.Nat.{mod-lt}
 use Rattle.std.proofs.lemmas.List.{get_or_read}
+use Rattle.wheel_links.specs.Bound.{low_of, low_with}
 use Rattle.wheel_links.specs.Links.{before_at, IsAppended}
 use Rattle.wheel_links.specs.Members.{IsMember, moment_of}
 use Rattle.wheel_links.specs.Rings.{flag_of, slot_of}
@@ -49,5 +50,8 @@ invariant_of-self g c =
     ∙ ap (λ k. nat_lt k n || (c.index.result.now && is_before (entry_of n c.deref.result.now k) (record { moment = m; id = id }))) last
     ∙ ap (λ f. nat_lt (before_at w.links (m % n)) n || (f && is_before (entry_of n c.deref.result.now (before_at w.links (m % n))) (record { moment = m; id = id }))) flag
     ∙ ap (λ k. nat_lt (before_at w.links (m % n)) n || (flag_of flags (m % n) && is_before (entry_of n k (before_at w.links (m % n))) (record { moment = m; id = id }))) c.deref.ensures.value in
-    wheel-insert_as n ms w.links c.append-last.new.self flags w.least w.count id m s c.stays_in_order-stays.result c.lowered-self-inside.result c.self.invariant
-    within at c.append-last.ensures.length app slot_is stay c.lowered-self-inside.ensures
+    let low_slot : s < length w.lows.items = omega (arith, mod-lt c.secs.result a.some_slots, c.self.invariant.low_each) in
+    let low : c.low_with.result ≡ low_with (low_of w.lows.items (m % n)) m =
+    c.low_with.ensures ∙ ap (λ o. low_with o m) (get_or_read w.lows.items _ _ low_slot c.index-2.ensures None ∙ ap (low_of w.lows.items) slot_is) in
+    wheel-insert_as n ms w.links c.append-last.new.self flags w.lows.items w.bound w.count id m s c.stays_in_order-stays.result c.low_with.result c.lowered-self-inside.result c.self.invariant
+    within at c.append-last.ensures.length app slot_is stay low c.lowered-self-inside.ensures
