@@ -1,0 +1,7 @@
+pub mod Bound
+pub mod Due
+pub mod Inside
+pub mod Links
+pub mod Members
+pub mod Rings
+pub mod Walk
