@@ -1,0 +1,4 @@
+pub mod Names
+pub mod PlainSite
+pub mod Sets
+pub mod Sound

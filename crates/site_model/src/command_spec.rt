@@ -1,0 +1,10 @@
+// Commands as the configuration sets them.
+use site_base::{Text, Tree};
+
+/// A command that checks (Icinga 2 documentation, Object Types, "CheckCommand").
+#[derive(Debug, Drop)]
+pub struct CommandSpec {
+    pub name: Text,
+    /// The object's attributes, a `Dict`.
+    pub tree: Tree,
+}

@@ -1,0 +1,11 @@
+// Decisions on notifications.
+use crate::{NoteKind, Outcome};
+
+/// What was decided on one notification.
+#[derive(Clone, Debug, Drop, PartialEq, Eq)]
+pub struct Decision {
+    /// Its index among the site's notifications.
+    pub notification: u32,
+    pub kind: NoteKind,
+    pub outcome: Outcome,
+}

@@ -1,0 +1,43 @@
+// The site.
+ghost use Rattle.std.specs.Prelude.{◌≡◌};
+ghost use Rattle.site_model.specs.Names.{place_of, IsPlaceOf};
+ghost use Rattle.site_model.specs.PlainSite.{site_view, full_names};
+ghost use Rattle.site_model.specs.Sound.{IsSound};
+
+use crate::{CheckSpec, CommandSpec, DependSpec, Names, NotifySpec, Object, UserSpec};
+use site_base::{Blob, PeriodSpec, Row, Texts, Tree};
+
+/// All that a configuration gives: its objects, and what a run needs of them as lists that name each
+/// other's places. Clauses see it by `site_view`; of each site that a configuration gives `IsSound` holds.
+#[derive(Debug, Drop)]
+pub struct Site {
+    /// The names of the files that the places speak of.
+    pub files: Texts,
+    /// All objects, in committed order.
+    pub objects: Row<Object>,
+    /// The hosts and then the services, each in committed order.
+    pub checkables: Row<CheckSpec>,
+    pub depends: Row<DependSpec>,
+    pub notifies: Row<NotifySpec>,
+    pub users: Row<UserSpec>,
+    pub commands: Row<CommandSpec>,
+    pub periods: Row<PeriodSpec>,
+    /// The full names of the checkables, in their order.
+    pub names: Names,
+    /// The global `Vars`; `Null` without them.
+    pub vars: Tree,
+    /// The bytes of the time zone's file; `None` for UTC.
+    pub zone: Option<Blob>,
+    /// How many checks may be outstanding, from 1 to 65,535.
+    pub max_orders: u32,
+}
+
+impl Site {
+    /// The place of the checkable with this full name; `None` where no checkable has it.
+    pub fn find(&self, name: &str) -> Option<u32>
+        ensures value { result ≡ place_of name.now self.now.names }
+        ensures checkable { IsSound (site_view self.now) → IsPlaceOf name.now (full_names (site_view self.now)) result }
+    {
+        self.names.find(name)
+    }
+}
