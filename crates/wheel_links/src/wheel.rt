@@ -17,14 +17,22 @@ use std::sync::ledger::Ledger;
 
 /// A timing wheel: a map from ids to the moments at which they are due. Clauses see it as that map,
 /// a place for each id below the capacity.
+///
+/// A member stands in the slot that is its moment modulo the number of slots. A slot's members are a
+/// ring of cells: the cells below the number of slots are the rings' heads, and an id's cell stands
+/// that much further on.
 #[derive(Drop)]
 pub struct Wheel {
     links: Links,
+    /// The moment of each id, if it is a member.
     moments: Vec<Option<Moment>>,
+    /// For each slot, whether its ring is known to be in the order in which its members are due.
     in_order: Vec<bool>,
+    /// For each slot, a moment that none of its members' is before, if it has members.
     lows: Vec<Option<Moment>>,
     slots: u64,
     bound: Bound,
+    /// How many members there are.
     count: u32,
 }
 
@@ -132,11 +140,16 @@ impl Wheel {
     /// The id of the member that is due first: the least by moment, then by id, among those whose
     /// moment is at or before this one. `None` comes exactly where there is none.
     ///
-    /// It goes by the slots from the least moment that a member may have, up to this moment and
-    /// over each slot once at most. It looks at one cell of a slot whose members were placed in
-    /// their order of (moment, id), and else at each of the slot's members. So a call costs a step
-    /// for each slot between the least moment and the first that is due, and for each member of an
-    /// unordered slot on the way.
+    /// It goes by the slots, from that of the least moment that a member may have up to that of the
+    /// first member that is due, and over each slot once at most. Of a slot it looks at one cell
+    /// where the members were placed in their order of (moment, id), as they are again once they
+    /// were taken by `due` and moved on by one and the same time; else it walks over all of them. So
+    /// a call costs a step for each slot on the way, and one more for each member of a slot on the
+    /// way that is out of order: many members that are due at one moment and were placed in any
+    /// order cost as many steps at each call.
+    ///
+    /// The least moment lags behind where all members moved far ahead. It has caught up when a
+    /// sixteenth as many members as there are slots were moved or removed.
     pub fn due(&self, moment: Moment) -> Option<u32>
         ensures none { IfNone result (IsNoneDue self.now moment) }
         ensures first { IfSome result (λ id. IsNextDue self.now moment id) }
@@ -179,7 +192,7 @@ impl Wheel {
         self.count += 1;
     }
 
-    /// Takes a member with this moment off the wheel, and sweeps on.
+    /// Takes a member with this moment off the wheel, and sweeps on for the least moment.
     fn take_out<L: Ledger>(&mut self, id: u32, moment: Moment, steps: &mut Steps<L>)
         requires id { id < capacity_of self.old }
         requires member { moment_of self.old id ≡ Some moment }
