@@ -1,0 +1,9 @@
+pub mod Letters
+pub mod Words
+pub mod Signs
+pub mod Marks
+pub mod Strings
+pub mod Steps
+pub mod Lexing
+pub mod Tokens
+pub mod Lists
