@@ -2,10 +2,10 @@
 use Rattle.std.proofs.Common.{◌≡◌, ℕ, zero, suc, ◌+◌, ◌<◌, ◌≤◌, List, [], ◌∷◌, ◌++◌, length, drop, Bool, true, false, cond, ◌==◌, refl, sym, ap, ◌∙◌, subst, append_assoc, arith}
 use Rattle.std.proofs.lemmas.List.{length-append}
 use Rattle.std.proofs.lemmas.Bool.Decides.{nat_tests}
-use Rattle.dsl_lexer.specs.Letters.{follows}
+use Rattle.dsl_lexer.specs.Letters.{follows, is_octal}
 use Rattle.dsl_lexer.specs.declared.unit.Unit.{Unit as Written}
 use Rattle.dsl_lexer.specs.declared.unit.Unit.TheVariants as unit
-use Rattle.dsl_lexer.specs.Strings.{is_octal, escape_of, unit_of, Body, closed, broken, behind_front, body_step, body_within}
+use Rattle.dsl_lexer.specs.Strings.{escape_of, unit_of, Body, closed, broken, behind_front, body_step, body_within}
 use Rattle.dsl_lexer.specs.Tokens.{IsOctal, Way, plain, escape, octal, IsWritten, IsInside}
 use Rattle.dsl_lexer.proofs.Bytes.{drop_front}
 use Rattle.dsl_lexer.proofs.StringLaws.{UnitFront, unit_sound, unit_complete, no_quote}

@@ -1,5 +1,5 @@
 -- Tests of bytes and lists of them.
-use Rattle.std.proofs.Common.{◌≡◌, ℕ, ◌+◌, List, [], ◌∷◌, ◌++◌, length, take, drop, Bool, true, false, cond, not, ◌&&◌, refl, sym, ap, ◌∙◌, arith}
+use Rattle.std.proofs.Common.{◌≡◌, ℕ, ◌+◌, List, [], ◌∷◌, ◌++◌, length, take, drop, Bool, true, false, cond, not, ◌&&◌, refl, sym, ap, ◌∙◌, arith, ◌≤◌}
 use Rattle.std.proofs.lemmas.List.{take-append-drop}
 use Rattle.std.proofs.lemmas.Slice.Eq.{bytes_eq-Decides}
 use Rattle.std.proofs.Math.Seq.{take-append_seam}
@@ -82,3 +82,11 @@ run_whole p (x ∷ xs) rest h s =
     let more = run_whole p xs rest (both_second _ _ h) s in
     let one : 1 + prefix_len p (xs ++ rest) ≡ length (x ∷ xs) = omega (arith, more) in
     ap (λ t. cond t (1 + prefix_len p (xs ++ rest)) 0) (both_first _ _ h) ∙ one
+
+-- a front that passes is no longer than the run
+pub at_least : (p : ℕ → Bool) (xs ys : List ℕ) → list_all p xs ≡ true → length xs ≤ prefix_len p (xs ++ ys)
+at_least p [] ys h = omega arith
+at_least p (x ∷ xs) ys h =
+    let more = at_least p xs ys (both_second _ _ h) in
+    let e : prefix_len p ((x ∷ xs) ++ ys) ≡ 1 + prefix_len p (xs ++ ys) = ap (λ t. cond t (1 + prefix_len p (xs ++ ys)) 0) (both_first _ _ h) in
+    omega (arith, e, more)

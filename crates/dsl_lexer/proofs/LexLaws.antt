@@ -2,14 +2,16 @@
 use Rattle.std.proofs.Common.{◌≡◌, ℕ, zero, suc, ◌<◌, ◌≤◌, List, [], ◌∷◌, ◌++◌, length, take, drop, Bool, refl, sym, ap, ◌∙◌, subst, arith}
 use Rattle.std.proofs.lemmas.List.{length-append}
 use Rattle.site_base.specs.declared.place.Place.{Place}
+use Rattle.dsl_lexer.specs.Brackets.{keeps, opened}
+use Rattle.dsl_lexer.specs.Places.{place_behind}
 use Rattle.dsl_lexer.specs.declared.sign.Sign.{Sign}
 use Rattle.dsl_lexer.specs.declared.token.Token.{Token}
 use Rattle.dsl_lexer.specs.declared.token_kind.TokenKind.{TokenKind}
 use Rattle.dsl_lexer.specs.declared.step.Step.{Step}
 use Rattle.dsl_lexer.specs.declared.step.Step.TheVariants as step
 use Rattle.dsl_lexer.specs.Steps.{step_at}
-use Rattle.dsl_lexer.specs.Lexing.{place_behind, keeps, opened, token, Lexed, all, bad, with_front, lex_step, lexed_within, lexed}
-use Rattle.dsl_lexer.specs.Tokens.{Gap, IsGap, IsToken, Lexes, ends, passes, takes, IsStuck, StopsAt, stuck, passes_on, takes_on}
+use Rattle.dsl_lexer.specs.Lexing.{Lexed, all, bad, with_front, lex_step, lexed_within, lexed}
+use Rattle.dsl_lexer.specs.Tokens.{Gap, IsGap, IsToken, Lexes, ends, passes, takes, IsStuck, StopsAt, stuck, passes_on, takes_on, token}
 use Rattle.dsl_lexer.proofs.Bytes.{take_front, drop_front}
 use Rattle.dsl_lexer.proofs.StepLaws.{GapFront, TokenFront, Tells, step_tells}
 use Rattle.dsl_lexer.proofs.StepReads.{gap_reads, token_reads}

@@ -2,13 +2,16 @@
 use Rattle.std.proofs.Common.{◌≡◌, ℕ, zero, suc, ◌<◌, ◌≤◌, List, [], ◌∷◌, ◌++◌, length, take, drop, refl, sym, ap, subst, ◌∙◌, append_assoc, arith}
 use Rattle.std.proofs.lemmas.List.{length-drop}
 use Rattle.site_base.specs.declared.place.Place.{Place}
+use Rattle.dsl_lexer.specs.Tokens.{token}
+use Rattle.dsl_lexer.specs.Brackets.{keeps, opened}
+use Rattle.dsl_lexer.specs.Places.{place_behind}
 use Rattle.dsl_lexer.specs.declared.sign.Sign.{Sign}
 use Rattle.dsl_lexer.specs.declared.token.Token.{Token}
 use Rattle.dsl_lexer.specs.declared.token_kind.TokenKind.{TokenKind}
 use Rattle.dsl_lexer.specs.declared.token_kind.TokenKind.TheVariants as kind
 use Rattle.dsl_lexer.specs.declared.step.Step.TheVariants as step
 use Rattle.dsl_lexer.specs.Steps.{step_at}
-use Rattle.dsl_lexer.specs.Lexing.{place_behind, keeps, opened, token, Lexed, all, bad, with_front, lex_step, lexed_within, lexed}
+use Rattle.dsl_lexer.specs.Lexing.{Lexed, all, bad, with_front, lex_step, lexed_within, lexed}
 
 pub joined : (f g : List Token) (r : Lexed) → with_front f (with_front g r) ≡ with_front (f ++ g) r
 joined f g (all ts) = ap all (sym (append_assoc f g ts))

@@ -14,3 +14,4 @@ pub mod FirstBytes
 pub mod StepReads
 pub mod LexLaws
 pub mod ListLaws
+pub mod Longest

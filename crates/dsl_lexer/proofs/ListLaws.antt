@@ -3,15 +3,17 @@ use Rattle.std.proofs.Common.{◌≡◌, ℕ, ◌+◌, ◌<◌, ◌==◌, List, 
 use Rattle.std.specs.Str.{IsUtf8}
 use Rattle.std.specs.Result.{IfOk}
 use Rattle.site_base.specs.declared.place.Place.{Place}
+use Rattle.dsl_lexer.specs.Brackets.{keeps, opened}
+use Rattle.dsl_lexer.specs.Places.{after, place_behind, start_of}
 use Rattle.dsl_lexer.specs.declared.sign.Sign.{Sign}
 use Rattle.dsl_lexer.specs.declared.token.Token.{Token}
 use Rattle.dsl_lexer.specs.declared.token_kind.TokenKind.{TokenKind}
 use Rattle.dsl_lexer.specs.declared.token_kind.TokenKind.TheVariants as kind
 use Rattle.dsl_lexer.specs.declared.lex_error.LexError.{LexError}
 use Rattle.dsl_lexer.specs.declared.lex_error.LexError.TheVariants as error
-use Rattle.dsl_lexer.specs.Lexing.{after, place_behind, keeps, opened, token, all, lexed, Gives}
-use Rattle.dsl_lexer.specs.Tokens.{IsToken, Lexes, ends, passes, takes}
-use Rattle.dsl_lexer.specs.Lists.{start_of, HasTokens, HasFault, GivesTokens, GivesFault, IsFaultOf, is_end, IsBefore, IsWhole}
+use Rattle.dsl_lexer.specs.Lexing.{all, lexed, Gives}
+use Rattle.dsl_lexer.specs.Tokens.{IsToken, Lexes, ends, passes, takes, token}
+use Rattle.dsl_lexer.specs.Lists.{HasTokens, HasFault, GivesTokens, GivesFault, IsFaultOf, is_end, IsBefore, IsWhole}
 use Rattle.dsl_lexer.proofs.LexLaws.{lexes_reads, stops_reads, lexed_claims, bad_claims, token_some}
 
 before_trans : (p q r : Place) → IsBefore p q → IsBefore q r → IsBefore p r

@@ -27,17 +27,17 @@ no_digit (b ∷ bs) h = by (is_ascii_digit b) refl
     by true e = let is : is_name_byte b ≡ true = digit_name b e in cc
     by false e = refl
 
-all_digits : (ds : List ℕ) → AllDigits 10 ds → list_all is_ascii_digit ds ≡ true
+pub all_digits : (ds : List ℕ) → AllDigits 10 ds → list_all is_ascii_digit ds ≡ true
 all_digits [] h = refl
 all_digits (d ∷ ds) h = both _ _ (below_digit d h.0) (all_digits ds h.1)
 
 -- a unit is letters
-record IsUnit (unit : List ℕ) : Type 0 where
-  name : list_all is_name_byte unit ≡ true
-  start : follows is_ascii_digit unit ≡ false
-  no_point : (rest : List ℕ) → 0 < length unit → fraction_len (unit ++ rest) ≡ 0
+pub record IsUnit (unit : List ℕ) : Type 0 where
+  pub name : list_all is_name_byte unit ≡ true
+  pub start : follows is_ascii_digit unit ≡ false
+  pub no_point : (rest : List ℕ) → 0 < length unit → fraction_len (unit ++ rest) ≡ 0
 
-unit_is : (unit : List ℕ) (size : ℕ) → unit_size unit ≡ Some size → IsUnit unit
+pub unit_is : (unit : List ℕ) (size : ℕ) → unit_size unit ≡ Some size → IsUnit unit
 unit_is unit size e = by (bytes_eq unit []) (bytes_eq unit (codes "s")) (bytes_eq unit (codes "ms")) (bytes_eq unit (codes "m")) (bytes_eq unit (codes "h")) (bytes_eq unit (codes "d")) refl refl refl refl refl refl e
   where
     letters : (us : List ℕ) → unit ≡ us → IsUnit us → IsUnit unit
@@ -53,7 +53,7 @@ unit_is unit size e = by (bytes_eq unit []) (bytes_eq unit (codes "s")) (bytes_e
     by false false false false false true hp hq hr hs ht hu e = letters (codes "d") (same_bytes unit (codes "d") hu) (record { name = refl; start = refl; no_point = λ rest h. refl })
     by false false false false false false hp hq hr hs ht hu e = cc
 
-pointed_some : (n : ℕ) → pointed_len (suc n) ≡ suc (suc n)
+pub pointed_some : (n : ℕ) → pointed_len (suc n) ≡ suc (suc n)
 pointed_some n = grind (arith, nat_tests)
 
 -- a point with a digit is a fraction, and nothing else is
@@ -88,7 +88,7 @@ fraction_pointed : (behind rest : List ℕ) → list_all is_ascii_digit behind �
 fraction_pointed [] rest h some stop = absurd (omega arith)
 fraction_pointed (d ∷ ds) rest h some stop = ap pointed_len (run_whole is_ascii_digit (d ∷ ds) rest h stop) ∙ pointed_some (length ds)
 
-number_by : (bs : List ℕ) (w f : ℕ) → prefix_len is_ascii_digit bs ≡ w → fraction_len (drop w bs) ≡ f → number_len bs ≡ (w + f) + prefix_len is_name_byte (drop (w + f) bs)
+pub number_by : (bs : List ℕ) (w f : ℕ) → prefix_len is_ascii_digit bs ≡ w → fraction_len (drop w bs) ≡ f → number_len bs ≡ (w + f) + prefix_len is_name_byte (drop (w + f) bs)
 number_by bs w f ew ef =
     ap (λ k. (k + fraction_len (drop k bs)) + prefix_len is_name_byte (drop (k + fraction_len (drop k bs)) bs)) ew
     ∙ ap (λ k. (w + k) + prefix_len is_name_byte (drop (w + k) bs)) ef

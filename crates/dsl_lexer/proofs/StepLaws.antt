@@ -20,7 +20,7 @@ use Rattle.dsl_lexer.specs.Marks.{mark_spelling, mark_of}
 use Rattle.dsl_lexer.specs.Strings.{Body, closed, broken, body_of}
 use Rattle.dsl_lexer.specs.Steps.{name_kind, name_at, number_len, number_step, number_at, text_step, string_step, find_end, comment_step, long_step, mark_step, mark_at, newline_step, step_at}
 use Rattle.dsl_lexer.specs.Tokens.{Gap, blank, newline, line_comment, block_comment, IsGap, IsToken, IsLongest, begins_line, is_name, ends_number, Quoting, quotes, braces, IsString}
-use Rattle.dsl_lexer.proofs.Bytes.{both, both_first, both_second, run, take_front}
+use Rattle.dsl_lexer.proofs.Bytes.{both, both_second, run, take_front, at_least}
 use Rattle.dsl_lexer.proofs.WordLaws.{word_sound, word_none}
 use Rattle.dsl_lexer.proofs.MarkLaws.{mark_sound, begins_front, mark_some}
 use Rattle.dsl_lexer.proofs.EndLaws.{end_sound}
@@ -92,13 +92,6 @@ text_tells keeps bs text rest value n quoting whole size some is = by (is_utf8 v
     by : (t : Bool) → is_utf8 value ≡ t → Tells keeps bs (cond t (step.Taken n (kind.Str value)) step.Fault)
     by true e = record { text = text; rest = rest; whole = whole; size = size; some = some; is = (quoting, is, IsUtf8-from_is_utf8 value e) }
     by false e = tt
-
-at_least : (p : ℕ → Bool) (xs ys : List ℕ) → list_all p xs ≡ true → length xs ≤ prefix_len p (xs ++ ys)
-at_least p [] ys h = omega arith
-at_least p (x ∷ xs) ys h =
-    let more = at_least p xs ys (both_second _ _ h) in
-    let e : prefix_len p ((x ∷ xs) ++ ys) ≡ 1 + prefix_len p (xs ++ ys) = ap (λ t. cond t (1 + prefix_len p (xs ++ ys)) 0) (both_first _ _ h) in
-    omega (arith, e, more)
 
 line_tells : (keeps : Bool) (bs : List ℕ) (m : Mark) → begins_line m ≡ true → list_all is_inner (mark_spelling m) ≡ true → IsLongest m bs → Tells keeps bs (step.Passed (prefix_len is_inner bs))
 line_tells keeps bs m line inner longest =

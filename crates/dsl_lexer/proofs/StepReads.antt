@@ -35,11 +35,11 @@ unfolding step_at
 blank_reads keeps b rest h =
     ap (λ t. cond t (step.Passed 1) (cond (b == 10) (newline_step keeps) (cond (is_name_start b) (name_at (b ∷ rest)) (cond (is_ascii_digit b) (number_at (b ∷ rest)) (mark_at (b ∷ rest)))))) h
 
-newline_reads : (keeps : Bool) (rest : List ℕ) → step_at keeps (10 ∷ rest) ≡ newline_step keeps
+pub newline_reads : (keeps : Bool) (rest : List ℕ) → step_at keeps (10 ∷ rest) ≡ newline_step keeps
 unfolding step_at
 newline_reads keeps rest = refl
 
-name_goes : (keeps : Bool) (b : ℕ) (rest : List ℕ) → is_name_start b ≡ true → step_at keeps (b ∷ rest) ≡ name_at (b ∷ rest)
+pub name_goes : (keeps : Bool) (b : ℕ) (rest : List ℕ) → is_name_start b ≡ true → step_at keeps (b ∷ rest) ≡ name_at (b ∷ rest)
 unfolding step_at
 name_goes keeps b rest h =
     let not_blank : is_blank b ≡ false = grind (arith, nat_tests) in
@@ -48,7 +48,7 @@ name_goes keeps b rest h =
     ∙ (ap (λ t. cond t (newline_step keeps) (cond (is_name_start b) (name_at (b ∷ rest)) (cond (is_ascii_digit b) (number_at (b ∷ rest)) (mark_at (b ∷ rest))))) not_newline
     ∙ ap (λ t. cond t (name_at (b ∷ rest)) (cond (is_ascii_digit b) (number_at (b ∷ rest)) (mark_at (b ∷ rest)))) h)
 
-number_goes : (keeps : Bool) (b : ℕ) (rest : List ℕ) → is_ascii_digit b ≡ true → step_at keeps (b ∷ rest) ≡ number_at (b ∷ rest)
+pub number_goes : (keeps : Bool) (b : ℕ) (rest : List ℕ) → is_ascii_digit b ≡ true → step_at keeps (b ∷ rest) ≡ number_at (b ∷ rest)
 unfolding step_at
 number_goes keeps b rest h =
     let not_blank : is_blank b ≡ false = grind (arith, nat_tests) in
@@ -59,7 +59,7 @@ number_goes keeps b rest h =
     ∙ (ap (λ t. cond t (name_at (b ∷ rest)) (cond (is_ascii_digit b) (number_at (b ∷ rest)) (mark_at (b ∷ rest)))) not_name
     ∙ ap (λ t. cond t (number_at (b ∷ rest)) (mark_at (b ∷ rest))) h))
 
-name_bytes : (text : List ℕ) → is_name text ≡ true → list_all is_name_byte text ≡ true
+pub name_bytes : (text : List ℕ) → is_name text ≡ true → list_all is_name_byte text ≡ true
 name_bytes [] h = cc
 name_bytes (b ∷ bs) h = both _ _ (start (both_first (is_name_start b) (list_all is_name_byte bs) h)) (both_second (is_name_start b) (list_all is_name_byte bs) h)
   where
@@ -76,7 +76,7 @@ name_reads keeps (b ∷ bs) rest h g =
     ∙ (ap (λ t. step.Taken (prefix_len is_name_byte ((b ∷ bs) ++ rest)) (name_kind (word_of t) t)) front
     ∙ ap (λ n. step.Taken n (name_kind (word_of (b ∷ bs)) (b ∷ bs))) len)
 
-numeral_starts : (whole xs : List ℕ) → 0 < length whole → AllDigits 10 whole → follows is_ascii_digit (whole ++ xs) ≡ true
+pub numeral_starts : (whole xs : List ℕ) → 0 < length whole → AllDigits 10 whole → follows is_ascii_digit (whole ++ xs) ≡ true
 numeral_starts [] xs some h = absurd (omega arith)
 numeral_starts (d ∷ ds) xs some h = below_digit d h.0
 
@@ -129,11 +129,11 @@ comment_goes : (keeps : Bool) (xs : List ℕ) → step_at keeps (codes "/*" ++ x
 unfolding mark_at
 comment_goes keeps xs = mark_first keeps mark.BlockComment xs ∙ ap (mark_step (codes "/*" ++ xs)) (comment_mark xs)
 
-long_goes : (keeps : Bool) (xs : List ℕ) → step_at keeps (codes "{{{" ++ xs) ≡ long_step xs (find_end (codes "}}}") xs)
+pub long_goes : (keeps : Bool) (xs : List ℕ) → step_at keeps (codes "{{{" ++ xs) ≡ long_step xs (find_end (codes "}}}") xs)
 unfolding mark_at
 long_goes keeps xs = mark_first keeps mark.LongString xs ∙ ap (mark_step (codes "{{{" ++ xs)) (long_mark xs)
 
-quote_goes : (keeps : Bool) (xs : List ℕ) → step_at keeps (34 ∷ xs) ≡ string_step (body_of xs)
+pub quote_goes : (keeps : Bool) (xs : List ℕ) → step_at keeps (34 ∷ xs) ≡ string_step (body_of xs)
 unfolding mark_at
 quote_goes keeps xs = mark_first keeps mark.Quote xs ∙ ap (mark_step (34 ∷ xs)) (quote_mark xs)
 

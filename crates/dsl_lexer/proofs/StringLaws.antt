@@ -1,8 +1,9 @@
 -- What a string stands for, both ways.
 use Rattle.std.proofs.Common.{◌≡◌, ℕ, suc, ◌+◌, ◌*◌, ◌-◌, ◌<◌, List, [], ◌∷◌, ◌++◌, length, Bool, true, false, cond, not, ◌&&◌, ◌==◌, nat_lt, Option, Some, None, refl, sym, ap, ◌∙◌, subst, arith}
 use Rattle.std.proofs.lemmas.Bool.Decides.{nat_tests}
+use Rattle.dsl_lexer.specs.Letters.{is_octal, escape_value}
 use Rattle.dsl_lexer.specs.declared.unit.Unit.TheVariants as unit
-use Rattle.dsl_lexer.specs.Strings.{is_octal, octal_byte, octal_third, octal_second, octal_of, escape_value, escape_step, escape_of, unit_of}
+use Rattle.dsl_lexer.specs.Strings.{octal_byte, octal_third, octal_second, octal_of, escape_step, escape_of, unit_of}
 use Rattle.dsl_lexer.specs.Tokens.{is_plain, IsOctal, Way, plain, escape, octal, IsWritten}
 use Rattle.dsl_lexer.proofs.Bytes.{both_first, both_second, not_true}
 

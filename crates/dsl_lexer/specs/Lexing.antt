@@ -1,52 +1,17 @@
 -- The tokens of a whole text, read byte by byte.
-use Rattle.std.specs.Prelude.{◌≡◌, ℕ, zero, suc, ◌+◌, ◌-◌, List, [], ◌∷◌, ◌++◌, ◌==◌, Bool, true, false, take, drop, length, slice_get, Option, Some, if◌then◌else◌, Result, Ok, Err}
+use Rattle.std.specs.Prelude.{◌≡◌, ℕ, zero, suc, List, [], ◌∷◌, ◌++◌, take, drop, length, Result, Ok, Err}
 use Rattle.site_base.specs.declared.place.Place.{Place}
+use Rattle.dsl_lexer.specs.Places.{place_behind}
+use Rattle.dsl_lexer.specs.Brackets.{keeps, opened}
+use Rattle.dsl_lexer.specs.Tokens.{token}
 use Rattle.dsl_lexer.specs.Steps.{step_at}
 use Rattle.dsl_lexer.specs.declared.sign.Sign.{Sign}
-use Rattle.dsl_lexer.specs.declared.sign.Sign.TheVariants as sign
 use Rattle.dsl_lexer.specs.declared.token.Token.{Token}
-use Rattle.dsl_lexer.specs.declared.token_kind.TokenKind.{TokenKind}
 use Rattle.dsl_lexer.specs.declared.token_kind.TokenKind.TheVariants as kind
 use Rattle.dsl_lexer.specs.declared.step.Step.{Step}
 use Rattle.dsl_lexer.specs.declared.step.Step.TheVariants as step
 use Rattle.dsl_lexer.specs.declared.lex_error.LexError.{LexError}
 use Rattle.dsl_lexer.specs.declared.lex_error.LexError.TheVariants as error
-
--- the place behind a byte
-abbrev pub after : ℕ → Place → Place
-after b p = if b == 10 then record p { line = p.line + 1; col = 1 } else record p { col = p.col + 1 }
-
--- the place behind these bytes
-abbrev pub place_behind : List ℕ → Place → Place
-place_behind [] p = p
-place_behind (b ∷ bs) p = place_behind bs (after b p)
-
--- whether newlines are tokens inside this bracket
-abbrev pub keeps_inside : Option Sign → Bool
-keeps_inside (Some sign.OpenParen) = false
-keeps_inside (Some sign.OpenBracket) = false
-keeps_inside s = true
-
--- whether newlines are tokens inside these brackets, the innermost last
-abbrev pub keeps : List Sign → Bool
-keeps brackets = keeps_inside (slice_get brackets (length brackets - 1))
-
--- the open brackets behind a token: a closing one takes off the last
-abbrev pub opened_by : Sign → List Sign → List Sign
-opened_by sign.OpenParen brackets = brackets ++ sign.OpenParen ∷ []
-opened_by sign.OpenBracket brackets = brackets ++ sign.OpenBracket ∷ []
-opened_by sign.OpenBrace brackets = brackets ++ sign.OpenBrace ∷ []
-opened_by sign.CloseParen brackets = take (length brackets - 1) brackets
-opened_by sign.CloseBracket brackets = take (length brackets - 1) brackets
-opened_by sign.CloseBrace brackets = take (length brackets - 1) brackets
-opened_by s brackets = brackets
-
-abbrev pub opened : TokenKind → List Sign → List Sign
-opened (kind.Sign s) brackets = opened_by s brackets
-opened k brackets = brackets
-
-abbrev pub token : Place → TokenKind → Token
-token p k = record { place = p; kind = k }
 
 -- all tokens, or the place of what begins none
 pub data Lexed : Type 0 where

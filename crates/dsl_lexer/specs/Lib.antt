@@ -7,3 +7,6 @@ pub mod Steps
 pub mod Lexing
 pub mod Tokens
 pub mod Lists
+pub mod Longest
+pub mod Places
+pub mod Brackets

@@ -3,17 +3,13 @@ use Rattle.std.specs.Prelude.{ℕ, ◌≡◌, ◌<◌, List, [], ◌∷◌, Bool
 use Rattle.std.specs.Str.{IsUtf8}
 use Rattle.std.specs.Str.Lossy.{utf8_valid_len}
 use Rattle.site_base.specs.declared.place.Place.{Place}
-use Rattle.dsl_lexer.specs.Lexing.{place_behind}
+use Rattle.dsl_lexer.specs.Places.{start_of, place_behind}
 use Rattle.dsl_lexer.specs.Tokens.{Lexes, StopsAt}
 use Rattle.dsl_lexer.specs.declared.token.Token.{Token}
 use Rattle.dsl_lexer.specs.declared.token_kind.TokenKind.{TokenKind}
 use Rattle.dsl_lexer.specs.declared.token_kind.TokenKind.TheVariants as kind
 use Rattle.dsl_lexer.specs.declared.lex_error.LexError.{LexError}
 use Rattle.dsl_lexer.specs.declared.lex_error.LexError.TheVariants as error
-
--- where a file begins
-abbrev pub start_of : ℕ → Place
-start_of file = record { file = file; line = 1; col = 1 }
 
 -- the bytes of a file are UTF-8 and have these tokens
 abbrev pub HasTokens : ℕ → List ℕ → List Token → Type 0

@@ -1,10 +1,8 @@
 -- What stands inside a string, read byte by byte.
-use Rattle.std.specs.Prelude.{ℕ, ◌<◌, ◌≤◌, zero, suc, ◌+◌, ◌*◌, ◌-◌, List, [], ◌∷◌, ◌++◌, ◌==◌, ◌&&◌, Bool, nat_le, nat_lt, drop, length, Option, Some, None, if◌then◌else◌}
+use Rattle.std.specs.Prelude.{ℕ, ◌<◌, ◌≤◌, zero, suc, ◌+◌, ◌*◌, ◌-◌, List, [], ◌∷◌, ◌++◌, ◌==◌, nat_lt, drop, length, Option, Some, None, if◌then◌else◌}
+use Rattle.dsl_lexer.specs.Letters.{is_octal, escape_value}
 use Rattle.dsl_lexer.specs.declared.unit.Unit.{Unit as Written}
 use Rattle.dsl_lexer.specs.declared.unit.Unit.TheVariants as unit
-
-abbrev pub is_octal : ℕ → Bool
-is_octal b = nat_le 48 b && nat_le b 55
 
 -- the value of three octal digits, which is at most 127
 abbrev pub octal_byte : ℕ → Written
@@ -23,18 +21,6 @@ octal_second v (b ∷ bs) = if is_octal b then octal_third (v * 8 + (b - 48)) bs
 unfoldable pub octal_of : List ℕ → Written
 octal_of [] = unit.Bad
 octal_of (a ∷ bs) = if is_octal a then octal_second (a - 48) bs else unit.Bad
-
--- the byte that a letter stands for behind a backslash
-abbrev pub escape_value : ℕ → Option ℕ
-escape_value e =
-    if e == 34 then Some 34
-    else if e == 92 then Some 92
-    else if e == 116 then Some 9
-    else if e == 114 then Some 13
-    else if e == 110 then Some 10
-    else if e == 98 then Some 8
-    else if e == 102 then Some 12
-    else None
 
 -- behind a backslash
 abbrev pub escape_step : Option ℕ → List ℕ → Written

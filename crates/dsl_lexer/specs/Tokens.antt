@@ -5,12 +5,12 @@ use Rattle.std.specs.Char.{is_ascii_digit}
 use Rattle.std.specs.Str.{IsUtf8}
 use Rattle.site_base.specs.Reading.{number_read}
 use Rattle.site_base.specs.declared.place.Place.{Place}
-use Rattle.dsl_lexer.specs.Letters.{is_blank, is_name_start, is_name_byte, is_inner, goes_on, follows}
+use Rattle.dsl_lexer.specs.Brackets.{keeps, opened}
+use Rattle.dsl_lexer.specs.Places.{place_behind}
+use Rattle.dsl_lexer.specs.Letters.{is_blank, is_name_start, is_name_byte, is_inner, goes_on, follows, is_octal, escape_value}
 use Rattle.dsl_lexer.specs.Words.{word_spelling}
 use Rattle.dsl_lexer.specs.Signs.{sign_spelling}
 use Rattle.dsl_lexer.specs.Marks.{mark_spelling, begins}
-use Rattle.dsl_lexer.specs.Strings.{is_octal, escape_value}
-use Rattle.dsl_lexer.specs.Lexing.{place_behind, keeps, opened, token}
 use Rattle.dsl_lexer.specs.declared.word.Word.{Word}
 use Rattle.dsl_lexer.specs.declared.sign.Sign.{Sign}
 use Rattle.dsl_lexer.specs.declared.mark.Mark.{Mark}
@@ -109,6 +109,9 @@ IsToken is_token (kind.Str value) text rest = (quoting : Quoting) × IsString qu
 IsToken is_token (kind.Sign s) text rest = (text ≡ sign_spelling s) × IsLongest (mark.Sign s) (text ++ rest)
 IsToken is_token kind.NewLine text rest = (is_token ≡ true) × (text ≡ 10 ∷ [])
 IsToken is_token kind.End text rest = ⊥
+
+abbrev pub token : Place → TokenKind → Token
+token p k = record { place = p; kind = k }
 
 -- from a place, inside brackets, the innermost last: a text has these tokens
 pub data Lexes : Place → List Sign → List ℕ → List Token → Type 0 where

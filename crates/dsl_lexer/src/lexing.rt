@@ -1,9 +1,14 @@
 // The tokens of a text.
-ghost use Rattle.std.specs.Prelude.{◌≡◌, ◌+◌, ◌-◌, ◌<◌, ◌≤◌, ◌^◌, length, OnOk, IfOk, ℕ, List};
+ghost use Rattle.std.specs.Prelude.{◌≡◌, ◌+◌, ◌-◌, ◌<◌, ◌≤◌, ◌^◌, length, OnOk, IfOk, ℕ, List, Bool, ◌++◌};
+ghost use Rattle.dsl_lexer.specs.Brackets.{opened, keeps};
+ghost use Rattle.dsl_lexer.specs.Places.{place_behind as behind, after};
 ghost use Rattle.dsl_lexer.specs.Lists.{HasTokens, HasFault, GivesTokens, GivesFault, IsFaultOf, IsWhole};
+ghost use Rattle.dsl_lexer.specs.Tokens.{IsToken};
+ghost use Rattle.dsl_lexer.specs.Longest.{IsSpelling};
 ghost use Rattle.dsl_lexer.specs.declared.token.Token.{Token};
+ghost use Rattle.dsl_lexer.specs.declared.token_kind.TokenKind.{TokenKind};
 ghost use Rattle.site_base.specs.declared.place.Place.{Place};
-ghost use Rattle.dsl_lexer.specs.Lexing.{Gives, lexed, place_behind as behind, opened, keeps, after};
+ghost use Rattle.dsl_lexer.specs.Lexing.{Gives, lexed};
 
 use crate::step::Step;
 use crate::stepping::next_step;
@@ -40,6 +45,13 @@ pub fn tokens_are_one()
     ensures one { (file : ℕ) (bytes : List ℕ) (ts us : List Token) → HasTokens file bytes ts → HasTokens file bytes us → ts ≡ us }
     ensures none { (file : ℕ) (bytes : List ℕ) (ts : List Token) (place : Place) → HasTokens file bytes ts → HasFault file bytes place → ⊥ }
     ensures one_fault { (file : ℕ) (bytes : List ℕ) (p q : Place) → HasFault file bytes p → HasFault file bytes q → p ≡ q }
+{}
+
+/// A token is the longest spelling with which the text at its place begins. This call does nothing:
+/// its contract says so.
+pub fn tokens_are_longest()
+    ensures { (is_token : Bool) (k other : TokenKind) (text rest longer behind : List ℕ) → IsToken is_token k text rest → text ++ rest ≡ longer ++ behind
+        → IsSpelling other longer behind → length longer ≤ length text }
 {}
 
 fn fault(place: Place) -> LexError
@@ -81,14 +93,14 @@ fn tokens_of(alloc: Global, bytes: &[u8], start: Place) -> Result<Row<Token>, Le
     Ok(tokens)
 }
 
-/// Whether newlines are tokens where these brackets are brackets, the innermost last.
+/// Whether newlines are tokens where these brackets are open, the innermost last.
 fn keeps_newlines(brackets: &[Sign]) -> bool
     ensures { result ≡ keeps brackets.now }
 {
     !matches!(brackets.last(), Some(Sign::OpenParen | Sign::OpenBracket))
 }
 
-/// The brackets brackets behind a token: an opening one is added, and a closing one takes off the
+/// The open brackets behind a token: an opening one is added, and a closing one takes off the
 /// last, whatever it is.
 fn open_or_close(brackets: &mut Vec<Sign>, kind: &TokenKind) -> Result<(), OutOfMemory>
     ensures { OnOk result (brackets.new.items ≡ opened kind.now brackets.old.items) }

@@ -11,6 +11,8 @@ mod spans;
 mod step;
 mod stepping;
 mod strings;
+#[cfg(test)]
+mod tests;
 mod token;
 mod token_kind;
 mod unit;
@@ -18,7 +20,7 @@ mod word;
 mod words;
 
 pub use lex_error::{LexError, LexFault};
-pub use lexing::{lex, tokens_are_one};
+pub use lexing::{lex, tokens_are_longest, tokens_are_one};
 pub use sign::Sign;
 pub use token::Token;
 pub use token_kind::TokenKind;

@@ -1,6 +1,7 @@
 // One character of a string as it is written.
 ghost use Rattle.std.specs.Prelude.{◌≡◌, ◌<◌, ◌+◌, length};
-ghost use Rattle.dsl_lexer.specs.Strings.{unit_of, escape_of, octal_of, octal_second, octal_third, octal_byte, is_octal as octal, IsWithin};
+ghost use Rattle.dsl_lexer.specs.Letters.{is_octal as octal};
+ghost use Rattle.dsl_lexer.specs.Strings.{unit_of, escape_of, octal_of, octal_second, octal_third, octal_byte, IsWithin};
 
 /// What stands at a place inside a string.
 #[derive(Clone, Copy)]

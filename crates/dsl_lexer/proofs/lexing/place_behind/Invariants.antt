@@ -1,5 +1,5 @@
 use Rattle.std.proofs.Common.{◌≡◌, ◌+◌, ◌≤◌, drop}
-use Rattle.dsl_lexer.specs.Lexing.{place_behind}
+use Rattle.dsl_lexer.specs.Places.{place_behind}
 use Rattle.dsl_lexer.proofs.lexing.place_behind.Given as goal
 
 abbrev pub invariant-loop-byte : goal.invariant-loop-byte
