@@ -1,0 +1,17 @@
+pub mod Bodies
+pub mod Ends
+pub mod Texts
+pub mod Lexeds
+pub mod StepLaws
+pub mod Bytes
+pub mod WordLaws
+pub mod MarkLaws
+pub mod EndLaws
+pub mod StringLaws
+pub mod BodyLaws
+pub mod NumberLaws
+pub mod FirstBytes
+pub mod StepReads
+pub mod LexLaws
+pub mod ListLaws
+pub mod Longest

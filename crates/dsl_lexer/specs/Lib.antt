@@ -1,0 +1,12 @@
+pub mod Letters
+pub mod Words
+pub mod Signs
+pub mod Marks
+pub mod Strings
+pub mod Steps
+pub mod Lexing
+pub mod Tokens
+pub mod Lists
+pub mod Longest
+pub mod Places
+pub mod Brackets

@@ -1,0 +1,152 @@
+// The tokens of a text.
+ghost use Rattle.std.specs.Prelude.{◌≡◌, ◌+◌, ◌-◌, ◌<◌, ◌≤◌, ◌^◌, length, OnOk, IfOk, ℕ, List, Bool, ◌++◌};
+ghost use Rattle.dsl_lexer.specs.Brackets.{opened, keeps};
+ghost use Rattle.dsl_lexer.specs.Places.{place_behind as behind, after};
+ghost use Rattle.dsl_lexer.specs.Lists.{HasTokens, HasFault, GivesTokens, GivesFault, IsFaultOf, IsWhole};
+ghost use Rattle.dsl_lexer.specs.Tokens.{IsToken};
+ghost use Rattle.dsl_lexer.specs.Longest.{IsSpelling};
+ghost use Rattle.dsl_lexer.specs.declared.token.Token.{Token};
+ghost use Rattle.dsl_lexer.specs.declared.token_kind.TokenKind.{TokenKind};
+ghost use Rattle.site_base.specs.declared.place.Place.{Place};
+ghost use Rattle.dsl_lexer.specs.Lexing.{Gives, lexed};
+
+use crate::step::Step;
+use crate::stepping::next_step;
+use crate::{LexError, LexFault, Sign, Token, TokenKind};
+use site_base::{OutOfMemory, Place, Row};
+use std::alloc::Global;
+
+/// The tokens of a text.
+pub fn lex(alloc: Global, bytes: &[u8], file: u32) -> Result<Row<Token>, LexError>
+    requires { length bytes.now < 2 ^ 32 - 1 }
+    ensures tokens { IfOk result (λ ts. HasTokens file bytes.now ts) }
+    ensures only { (ts : List Token) → HasTokens file bytes.now ts → GivesTokens ts result }
+    ensures fault { IsFaultOf file bytes.now result }
+    ensures only_fault { (place : Place) → HasFault file bytes.now place → GivesFault place result }
+    ensures whole { IfOk result IsWhole }
+{
+    let start = Place {
+        file,
+        line: 1,
+        col: 1,
+    };
+    match str::from_utf8(bytes) {
+        Ok(_) => tokens_of(alloc, bytes, start),
+        Err(error) => {
+            let (valid, _) = bytes.split_at(error.valid_up_to());
+            Err(fault(place_behind(valid, start)))
+        }
+    }
+}
+
+/// A text has at most one list of tokens, and none where it has a fault. This call does nothing: its
+/// contract says so.
+pub fn tokens_are_one()
+    ensures one { (file : ℕ) (bytes : List ℕ) (ts us : List Token) → HasTokens file bytes ts → HasTokens file bytes us → ts ≡ us }
+    ensures none { (file : ℕ) (bytes : List ℕ) (ts : List Token) (place : Place) → HasTokens file bytes ts → HasFault file bytes place → ⊥ }
+    ensures one_fault { (file : ℕ) (bytes : List ℕ) (p q : Place) → HasFault file bytes p → HasFault file bytes q → p ≡ q }
+{}
+
+/// A token is the longest spelling with which the text at its place begins. This call does nothing:
+/// its contract says so.
+pub fn tokens_are_longest()
+    ensures { (is_token : Bool) (k other : TokenKind) (text rest longer behind : List ℕ) → IsToken is_token k text rest → text ++ rest ≡ longer ++ behind
+        → IsSpelling other longer behind → length longer ≤ length text }
+{}
+
+fn fault(place: Place) -> LexError
+    ensures { result ≡ LexError.Fault (record { place = place }) }
+{
+    LexError::Fault(LexFault { place })
+}
+
+fn tokens_of(alloc: Global, bytes: &[u8], start: Place) -> Result<Row<Token>, LexError>
+    requires line { start.line + length bytes.now < 2 ^ 32 }
+    requires col { start.col + length bytes.now < 2 ^ 32 }
+    ensures { Gives result (lexed start bytes.now) }
+{
+    let mut tokens = Row::new(alloc);
+    let mut brackets = Vec::new(alloc);
+    let mut place = start;
+    let mut rest = bytes;
+    while !rest.is_empty() {
+        match next_step(alloc, keeps_newlines(brackets.as_slice()), rest)? {
+            Step::Passed(len) => {
+                let (passed, behind) = rest.split_at(len);
+                place = place_behind(passed, place);
+                rest = behind;
+            }
+            Step::Taken(len, kind) => {
+                let (taken, behind) = rest.split_at(len);
+                open_or_close(&mut brackets, &kind)?;
+                tokens.push(Token { place, kind })?;
+                place = place_behind(taken, place);
+                rest = behind;
+            }
+            Step::Fault => return Err(fault(place)),
+        }
+    }
+    tokens.push(Token {
+        place,
+        kind: TokenKind::End,
+    })?;
+    Ok(tokens)
+}
+
+/// Whether newlines are tokens where these brackets are open, the innermost last.
+fn keeps_newlines(brackets: &[Sign]) -> bool
+    ensures { result ≡ keeps brackets.now }
+{
+    !matches!(brackets.last(), Some(Sign::OpenParen | Sign::OpenBracket))
+}
+
+/// The open brackets behind a token: an opening one is added, and a closing one takes off the
+/// last, whatever it is.
+fn open_or_close(brackets: &mut Vec<Sign>, kind: &TokenKind) -> Result<(), OutOfMemory>
+    ensures { OnOk result (brackets.new.items ≡ opened kind.now brackets.old.items) }
+{
+    match kind {
+        TokenKind::Sign(sign @ (Sign::OpenParen | Sign::OpenBracket | Sign::OpenBrace)) => {
+            brackets.push(*sign)?;
+        }
+        TokenKind::Sign(Sign::CloseParen | Sign::CloseBracket | Sign::CloseBrace) => {
+            brackets.pop();
+        }
+        _ => {}
+    }
+    Ok(())
+}
+
+/// The place behind these bytes.
+fn place_behind(bytes: &[u8], start: Place) -> Place
+    requires line { start.line + length bytes.now < 2 ^ 32 }
+    requires col { start.col + length bytes.now < 2 ^ 32 }
+    ensures value { result ≡ behind bytes.now start }
+    ensures line { result.line ≤ start.line + length bytes.now }
+    ensures col { result.col ≤ start.col + length bytes.now }
+{
+    let mut place = start;
+    for byte in bytes {
+        place = place_after(place, *byte);
+    }
+    place
+}
+
+fn place_after(place: Place, byte: u8) -> Place
+    requires line { place.line < 2 ^ 32 - 1 }
+    requires col { place.col < 2 ^ 32 - 1 }
+    ensures { result ≡ after byte place }
+{
+    if byte == b'\n' {
+        Place {
+            line: place.line + 1,
+            col: 1,
+            ..place
+        }
+    } else {
+        Place {
+            col: place.col + 1,
+            ..place
+        }
+    }
+}
