@@ -12,9 +12,10 @@
 //! - A key is a day of the week in lower case, or a date `YYYY-MM-DD`; no other day is known.
 //! - A span holds from its start on and before its end, and lies within one day.
 //!
-//! A period's spans are a plain list, which is walked for each question. It is short, and a walk
-//! over a thousand spans takes about a microsecond; an index by day would have to be kept beside
-//! the list, and be made anew for each configuration.
+//! A period's spans are a plain list, which is walked for each question, with the local time found
+//! once. Such a list is short, and a walk over a thousand spans was measured to take a microsecond
+//! and a half; an index by day would have to be kept beside the list and made anew for each
+//! configuration.
 //!
 //! In reading order: which day a key names, which spans a text stands for, how ranges are read,
 //! the zone, and the period.

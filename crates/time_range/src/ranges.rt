@@ -13,6 +13,11 @@ use std::alloc::Global;
 
 /// The spans that the attribute `ranges` of a time period stands for, in the order of its keys and,
 /// under one key, as written; none where it is null.
+///
+/// A key is a day of the week in lower case or a date `YYYY-MM-DD`. Its value is a text of spans
+/// `HH:MM-HH:MM` joined by commas: the start is before the end, which is at most `24:00`, and
+/// spaces, tabs and carriage returns may stand round each. The empty text is no span. `BadRange`
+/// names the first key, in byte order, for which that isn't so.
 pub fn read_ranges(alloc: Global, tree: &Tree) -> Result<Ranges, RangeFault>
     requires { CanRead (view tree.now) }
     // What is read is what the keys and their texts say, and what they say is read, unless memory runs out.
