@@ -16,7 +16,21 @@ use crate::{LexError, LexFault, Sign, Token, TokenKind};
 use site_base::{OutOfMemory, Place, Row};
 use std::alloc::Global;
 
-/// The tokens of a text.
+/// The tokens of the bytes of a file, which is the one with this index in a list of files. The last is
+/// the end token, no other is, and their places rise.
+///
+/// The longest spelling is taken. Blanks (space, tab and carriage return) and comments are passed
+/// over, and so are newlines where the innermost open bracket is `(` or `[`. A closing bracket closes
+/// the last one that is open, whatever it is. See "Syntax" in the chapter "Language Reference" of the
+/// Icinga 2 documentation.
+///
+/// `Fault` where the bytes aren't UTF-8, at the first that isn't, whatever stands before it; else at the
+/// first byte, reached token by token, that begins nothing of the language: a string or a comment
+/// without its end, a string with another escape or one above 127, a number that [`Num::read`] doesn't
+/// take or that a letter, a digit or `_` follows, or a byte with no meaning. `OutOfMemory` where there
+/// is no memory for the tokens.
+///
+/// [`Num::read`]: site_base::Num::read
 pub fn lex(alloc: Global, bytes: &[u8], file: u32) -> Result<Row<Token>, LexError>
     requires { length bytes.now < 2 ^ 32 - 1 }
     ensures tokens { IfOk result (λ ts. HasTokens file bytes.now ts) }
@@ -39,8 +53,8 @@ pub fn lex(alloc: Global, bytes: &[u8], file: u32) -> Result<Row<Token>, LexErro
     }
 }
 
-/// A text has at most one list of tokens, and none where it has a fault. This call does nothing: its
-/// contract says so.
+/// The bytes of a file have at most one list of tokens and at most one fault, and never both. This
+/// call does nothing: its contract says so.
 pub fn tokens_are_one()
     ensures one { (file : ℕ) (bytes : List ℕ) (ts us : List Token) → HasTokens file bytes ts → HasTokens file bytes us → ts ≡ us }
     ensures none { (file : ℕ) (bytes : List ℕ) (ts : List Token) (place : Place) → HasTokens file bytes ts → HasFault file bytes place → ⊥ }
@@ -60,6 +74,7 @@ fn fault(place: Place) -> LexError
     LexError::Fault(LexFault { place })
 }
 
+/// The tokens of a text that begins at a place.
 fn tokens_of(alloc: Global, bytes: &[u8], start: Place) -> Result<Row<Token>, LexError>
     requires line { start.line + length bytes.now < 2 ^ 32 }
     requires col { start.col + length bytes.now < 2 ^ 32 }
@@ -132,6 +147,7 @@ fn place_behind(bytes: &[u8], start: Place) -> Place
     place
 }
 
+/// The place behind one byte.
 fn place_after(place: Place, byte: u8) -> Place
     requires line { place.line < 2 ^ 32 - 1 }
     requires col { place.col < 2 ^ 32 - 1 }
