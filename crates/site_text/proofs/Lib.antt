@@ -1,0 +1,2 @@
+pub mod CheckableNames
+pub mod Parts
