@@ -1,0 +1,11 @@
+pub mod Lists
+pub mod Views
+pub mod Opens
+pub mod Draws
+pub mod Awaits
+pub mod Serves
+pub mod Deals
+pub mod Gathers
+pub mod Ends
+pub mod Passing
+pub mod Together

@@ -1,0 +1,10 @@
+// The gate of every run but those that try an order of turns.
+use crate::{Gate, GatePoint};
+
+/// A gate that holds nobody up.
+#[derive(Clone, Copy, Debug)]
+pub struct OpenGate;
+
+impl Gate for OpenGate {
+    fn enter(&self, _caller: u32, _point: GatePoint) {}
+}

@@ -1,0 +1,22 @@
+// The post: one machine under one lock.
+ghost use Rattle.std.specs.Prelude.{◌≡◌, ◌<◌};
+
+use crate::Machine;
+use crate::turns::Board;
+
+mod acting;
+mod closing;
+mod opening;
+mod steps;
+
+/// A machine whose state the callers share. Each caller acts through its own pass, and may do so
+/// while other threads act through theirs.
+#[derive(Drop)]
+pub struct Post<M: Machine> {
+    pub(crate) board: Board<M>,
+    pub(crate) machine: M,
+    pub(crate) number: u32,
+    ghost sized: { (board.shared.table_id.words ≡ 2) × (board.shared.table_id.slots ≡ 1) },
+    ghost keyed: { board.shared.key.value.machine ≡ machine },
+    ghost counted: { 0 < board.shared.key.value.callers },
+}
