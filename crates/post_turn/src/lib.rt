@@ -22,6 +22,8 @@ mod plays;
 mod post;
 mod receipt;
 mod refused;
+#[cfg(test)]
+mod tests;
 mod turns;
 mod view;
 
