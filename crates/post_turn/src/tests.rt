@@ -4,4 +4,5 @@ mod counting;
 mod gates;
 mod one_thread;
 mod refusing;
+mod speed;
 mod threads;

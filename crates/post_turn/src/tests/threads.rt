@@ -50,7 +50,7 @@ fn raced<R: Wait + Threads + Sync>(
     post.close(Row::from(passes)).map_err(|_| OutOfMemory)
 }
 
-fn check<R: Wait + Threads + Abort + Sync>(
+pub fn check<R: Wait + Threads + Abort + Sync>(
     rt: &R,
     alloc: Global,
     callers: u32,
