@@ -5,9 +5,10 @@
 //! knows the history so far and which of its entries are its own.
 //!
 //! In reading order: what a machine is (`machine`), where a caller may be held up (`gate_point`,
-//! `gate`, `open_gate`), the state with its history (`body`), what a caller knows (`caller`, `view`),
-//! what the rule reads (`about`), the rule and the steps that keep it (`turns`, `plays`), a caller's
-//! pass and what a call answers (`pass`, `receipt`, `refused`), one turn (`steps`), and the post.
+//! `gate`, `open_gate`), the state with its history (`body`), what is known of callers (`caller`,
+//! `view`), the lock's table with its rule and the steps that keep it (`about`, `turns`, `plays`), a
+//! caller's pass and what a call answers (`pass`, `receipt`, `refused`), and the post (`post`): how it
+//! is made (`opening`), one turn (`steps`), what callers do (`acting`), and how it ends (`closing`).
 #![tactic(auto)]
 
 mod about;

@@ -2,13 +2,20 @@
 ghost use Rattle.std.specs.Prelude.{◌≡◌, ℕ, IfOk, IfErr};
 
 /// A machine: a state, which each event of a caller changes by one entry of the history.
+///
+/// The clauses below are a machine's law. They say what `step` and `glance` give, by six meanings
+/// that each machine defines, and all that a [`crate::Post`] promises is said in these.
 pub trait Machine: Drop + Send + Sync {
+    /// What the entries have made of the start.
     type State: Drop + Send;
 
+    /// What a caller brings.
     type Event: Drop + Send;
 
+    /// What the history keeps of an event.
     type Entry: Drop + Send;
 
+    /// What a caller is shown of a state.
     type Glance: Copy + Send;
 
     /// Which states are fit.

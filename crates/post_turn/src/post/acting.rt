@@ -11,7 +11,9 @@ impl<M: Machine> Post<M> {
     /// Waits for the turn of the pass's caller, makes one step of the machine and gives the turn on.
     /// The gate is entered at Inside while the caller has the turn, and at Outside after that.
     ///
-    /// Refused for want of memory alone: the history then gets no entry.
+    /// Refused for want of memory alone, the machine's or that for the entry, which is taken before the
+    /// machine's step. The event comes back and the history gets no entry, but what the pass has seen
+    /// may be longer. The gate is entered then too.
     pub fn act<R: Wait, G: Gate>(
         &self,
         rt: &R,

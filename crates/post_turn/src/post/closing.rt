@@ -11,9 +11,9 @@ use crate::{Machine, Pass, Post};
 use site_base::Row;
 
 impl<M: Machine> Post<M> {
-    /// Ends the post, with all its passes: the state and the history that led to it.
+    /// Ends the post, with all its passes in any order: the state and the history that led to it.
     ///
-    /// Fails for want of memory alone, and then hands everything back.
+    /// Fails for want of memory alone, and then hands everything back. It takes no memory now.
     pub fn close(
         self,
         passes: Row<Pass<M>>,
