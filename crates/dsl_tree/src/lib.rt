@@ -6,6 +6,8 @@ mod operators;
 mod printing;
 mod shapes;
 mod stmts;
+#[cfg(test)]
+mod tests;
 
 pub use printing::print;
 pub use site_base::{
