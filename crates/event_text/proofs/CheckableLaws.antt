@@ -1,5 +1,5 @@
 -- Which checkables lines name, both ways.
-use Rattle.std.proofs.Common.{◌≡◌, ◌≢◌, ℕ, ◌+◌, ◌<◌, ◌≤◌, ◌==◌, Bool, true, false, cond, List, [], ◌∷◌, ◌++◌, length, map, get_or, refl, sym, ap, ◌∙◌, subst, arith, inl, inr, Option, Some, None, AllPairs}
+use Rattle.std.proofs.Common.{◌≡◌, ℕ, ◌==◌, Bool, true, false, cond, List, refl, sym, ap, ◌∙◌, subst, arith, inl, inr, Option, Some, None}
 use Rattle.std.proofs.lemmas.Bool.{cases_lt}
 use Rattle.std.proofs.lemmas.Bool.Decides.{nat_tests}
 use Rattle.std.proofs.lemmas.Option.{slice_get-map, slice_get_within, get_or_from_slice_get}
@@ -9,7 +9,7 @@ use Rattle.site_model.specs.Names.{place_of, IsPlaceOf}
 use Rattle.site_model.specs.PlainSite.{PlainSite, PlainCheck, full_names}
 use Rattle.site_model.specs.Sound.{IsSound, AreDistinct}
 use Rattle.site_model.proofs.Places.{place_is}
-use Rattle.event_text.specs.Checkables.{full_name, IsHost, IsService, IsNamed, is_none, is_some_of, is_host, is_service_of, host_at, service_at, host_named, service_below, service_named}
+use Rattle.event_text.specs.Checkables.{full_name, IsHost, IsService, is_none, is_some_of, is_host, is_service_of, host_at, service_at, host_named, service_below, service_named}
 
 -- what stands at a place of a list stands there alone, where no two are the same
 pub place_found : (ns : List (List ℕ)) (name : List ℕ) (k : ℕ) → AreDistinct ns → slice_get ns k ≡ Some name → place_of name ns ≡ Some k

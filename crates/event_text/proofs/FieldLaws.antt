@@ -1,5 +1,5 @@
 -- The fields of a result, both ways.
-use Rattle.std.proofs.Common.{◌≡◌, ℕ, ◌<◌, List, [], ◌∷◌, length, refl, sym, ap, ◌∙◌, subst, arith, Option, Some, None, lit<}
+use Rattle.std.proofs.Common.{◌≡◌, ℕ, List, refl, ap, ◌∙◌, Option, Some, None, lit<}
 use Rattle.event_text.specs.Cuts.{IsCut, Cut, cut, uncut, cut_at}
 use Rattle.event_text.specs.Fields.{semicolon, Fields, fields, too_few, AreFields, last_fields, behind_host, behind_service, behind_services_host, host_fields, service_fields}
 use Rattle.event_text.specs.declared.command.Command.{Command}

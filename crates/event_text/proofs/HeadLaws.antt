@@ -1,17 +1,17 @@
 -- The front of a line, both ways.
-use Rattle.std.proofs.Common.{◌≡◌, ℕ, ◌<◌, ◌==◌, Bool, true, false, cond, List, [], ◌∷◌, ◌++◌, length, refl, sym, ap, ◌∙◌, subst, arith, Option, Some, None, lit<}
+use Rattle.std.proofs.Common.{◌≡◌, ℕ, ◌==◌, Bool, true, false, cond, List, [], ◌∷◌, refl, ap, ◌∙◌, arith, Option, Some, None, lit<}
 use Rattle.std.proofs.lemmas.Bool.Decides.{nat_tests}
 use Rattle.std.proofs.lemmas.Str.{IsUtf8-from_is_utf8, is_utf8-from_IsUtf8}
 use Rattle.std.specs.Str.{IsUtf8, is_utf8}
 use Rattle.site_model.specs.PlainSite.{PlainSite}
-use Rattle.event_text.specs.Cuts.{IsCut, IsUncut, Cut, cut, uncut, cut_at}
+use Rattle.event_text.specs.Cuts.{IsUncut, Cut, cut, uncut, cut_at}
 use Rattle.event_text.specs.Fields.{semicolon}
-use Rattle.event_text.specs.Lines.{Answer, told, later, faulty, bracket, IsHead, HasName, IsCommand}
-use Rattle.event_text.specs.Numbers.{IsNumber, is_number}
+use Rattle.event_text.specs.Lines.{Answer, faulty, bracket, IsHead, HasName, IsCommand}
+use Rattle.event_text.specs.Numbers.{IsNumber}
 use Rattle.event_text.specs.Reading.{line_read, text_read, head_read, command_read, cut_read, named_read, bare_read}
 use Rattle.event_text.specs.declared.line_fault.LineFault.TheVariants as fault
 use Rattle.event_text.proofs.CutLaws.{cut_sound, cut_complete, uncut_sound, uncut_complete}
-use Rattle.event_text.proofs.NumberLaws.{number_is, is_number_found, not_number, no_number}
+use Rattle.event_text.proofs.NumberLaws.{is_number_found, no_number}
 
 -- what a text begins with decides whether it has a head
 pub head_found : (s : PlainSite) (line moment command : List ℕ) → IsHead line moment command → text_read s line ≡ head_read s (cut moment command)

@@ -1,5 +1,5 @@
 -- What a line tells, both ways.
-use Rattle.std.proofs.Common.{◌≡◌, ◌≢◌, ℕ, ◌<◌, Bool, true, false, cond, List, [], ◌∷◌, refl, sym, ap, ◌∙◌, subst, Option, Some, None, Result, Ok, Err}
+use Rattle.std.proofs.Common.{◌≡◌, ℕ, Bool, true, false, cond, List, refl, sym, ap, ◌∙◌, subst, Option, Some, None, Result, Ok, Err}
 use Rattle.std.proofs.lemmas.Str.{IsUtf8-from_is_utf8, is_utf8-from_IsUtf8}
 use Rattle.std.specs.List.{slice_get}
 use Rattle.std.specs.Option.{option_map}
@@ -11,8 +11,8 @@ use Rattle.event_text.specs.Checkables.{IsNamed, takes_passive, host_named, serv
 use Rattle.event_text.specs.Commands.{command_name, command_named, is_result}
 use Rattle.event_text.specs.Cuts.{cut}
 use Rattle.event_text.specs.Fields.{Fields, fields, too_few, AreFields, host_fields, service_fields}
-use Rattle.event_text.specs.Lines.{Answer, told, later, faulty, IsHead, IsCommand, IsResult, HasFields, HasEvent, HasFault, Has, passive_event, status_of}
-use Rattle.event_text.specs.Numbers.{IsNumber, IsStatus, is_number, status_in, host_status}
+use Rattle.event_text.specs.Lines.{Answer, told, later, faulty, IsHead, IsCommand, IsResult, HasFields, HasFault, Has, passive_event, status_of}
+use Rattle.event_text.specs.Numbers.{IsNumber, is_number, status_in}
 use Rattle.event_text.specs.Reading.{line_read, text_read, head_read, fields_read, passive_read, command_with, command_alone, Gives, Tells}
 use Rattle.event_text.specs.declared.command.Command.{Command}
 use Rattle.event_text.specs.declared.command.Command.TheVariants as command
@@ -23,7 +23,7 @@ use Rattle.event_text.specs.declared.line_fault.LineFault.TheVariants as fault
 use Rattle.event_text.proofs.CheckableLaws.{host_is, host_found, no_host, host_lacks, service_is, service_found, no_service, service_lacks}
 use Rattle.event_text.proofs.CommandLaws.{command_sound, command_found, command_none, command_lacks}
 use Rattle.event_text.proofs.FieldLaws.{Are, host_fields_are, service_fields_are, host_fields_found, service_fields_found}
-use Rattle.event_text.proofs.HeadLaws.{head_found, HeadOf, headless, headed, head_of, with_fields, name_found, NameOf, name_of, timed, untimed, text_line, other_line, command_line}
+use Rattle.event_text.proofs.HeadLaws.{head_found, HeadOf, headless, headed, head_of, with_fields, NameOf, name_of, untimed, text_line, other_line, command_line}
 use Rattle.event_text.proofs.NumberLaws.{number_is, not_number, status_is, status_found, no_status, status_lacks}
 
 -- a result of a host, one of a service, or another command, which has no fields yet
