@@ -1,4 +1,4 @@
-use Rattle.std.proofs.Common.{◌≡◌, ◌++◌, ℕ, List, OnOk, [], get_or, map, ap, ◌∙◌, subst}
+use Rattle.std.proofs.Common.{◌≡◌, ◌++◌, ℕ, List, OnOk, [], get_or, map, ◌∙◌, subst}
 use Rattle.site_base.specs.Quoted.{quoted}
 use Rattle.site_model.specs.PlainSite.{check_view}
 use Rattle.site_model.specs.declared.check_spec.CheckSpec.{CheckSpec}

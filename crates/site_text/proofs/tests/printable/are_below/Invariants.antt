@@ -1,5 +1,5 @@
 use Rattle.std.proofs.Common.{ℕ, ◌<◌, get_or}
-use Rattle.site_text.proofs.tests.are_below.Given as goal
+use Rattle.site_text.proofs.tests.printable.are_below.Given as goal
 
 -- what was passed is below
 abbrev pub invariant-loop-index : goal.invariant-loop-index

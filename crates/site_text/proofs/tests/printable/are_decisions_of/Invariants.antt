@@ -2,7 +2,7 @@ use Rattle.std.proofs.Common.{ℕ, ◌<◌, get_or}
 use Rattle.site_model.specs.PlainSite.{site_view}
 use Rattle.site_model.specs.declared.decision.Decision.{Decision}
 use Rattle.site_text.specs.Entries.{IsDecisionOf}
-use Rattle.site_text.proofs.tests.are_decisions_of.Given as goal
+use Rattle.site_text.proofs.tests.printable.are_decisions_of.Given as goal
 
 -- what was passed is the site's
 abbrev pub invariant-loop-decision : goal.invariant-loop-decision

@@ -1,6 +1,6 @@
 use Rattle.std.proofs.Common.{ℕ, ◌<◌, get_or}
 use Rattle.site_model.specs.declared.sight.Sight.{Sight}
-use Rattle.site_text.proofs.tests.are_seen_of.Given as goal
+use Rattle.site_text.proofs.tests.printable.are_seen_of.Given as goal
 
 -- what was passed is below
 abbrev pub invariant-loop-sight : goal.invariant-loop-sight

@@ -1,0 +1,112 @@
+-- A text is cut at the first mark, both ways.
+use Rattle.std.proofs.Common.{◌≡◌, ℕ, suc, ◌+◌, ◌<◌, ◌≤◌, Bool, true, false, cond, List, [], ◌∷◌, ◌++◌, length, take, drop, refl, sym, ap, ap₂, ◌∙◌, subst, arith, inl, inr, MatchOption, Option, Some, None}
+use Rattle.std.proofs.Math.Seq.{take-append_seam, drop-append_seam}
+use Rattle.std.proofs.lemmas.Bool.{cases_lt}
+use Rattle.std.proofs.lemmas.List.{take-append-drop, length-append}
+use Rattle.std.proofs.lemmas.Slice.Eq.{bytes_eq-Decides}
+use Rattle.std.proofs.lemmas.Str.Pattern.{split_text_parts}
+use Rattle.std.specs.Str.{bytes_eq}
+use Rattle.std.specs.Str.Pattern.{FindsText}
+use denote.Ref.{Bor}
+use Rattle.event_text.specs.Cuts.{IsCut, IsUncut, Cut, cut, uncut, with_first, cut_at}
+
+-- the mark stands at the front
+front_is : (mark text : List ℕ) → bytes_eq mark (take (length mark) text) ≡ true → text ≡ mark ++ drop (length mark) text
+front_is mark text e =
+    sym (take-append-drop (length mark) text)
+    ∙ ap (λ m. m ++ drop (length mark) text) (sym ((bytes_eq-Decides mark (take (length mark) text)).0 e))
+
+front_found : (mark behind text : List ℕ) → text ≡ mark ++ behind → bytes_eq mark (take (length mark) text) ≡ true
+front_found mark behind text e =
+    (bytes_eq-Decides mark (take (length mark) text)).1 (sym (ap (take (length mark)) e ∙ take-append_seam mark behind))
+
+true_false : {A : Type 0} (b : Bool) → b ≡ true → b ≡ false → A
+true_false b t f = absurd (let e : true ≡ false = sym t ∙ f in cc)
+
+-- a mark further on
+tail_is : (b c : ℕ) (xs ys : List ℕ) → b ∷ xs ≡ c ∷ ys → xs ≡ ys
+tail_is b c xs ys e = ap (drop 1) e
+
+later_first : (mark bs front behind : List ℕ) (b : ℕ) → bytes_eq mark (take (length mark) (b ∷ bs)) ≡ false → IsCut mark bs front behind → (f c : List ℕ) → b ∷ bs ≡ f ++ (mark ++ c) → suc (length front) ≤ length f
+later_first mark bs front behind b miss h [] c e = true_false _ (front_found mark c (b ∷ bs) e) miss
+later_first mark bs front behind b miss h (x ∷ f) c e = let more : length front ≤ length f = h.first f c (tail_is b x bs (f ++ (mark ++ c)) e) in omega arith
+
+pub cut_sound : (mark text front behind : List ℕ) → cut_at mark text ≡ cut front behind → IsCut mark text front behind
+cut_sound mark [] front behind e = cc
+cut_sound mark (b ∷ bs) front behind e = by (λ f c h. cut_sound mark bs f c h) (bytes_eq mark (take (length mark) (b ∷ bs))) refl (cut_at mark bs) refl e
+  where
+    here : bytes_eq mark (take (length mark) (b ∷ bs)) ≡ true → IsCut mark (b ∷ bs) [] (drop (length mark) (b ∷ bs))
+    here hit = record { whole = front_is mark (b ∷ bs) hit; first = λ f c h. omega arith }
+
+    there : (f c : List ℕ) → bytes_eq mark (take (length mark) (b ∷ bs)) ≡ false → IsCut mark bs f c → IsCut mark (b ∷ bs) (b ∷ f) c
+    there f c miss h = record { whole = ap (λ xs. b ∷ xs) h.whole; first = later_first mark bs f c b miss h }
+
+    by : ((f c : List ℕ) → cut_at mark bs ≡ cut f c → IsCut mark bs f c) → (t : Bool) → bytes_eq mark (take (length mark) (b ∷ bs)) ≡ t → (r : Cut) → cut_at mark bs ≡ r
+        → cond t (cut [] (drop (length mark) (b ∷ bs))) (with_first b r) ≡ cut front behind → IsCut mark (b ∷ bs) front behind
+    by again true hit r is e =
+        let one : [] ≡ front = cc in
+        let two : drop (length mark) (b ∷ bs) ≡ behind = cc in
+        subst (λ f. IsCut mark (b ∷ bs) f behind) one (subst (λ c. IsCut mark (b ∷ bs) [] c) two (here hit))
+    by again false miss uncut is e = cc
+    by again false miss (cut f c) is e =
+        let one : b ∷ f ≡ front = cc in
+        let two : c ≡ behind = cc in
+        subst (λ g. IsCut mark (b ∷ bs) g behind) one (subst (λ g. IsCut mark (b ∷ bs) (b ∷ f) g) two (there f c miss (again f c is)))
+
+pub uncut_sound : (mark text : List ℕ) → 0 < length mark → cut_at mark text ≡ uncut → IsUncut mark text
+uncut_sound mark [] some e = λ f c h. absurd (omega (arith, ap length h, length-append f (mark ++ c), length-append mark c))
+uncut_sound mark (b ∷ bs) some e = by (λ h. uncut_sound mark bs some h) (bytes_eq mark (take (length mark) (b ∷ bs))) refl (cut_at mark bs) refl e
+  where
+    lacks : bytes_eq mark (take (length mark) (b ∷ bs)) ≡ false → IsUncut mark bs → IsUncut mark (b ∷ bs)
+    lacks miss h [] c e = true_false _ (front_found mark c (b ∷ bs) e) miss
+    lacks miss h (x ∷ f) c e = h f c (tail_is b x bs (f ++ (mark ++ c)) e)
+
+    by : (cut_at mark bs ≡ uncut → IsUncut mark bs) → (t : Bool) → bytes_eq mark (take (length mark) (b ∷ bs)) ≡ t → (r : Cut) → cut_at mark bs ≡ r
+        → cond t (cut [] (drop (length mark) (b ∷ bs))) (with_first b r) ≡ uncut → IsUncut mark (b ∷ bs)
+    by again true hit r is e = cc
+    by again false miss uncut is e = lacks miss (again is)
+    by again false miss (cut f c) is e = cc
+
+-- two cuts of one text are one
+front_same : (xs ys us vs : List ℕ) → length xs ≡ length us → xs ++ ys ≡ us ++ vs → xs ≡ us
+front_same xs ys us vs l e = sym (take-append_seam xs ys) ∙ (ap₂ take l e ∙ take-append_seam us vs)
+
+behind_same : (xs ys us vs : List ℕ) → length xs ≡ length us → xs ++ ys ≡ us ++ vs → ys ≡ vs
+behind_same xs ys us vs l e = sym (drop-append_seam xs ys) ∙ (ap₂ drop l e ∙ drop-append_seam us vs)
+
+pub cut_once : (mark text f c front behind : List ℕ) → IsCut mark text f c → IsCut mark text front behind → cut f c ≡ cut front behind
+cut_once mark text f c front behind h g =
+    let same : length f ≡ length front = (let one = h.first front behind g.whole in let two = g.first f c h.whole in omega arith) in
+    let whole : f ++ (mark ++ c) ≡ front ++ (mark ++ behind) = sym h.whole ∙ g.whole in
+    let rest : mark ++ c ≡ mark ++ behind = behind_same f (mark ++ c) front (mark ++ behind) same whole in
+    ap₂ cut (front_same f (mark ++ c) front (mark ++ behind) same whole) (behind_same mark c mark behind refl rest)
+
+pub cut_complete : (mark text front behind : List ℕ) → 0 < length mark → IsCut mark text front behind → cut_at mark text ≡ cut front behind
+cut_complete mark text front behind some h = by (cut_at mark text) refl
+  where
+    by : (r : Cut) → cut_at mark text ≡ r → cut_at mark text ≡ cut front behind
+    by uncut e = absurd (uncut_sound mark text some e front behind h.whole)
+    by (cut f c) e = e ∙ cut_once mark text f c front behind (cut_sound mark text f c e) h
+
+pub uncut_complete : (mark text : List ℕ) → IsUncut mark text → cut_at mark text ≡ uncut
+uncut_complete mark text h = by (cut_at mark text) refl
+  where
+    by : (r : Cut) → cut_at mark text ≡ r → cut_at mark text ≡ uncut
+    by uncut e = e
+    by (cut f c) e = absurd (h f c (cut_sound mark text f c e).whole)
+
+-- `split_once` cuts so
+at_length : (mark text f c : List ℕ) → text ≡ f ++ (mark ++ c) → drop (length f) text ≡ mark ++ c
+at_length mark text f c e = ap (drop (length f)) e ∙ drop-append_seam f (mark ++ c)
+
+within : (mark text f c : List ℕ) → text ≡ f ++ (mark ++ c) → length f ≤ length text
+within mark text f c e = omega (arith, ap length e, length-append f (mark ++ c))
+
+pub split_is : (mark text : List ℕ) (r : Option (Bor (List ℕ) × Bor (List ℕ))) → 0 < length mark
+    → MatchOption r (FindsText mark text None) (λ x. (i : ℕ) × (j : ℕ) × FindsText mark text (Some (i, j)) × (x.0.now ≡ take i text) × (x.1.now ≡ drop j text) × (i ≤ j) × (length x.0.now ≡ i) × (length x.1.now + j ≡ length text))
+    → MatchOption r (cut_at mark text ≡ uncut) (λ x. cut_at mark text ≡ cut x.0.now x.1.now)
+split_is mark text None some h = uncut_complete mark text (λ f c e. h (length f) (within mark text f c e) c (at_length mark text f c e))
+split_is mark text (Some x) some h = cut_complete mark text x.0.now x.1.now some (record {
+  whole = split_text_parts mark text (Some x) h;
+  first = λ f c e. elim (cases_lt (length f) h.0) [ inl lt ↦ absurd (h.2.0 (length f) lt c (at_length mark text f c e)) | inr le ↦ omega (arith, h.6) ];
+})

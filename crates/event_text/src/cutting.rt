@@ -1,0 +1,11 @@
+// Cutting a text.
+ghost use Rattle.std.specs.Prelude.{◌≡◌, ◌<◌, length, MatchOption};
+ghost use Rattle.event_text.specs.Cuts.{cut as cut_into, uncut, cut_at};
+
+/// What stands before the first of these marks, and what behind it.
+pub(crate) fn cut<'a>(text: &'a str, mark: &str) -> Option<(&'a str, &'a str)>
+    requires { 0 < length mark.now }
+    ensures { MatchOption result (cut_at mark.now text.now ≡ uncut) (λ x. cut_at mark.now text.now ≡ cut_into x.0.now x.1.now) }
+{
+    text.split_once(mark)
+}
