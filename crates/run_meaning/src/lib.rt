@@ -1,0 +1,8 @@
+//! What a run means: the definitions that every part of the engine is proved against.
+//!
+//! They stand in `specs/`, in reading order: the view of one checkable (`View`).
+#![tactic(auto)]
+
+mod laws;
+
+pub use laws::view_of_nothing;
