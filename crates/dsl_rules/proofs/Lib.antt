@@ -1,0 +1,12 @@
+pub mod Basics
+pub mod Law
+pub mod Single
+pub mod Twice
+pub mod Choice
+pub mod Lines
+pub mod Repeat
+pub mod Locals
+pub mod Loops
+pub mod Shape
+pub mod Deep
+pub mod Turning

@@ -1,0 +1,4 @@
+pub mod Alphabet
+pub mod Rules
+pub mod Grammar
+pub mod Reading
