@@ -1,0 +1,4 @@
+pub mod Contents
+pub mod Pairs
+pub mod Parts
+pub mod Whole
