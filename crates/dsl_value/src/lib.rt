@@ -1,12 +1,13 @@
 //! The values of the configuration language, and the stores of cells that arrays and dictionaries lie in.
 //!
 //! In reading order: values (`value`), cells with what changes one (`cell`, `cells`, `pairs`), functions
-//! (`function`), cells and functions that stores share (`part`, `layer`), and the store (`store`,
-//! `set_fault`).
+//! (`function`), cells and functions that stores share (`part`, `layer`), the store (`store`,
+//! `set_fault`), and when values are equal (`equality`).
 #![tactic(auto)]
 
 mod cell;
 mod cells;
+mod equality;
 mod function;
 mod layer;
 mod pairs;
@@ -16,6 +17,7 @@ mod store;
 mod value;
 
 pub use cell::Cell;
+pub use equality::equal;
 pub use function::Function;
 pub use set_fault::SetFault;
 pub use store::Store;
