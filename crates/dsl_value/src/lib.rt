@@ -14,6 +14,8 @@ mod pairs;
 mod part;
 mod set_fault;
 mod store;
+#[cfg(test)]
+mod tests;
 mod value;
 
 pub use cell::Cell;
