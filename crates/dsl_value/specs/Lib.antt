@@ -1,0 +1,5 @@
+pub mod Contents
+pub mod Equality
+pub mod Pairs
+pub mod Parts
+pub mod Whole

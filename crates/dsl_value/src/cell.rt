@@ -1,0 +1,11 @@
+// Cells.
+use crate::Value;
+use site_base::Text;
+
+/// What an array or a dictionary contains.
+#[derive(Debug, Drop)]
+pub enum Cell {
+    Array(Vec<Value>),
+    /// Distinct keys in byte order.
+    Dict(Vec<(Text, Value)>),
+}

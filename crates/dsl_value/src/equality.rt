@@ -1,0 +1,114 @@
+// When values are equal.
+ghost use Rattle.std.specs.Prelude.{◌≡◌, ◌<◌, ◌-◌, length};
+ghost use Rattle.std.specs.List.{All};
+ghost use Rattle.dsl_value.specs.Contents.{plain};
+ghost use Rattle.dsl_value.specs.Equality.{scalars_equal, each_equal, each_pair_equal, cells_equal, refs_equal, equal_within};
+ghost use Rattle.dsl_value.specs.Whole.{Names, Stands};
+
+use crate::{Cell, Store, Value};
+use site_base::Text;
+
+/// How deep arrays and dictionaries are compared. Those that lie deeper are unequal.
+const LEVELS: u32 = 100;
+
+/// Whether two values are equal. Null equals null, 0 and the empty text. Numbers, texts and booleans
+/// are compared by value, arrays and dictionaries element by element to a hundred levels of nesting,
+/// and functions by identity; values of two types are unequal.
+pub fn equal(left: &Value, right: &Value, store: &Store) -> bool
+    requires left { Names (length store.now.cells) (length store.now.functions) left.now }
+    requires right { Names (length store.now.cells) (length store.now.functions) right.now }
+    ensures { result ≡ equal_within 100 store.now.cells left.now right.now }
+{
+    values(LEVELS, left, right, store)
+}
+
+#[cycle(equal)]
+fn values(levels: u32, left: &Value, right: &Value, store: &Store) -> bool
+    requires left { Names (length store.now.cells) (length store.now.functions) left.now }
+    requires right { Names (length store.now.cells) (length store.now.functions) right.now }
+    ensures { result ≡ equal_within levels store.now.cells left.now right.now }
+{
+    if levels == 0 {
+        return scalars(left, right);
+    }
+    inside(levels - 1, left, right, store)
+}
+
+#[cycle(equal)]
+fn inside(levels: u32, left: &Value, right: &Value, store: &Store) -> bool
+    requires left { Names (length store.now.cells) (length store.now.functions) left.now }
+    requires right { Names (length store.now.cells) (length store.now.functions) right.now }
+    ensures { result ≡ refs_equal (equal_within levels store.now.cells) store.now.cells left.now right.now }
+{
+    match (left, right) {
+        (Value::Ref(left), Value::Ref(right)) => {
+            cells(levels, store.cell(*left), store.cell(*right), store)
+        }
+        _ => scalars(left, right),
+    }
+}
+
+#[cycle(equal)]
+fn cells(levels: u32, left: &Cell, right: &Cell, store: &Store) -> bool
+    requires left { Stands (length store.now.cells) (length store.now.functions) (plain left.now) }
+    requires right { Stands (length store.now.cells) (length store.now.functions) (plain right.now) }
+    ensures { result ≡ cells_equal (equal_within levels store.now.cells) (plain left.now) (plain right.now) }
+{
+    match (left, right) {
+        (Cell::Array(left), Cell::Array(right)) => {
+            left.len() == right.len() && items(levels, left, right, store)
+        }
+        (Cell::Dict(left), Cell::Dict(right)) => {
+            left.len() == right.len() && pairs(levels, left, right, store)
+        }
+        _ => false,
+    }
+}
+
+#[cycle(equal)]
+fn items(levels: u32, left: &[Value], right: &[Value], store: &Store) -> bool
+    requires left { All (Names (length store.now.cells) (length store.now.functions)) left.now }
+    requires right { All (Names (length store.now.cells) (length store.now.functions)) right.now }
+    requires length { length left.now ≡ length right.now }
+    ensures { result ≡ each_equal (equal_within levels store.now.cells) left.now right.now }
+{
+    for i in 0..left.len() {
+        if !values(levels, &left[i], &right[i], store) {
+            return false;
+        }
+    }
+    true
+}
+
+#[cycle(equal)]
+fn pairs(levels: u32, left: &[(Text, Value)], right: &[(Text, Value)], store: &Store) -> bool
+    requires left { All (λ p. Names (length store.now.cells) (length store.now.functions) p.1) left.now }
+    requires right { All (λ p. Names (length store.now.cells) (length store.now.functions) p.1) right.now }
+    requires length { length left.now ≡ length right.now }
+    ensures { result ≡ each_pair_equal (equal_within levels store.now.cells) left.now right.now }
+{
+    for i in 0..left.len() {
+        if left[i].0 != right[i].0 || !values(levels, &left[i].1, &right[i].1, store) {
+            return false;
+        }
+    }
+    true
+}
+
+/// Whether two values are equal that aren't both arrays or dictionaries.
+fn scalars(left: &Value, right: &Value) -> bool
+    ensures { result ≡ scalars_equal left.now right.now }
+{
+    match (left, right) {
+        (Value::Null, Value::Null) => true,
+        (Value::Null, Value::Number(number)) | (Value::Number(number), Value::Null) => {
+            number.thousandths() == 0
+        }
+        (Value::Null, Value::Str(text)) | (Value::Str(text), Value::Null) => text.is_empty(),
+        (Value::Bool(left), Value::Bool(right)) => *left == *right,
+        (Value::Number(left), Value::Number(right)) => left.thousandths() == right.thousandths(),
+        (Value::Str(left), Value::Str(right)) => *left == *right,
+        (Value::Func(left), Value::Func(right)) => *left == *right,
+        _ => false,
+    }
+}

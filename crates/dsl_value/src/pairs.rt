@@ -1,0 +1,79 @@
+// Pairs of a key and a value, sorted by the keys' bytes.
+ghost use Rattle.std.specs.Prelude.{◌≡◌, IfOk, IfErr, OnOk, OnErr, IfSome, IfNone, T, Some, None, [], option_map};
+ghost use Rattle.dsl_value.specs.Pairs.{Pairs, key_cmp, find, is_sorted, put, without, IsAt, IsGapFor, dict_of};
+
+use crate::Value;
+use site_base::{OutOfMemory, Text};
+use std::alloc::Global;
+use std::collections::BTreeMap;
+
+/// Where a key stands, or where it would go.
+fn place_of(pairs: &[(Text, Value)], key: &str) -> Result<usize, usize>
+    requires { T (is_sorted pairs.now) }
+    ensures found { IfOk result (IsAt pairs.now key.now) }
+    ensures absent { IfErr result (IsGapFor pairs.now key.now) }
+{
+    pairs.binary_search_by(|pair| pair.0.as_str().cmp(key))
+}
+
+/// The value of a key.
+pub(crate) fn value_of<'a>(pairs: &'a [(Text, Value)], key: &str) -> Option<&'a Value>
+    requires { T (is_sorted pairs.now) }
+    ensures found { IfSome result (λ v. find key.now pairs.now ≡ Some v.now) }
+    ensures absent { IfNone result (find key.now pairs.now ≡ None) }
+{
+    match place_of(pairs, key) {
+        Ok(at) => Some(&pairs[at].1),
+        Err(_) => None,
+    }
+}
+
+/// Gives a key a value.
+pub(crate) fn put_pair(
+    pairs: &mut Vec<(Text, Value)>,
+    key: Text,
+    value: Value,
+) -> Result<(), OutOfMemory>
+    requires { T (is_sorted pairs.old.items) }
+    ensures ok { OnOk result (pairs.new.items ≡ put key value pairs.old.items) }
+    ensures err { OnErr result (pairs.new.items ≡ pairs.old.items) }
+{
+    match place_of(pairs, key.as_str()) {
+        Ok(at) => {
+            pairs[at] = (key, value);
+            Ok(())
+        }
+        Err(at) => Ok(pairs.insert(at, (key, value))?),
+    }
+}
+
+/// Takes a key's pair out.
+pub(crate) fn remove_pair(pairs: &mut Vec<(Text, Value)>, key: &str)
+    requires { T (is_sorted pairs.old.items) }
+    ensures { pairs.new.items ≡ without key.now pairs.old.items }
+{
+    match place_of(pairs, key) {
+        Ok(at) => {
+            pairs.remove(at);
+        }
+        Err(_) => {}
+    }
+}
+
+/// Sorts pairs by their keys. Of equal keys the last has its value kept.
+pub(crate) fn sorted_pairs(
+    alloc: Global,
+    pairs: Vec<(Text, Value)>,
+) -> Result<Vec<(Text, Value)>, OutOfMemory>
+    ensures { IfOk result (λ v. v.items ≡ dict_of pairs.items []) }
+{
+    let mut by_key = BTreeMap::new(alloc);
+    for (key, value) in pairs {
+        by_key.insert(key, value)?;
+    }
+    let mut sorted = Vec::with_capacity(alloc, by_key.len())?;
+    for pair in by_key {
+        sorted.push(pair)?;
+    }
+    Ok(sorted)
+}

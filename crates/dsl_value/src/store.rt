@@ -1,0 +1,251 @@
+// The store.
+ghost use Rattle.std.specs.Prelude.{◌≡◌, ◌<◌, ◌+◌, ◌^◌, ◌++◌, [], ◌∷◌, ◌↔◌, IfOk, OnOk, OnErr, IsErrOf, IsTrue, IfSome, IfNone, Some, None, length};
+ghost use Rattle.std.specs.List.{AllByRecursion};
+ghost use Rattle.std.specs.Arc.{arc_value};
+ghost use Rattle.dsl_value.specs.Contents.{Contents, PlainCell, array, dict, plain, function, function_at, cell_at, with_cell, with_cells, pushed, is_array, is_dict, values_of, pairs_of, with_value, with_pair, without_pair, IsInOrder};
+ghost use Rattle.dsl_value.specs.Pairs.{find, dict_of};
+ghost use Rattle.dsl_value.specs.Whole.{Names, NamesAll, Stands, Captures};
+
+use crate::layer::Layer;
+use crate::pairs::{sorted_pairs, value_of};
+use crate::{Cell, Function, SetFault, Value};
+use site_base::{Func, OutOfMemory, Row, Text};
+use std::alloc::Global;
+use std::marker::Model;
+use std::mem;
+use std::sync::Arc;
+
+/// The cells that arrays and dictionaries lie in, and the functions that values name.
+///
+/// Cells below the base are frozen: they are read and never changed. Stores that were forked share
+/// those that were there at the first freezing. Clauses see a store as the list of its cells, its
+/// base and the list of its functions. Each value in them names a cell or function of this store.
+#[derive(Drop)]
+pub struct Store {
+    alloc: Global,
+    frozen: Layer,
+    live: Layer,
+    base: u32,
+}
+
+impl Model for Store {
+    ghost use Rattle.std.specs.Prelude.{◌++◌};
+    ghost use Rattle.dsl_value.specs.Contents.{Contents};
+    ghost use Rattle.dsl_value.specs.Whole.{IsKept};
+    ghost use Rattle.site_base.specs.contracts.syntax.func.Func as func;
+    ghost use Rattle.std.specs.Coded.{codes};
+
+    ghost Value = { Contents };
+
+    ghost coded = { Prim.hlevel (codes, func.the_row.coded) };
+
+    ghost view = { λ s. record { cells = s.frozen.cells ++ s.live.cells; base = s.base; functions = s.frozen.functions ++ s.live.functions } };
+
+    ghost invariant = { λ s. IsKept s.frozen s.live s.base };
+}
+
+impl Store {
+    /// A store with no cell and no function.
+    pub fn new(alloc: Global) -> Store
+        ensures { result ≡ record { cells = []; base = 0; functions = [] } }
+    {
+        Store {
+            alloc,
+            frozen: Layer::new(),
+            live: Layer::new(),
+            base: 0,
+        }
+    }
+
+    /// Freezes all cells.
+    pub fn freeze(&mut self)
+        ensures { self.new ≡ record { cells = self.old.cells; base = length self.old.cells; functions = self.old.functions } }
+    {
+        self.base = (self.frozen.len() + self.live.len()) as u32;
+        if self.frozen.is_unused() {
+            self.frozen = mem::replace(&mut self.live, Layer::new());
+        }
+    }
+
+    /// An equal store. It shares what was frozen first, and copies the rest.
+    pub fn fork(&self) -> Result<Store, OutOfMemory>
+        ensures { IfOk result (λ s. s ≡ self.now) }
+    {
+        let frozen = self.frozen.shared()?;
+        let live = self.live.copied(self.alloc)?;
+        Ok(Store {
+            alloc: self.alloc,
+            frozen,
+            live,
+            base: self.base,
+        })
+    }
+
+    /// A cell.
+    pub fn cell(&self, cell: u32) -> &Cell
+        requires { cell < length self.now.cells }
+        ensures cell { plain result.now ≡ cell_at self.now.cells cell }
+        ensures stands { Stands (length self.now.cells) (length self.now.functions) (plain result.now) }
+    {
+        let shared = self.frozen.len();
+        if (cell as usize) < shared {
+            self.frozen.cell(cell as usize)
+        } else {
+            self.live.cell(cell as usize - shared)
+        }
+    }
+
+    /// A function.
+    pub fn function(&self, func: u32) -> &Function
+        requires { func < length self.now.functions }
+        ensures function { Some (function result.now) ≡ function_at self.now.functions func }
+        ensures captures { Captures (length self.now.cells) (length self.now.functions) (function result.now) }
+    {
+        let shared = self.frozen.functions();
+        if (func as usize) < shared {
+            self.frozen.function(func as usize)
+        } else {
+            self.live.function(func as usize - shared)
+        }
+    }
+
+    /// Adds a function with the names that it captured, and gives the value that names it.
+    pub fn add_function(
+        &mut self,
+        func: &Arc<Func>,
+        captured: Row<(Text, Value)>,
+    ) -> Result<Value, OutOfMemory>
+        requires few { length self.old.functions + 1 < 2 ^ 32 }
+        requires stands { NamesAll (length self.old.cells) (length self.old.functions) captured }
+        ensures value { IfOk result (λ v. v ≡ Value.Func (length self.old.functions)) }
+        ensures ok { OnOk result (self.new ≡ record { cells = self.old.cells; base = self.old.base; functions = self.old.functions ++ record { func = arc_value func.now; captured = captured } ∷ [] }) }
+        ensures err { OnErr result (self.new ≡ self.old) }
+    {
+        let number = (self.frozen.functions() + self.live.functions()) as u32;
+        let added = Function {
+            func: func.clone()?,
+            captured: captured.into_vec(),
+        };
+        self.live.add_function(self.alloc, added)?;
+        Ok(Value::Func(number))
+    }
+
+    /// Makes a cell of an array, and gives the value that names it.
+    pub fn array(&mut self, items: Row<Value>) -> Result<Value, OutOfMemory>
+        requires few { length self.old.cells + 1 < 2 ^ 32 }
+        requires stands { AllByRecursion (Names (length self.old.cells) (length self.old.functions)) items }
+        ensures value { IfOk result (λ v. v ≡ Value.Ref (length self.old.cells)) }
+        ensures ok { OnOk result (self.new ≡ with_cells self.old (self.old.cells ++ array items ∷ [])) }
+        ensures err { OnErr result (self.new ≡ self.old) }
+    {
+        let number = (self.frozen.len() + self.live.len()) as u32;
+        self.live.add(self.alloc, Cell::Array(items.into_vec()))?;
+        Ok(Value::Ref(number))
+    }
+
+    /// Makes a cell of a dictionary, and gives the value that names it. Of equal keys the last wins.
+    pub fn dict(&mut self, pairs: Row<(Text, Value)>) -> Result<Value, OutOfMemory>
+        requires few { length self.old.cells + 1 < 2 ^ 32 }
+        requires stands { NamesAll (length self.old.cells) (length self.old.functions) pairs }
+        ensures value { IfOk result (λ v. v ≡ Value.Ref (length self.old.cells)) }
+        ensures ok { OnOk result (self.new ≡ with_cells self.old (self.old.cells ++ dict (dict_of pairs []) ∷ [])) }
+        ensures err { OnErr result (self.new ≡ self.old) }
+    {
+        let number = (self.frozen.len() + self.live.len()) as u32;
+        let sorted = sorted_pairs(self.alloc, pairs.into_vec())?;
+        self.live.add(self.alloc, Cell::Dict(sorted))?;
+        Ok(Value::Ref(number))
+    }
+
+    /// The value of a dictionary's key; `None` where the key is absent.
+    pub fn get(&self, cell: u32, key: &str) -> Option<&Value>
+        requires inside { cell < length self.now.cells }
+        requires is_dict { IsTrue (is_dict (cell_at self.now.cells cell)) }
+        ensures found { IfSome result (λ v. find key.now (pairs_of (cell_at self.now.cells cell)) ≡ Some v.now) }
+        ensures absent { IfNone result (find key.now (pairs_of (cell_at self.now.cells cell)) ≡ None) }
+    {
+        value_in(self.cell(cell), key)
+    }
+
+    /// Gives a dictionary's key a value. `Frozen` exactly where the cell is frozen.
+    pub fn set(&mut self, cell: u32, key: Text, value: Value) -> Result<(), SetFault>
+        requires inside { cell < length self.old.cells }
+        requires is_dict { IsTrue (is_dict (cell_at self.old.cells cell)) }
+        requires stands { Names (length self.old.cells) (length self.old.functions) value }
+        ensures frozen { IsErrOf result (SetFault.Frozen cell) ↔ (cell < self.old.base) }
+        ensures ok { OnOk result (self.new ≡ with_cells self.old (with_cell self.old.cells cell (with_pair (cell_at self.old.cells cell) key value))) }
+        ensures err { OnErr result (self.new ≡ self.old) }
+    {
+        if cell < self.base {
+            return Err(SetFault::Frozen { cell });
+        }
+        let place = cell as usize - self.frozen.len();
+        self.live.set(place, key, value)?;
+        Ok(())
+    }
+
+    /// Changes one element of an array. `Frozen` exactly where the cell is frozen.
+    pub fn put(&mut self, cell: u32, place: u32, value: Value) -> Result<(), SetFault>
+        requires inside { cell < length self.old.cells }
+        requires is_array { IsTrue (is_array (cell_at self.old.cells cell)) }
+        requires place { place < length (values_of (cell_at self.old.cells cell)) }
+        requires stands { Names (length self.old.cells) (length self.old.functions) value }
+        ensures frozen { IsErrOf result (SetFault.Frozen cell) ↔ (cell < self.old.base) }
+        ensures ok { OnOk result (self.new ≡ with_cells self.old (with_cell self.old.cells cell (with_value (cell_at self.old.cells cell) place value))) }
+        ensures err { OnErr result (self.new ≡ self.old) }
+    {
+        if cell < self.base {
+            return Err(SetFault::Frozen { cell });
+        }
+        let at = cell as usize - self.frozen.len();
+        self.live.put(at, place as usize, value)?;
+        Ok(())
+    }
+
+    /// Adds a value at an array's end. `Frozen` exactly where the cell is frozen.
+    pub fn push(&mut self, cell: u32, value: Value) -> Result<(), SetFault>
+        requires inside { cell < length self.old.cells }
+        requires is_array { IsTrue (is_array (cell_at self.old.cells cell)) }
+        requires stands { Names (length self.old.cells) (length self.old.functions) value }
+        ensures frozen { IsErrOf result (SetFault.Frozen cell) ↔ (cell < self.old.base) }
+        ensures ok { OnOk result (self.new ≡ with_cells self.old (with_cell self.old.cells cell (pushed (cell_at self.old.cells cell) value))) }
+        ensures err { OnErr result (self.new ≡ self.old) }
+    {
+        if cell < self.base {
+            return Err(SetFault::Frozen { cell });
+        }
+        let at = cell as usize - self.frozen.len();
+        self.live.push(at, value)?;
+        Ok(())
+    }
+
+    /// Takes a key's pair out of a dictionary; nothing changes where the key is absent. `Frozen` exactly
+    /// where the cell is frozen.
+    pub fn remove(&mut self, cell: u32, key: &str) -> Result<(), SetFault>
+        requires inside { cell < length self.old.cells }
+        requires is_dict { IsTrue (is_dict (cell_at self.old.cells cell)) }
+        ensures frozen { IsErrOf result (SetFault.Frozen cell) ↔ (cell < self.old.base) }
+        ensures ok { OnOk result (self.new ≡ with_cells self.old (with_cell self.old.cells cell (without_pair (cell_at self.old.cells cell) key.now))) }
+        ensures err { OnErr result (self.new ≡ self.old) }
+    {
+        if cell < self.base {
+            return Err(SetFault::Frozen { cell });
+        }
+        let at = cell as usize - self.frozen.len();
+        self.live.remove(at, key)?;
+        Ok(())
+    }
+}
+
+/// The value of a key in a dictionary's cell.
+fn value_in<'a>(cell: &'a Cell, key: &str) -> Option<&'a Value>
+    requires is_dict { IsTrue (is_dict (plain cell.now)) }
+    requires sorted { IsInOrder (plain cell.now) }
+    ensures found { IfSome result (λ v. find key.now (pairs_of (plain cell.now)) ≡ Some v.now) }
+    ensures absent { IfNone result (find key.now (pairs_of (plain cell.now)) ≡ None) }
+{
+    match cell {
+        Cell::Array(_) => None,
+        Cell::Dict(pairs) => value_of(pairs, key),
+    }
+}

@@ -1,0 +1,4 @@
+//! The store's answers by example, and the time that forks and dictionaries take.
+mod cells;
+mod equality;
+mod speed;
