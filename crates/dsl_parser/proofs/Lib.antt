@@ -1,0 +1,11 @@
+pub mod Fitting
+pub mod LevelFits
+pub mod Defining
+pub mod Fittings
+pub mod Firsts
+pub mod Lambdas
+pub mod Pasts
+pub mod Knot
+pub mod NameLaws
+pub mod DepthLaw
+pub mod Place

@@ -1,0 +1,9 @@
+pub mod Codes
+pub mod Lists
+pub mod Operators
+pub mod Terms
+pub mod Grammar
+pub mod Reading
+pub mod Depth
+pub mod DepthView
+pub mod Files
