@@ -1,1 +1,6 @@
 pub mod View
+pub mod Acts
+pub mod Rounds
+pub mod Dealing
+pub mod Runs
+pub mod Alone
