@@ -1,5 +1,5 @@
 -- A round: what the events of one turn make of all checkables, however many callers take them at once.
-use Rattle.std.specs.Prelude.{◌≡◌, ◌<◌, ◌≤◌, ◌-◌, ℕ, zero, suc, List, [], ◌∷◌, ◌++◌, length, slice_get, take, map, filter, filter_map, nat_eq, Option, Some, None, if◌then◌else◌}
+use Rattle.std.specs.Prelude.{◌≡◌, ◌<◌, ◌≤◌, ◌-◌, ℕ, zero, suc, List, [], ◌∷◌, ◌++◌, length, slice_get, take, map, filter, filter_map, nat_eq, option_map, Option, Some, if◌then◌else◌}
 use Rattle.site_model.specs.PlainSite.{PlainCheck, PlainSite}
 use Rattle.site_model.specs.declared.entry.Entry.{Entry}
 use Rattle.site_model.specs.declared.event.Event.{Event}
@@ -38,11 +38,7 @@ events_on c (a ∷ as') = if nat_eq a.checkable c then a.event ∷ events_on c a
 
 -- what is seen of a checkable at a sight of it
 abbrev pub view_at : PlainSite → (ℕ → List Entry) → Sight → Option View
-view_at s entries seen = by (slice_get s.checkables seen.checkable)
-  where
-    by : Option PlainCheck → Option View
-    by None = None
-    by (Some c) = Some (view_of c (take seen.count (entries seen.checkable)))
+view_at s entries seen = option_map (λ c. view_of c (take seen.count (entries seen.checkable))) (slice_get s.checkables seen.checkable)
 
 abbrev pub views_at : PlainSite → (ℕ → List Entry) → List Sight → List View
 views_at s entries sights = filter_map (view_at s entries) sights

@@ -1,9 +1,19 @@
 // Laws of the definitions.
-ghost use Rattle.std.specs.Prelude.{◌≡◌, ℕ, [], List, false};
-ghost use Rattle.site_model.specs.PlainSite.{PlainCheck};
+ghost use Rattle.std.specs.Prelude.{◌≡◌, ℕ, [], ◌∷◌, List, false};
+ghost use Rattle.site_model.specs.PlainSite.{PlainCheck, PlainSite};
 ghost use Rattle.run_meaning.specs.View.{view_of, best_state};
+ghost use Rattle.run_meaning.specs.Acts.{Rules};
+ghost use Rattle.run_meaning.specs.Rounds.{Asked, Histories, IsRound};
+ghost use Rattle.run_meaning.specs.Alone.{alone, AreOnSite};
 
 /// Before its first entry a checkable is well, HARD and at its first attempt.
 pub fn view_of_nothing()
     ensures { (c : PlainCheck) → ((view_of c []).state ≡ best_state c) × ((view_of c []).attempt ≡ 1) × ((view_of c []).has_result ≡ false) }
+{}
+
+/// One caller's events have no round but the one in which they are taken one after the other, and where each is on a
+/// checkable of the site, that is a round of them.
+pub fn rounds_of_one_caller_are_one()
+    ensures only { (r : Rules) (s : PlainSite) (moment : ℕ) (before : Histories) (events : List Asked) (round : Histories) → IsRound r s moment before (events ∷ []) round → round ≡ alone r s moment before events }
+    ensures is { (r : Rules) (s : PlainSite) (moment : ℕ) (before : Histories) (events : List Asked) → AreOnSite s events → IsRound r s moment before (events ∷ []) (alone r s moment before events) }
 {}

@@ -5,4 +5,4 @@
 
 mod laws;
 
-pub use laws::view_of_nothing;
+pub use laws::{rounds_of_one_caller_are_one, view_of_nothing};
