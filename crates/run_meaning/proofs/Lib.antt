@@ -1,3 +1,4 @@
 pub mod Lists
 pub mod Sole
 pub mod Meeting
+pub mod Dealt

@@ -1,9 +1,10 @@
 // Laws of the definitions.
-ghost use Rattle.std.specs.Prelude.{◌≡◌, ℕ, [], ◌∷◌, List, false};
+ghost use Rattle.std.specs.Prelude.{◌≡◌, ℕ, [], ◌∷◌, ◌++◌, List, map, false};
 ghost use Rattle.site_model.specs.PlainSite.{PlainCheck, PlainSite};
 ghost use Rattle.run_meaning.specs.View.{view_of, best_state};
 ghost use Rattle.run_meaning.specs.Acts.{Rules};
 ghost use Rattle.run_meaning.specs.Rounds.{Asked, Histories, IsRound};
+ghost use Rattle.run_meaning.specs.Dealing.{Taken, dealt};
 ghost use Rattle.run_meaning.specs.Alone.{alone, AreOnSite};
 
 /// Before its first entry a checkable is well, HARD and at its first attempt.
@@ -16,4 +17,10 @@ pub fn view_of_nothing()
 pub fn rounds_of_one_caller_are_one()
     ensures only { (r : Rules) (s : PlainSite) (moment : ℕ) (before : Histories) (events : List Asked) (round : Histories) → IsRound r s moment before (events ∷ []) round → round ≡ alone r s moment before events }
     ensures is { (r : Rules) (s : PlainSite) (moment : ℕ) (before : Histories) (events : List Asked) → AreOnSite s events → IsRound r s moment before (events ∷ []) (alone r s moment before events) }
+{}
+
+/// One caller takes all of a turn: its lines, then its reports, then its ticks.
+#[tactic(auto, using(crate::proofs::Dealt::dealt_to_one))]
+pub fn dealing_to_one_caller()
+    ensures { (lines : List Asked) (reports : List Taken) (ticks : List Asked) → dealt 1 lines reports ticks ≡ (lines ++ (map (λ t. t.asked) reports ++ ticks)) ∷ [] }
 {}

@@ -5,4 +5,4 @@
 
 mod laws;
 
-pub use laws::{rounds_of_one_caller_are_one, view_of_nothing};
+pub use laws::{dealing_to_one_caller, rounds_of_one_caller_are_one, view_of_nothing};
