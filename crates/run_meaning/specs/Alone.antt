@@ -1,5 +1,5 @@
 -- Runs with one caller: one function of what there was and what a turn brings.
-use Rattle.std.specs.Prelude.{◌≡◌, ◌<◌, ◌+◌, ℕ, zero, suc, List, [], ◌∷◌, ◌++◌, length, slice_get, map, max, Option, Some, None}
+use Rattle.std.specs.Prelude.{◌≡◌, ◌<◌, ◌+◌, ℕ, zero, suc, List, [], ◌∷◌, ◌++◌, length, slice_get, map, max, Option, Some, None, ⊤}
 use Rattle.site_model.specs.PlainSite.{PlainCheck, PlainSite}
 use Rattle.site_model.specs.declared.entry.Entry.{Entry}
 use Rattle.site_model.specs.declared.event.Event.{Event}
@@ -74,3 +74,14 @@ run_alone r schedule missing s ts = run_alone_from r schedule missing s [] start
 -- every event is on a checkable of the site
 abbrev pub AreOnSite : PlainSite → List Asked → Type 0
 AreOnSite s events = (i : ℕ) (a : Asked) → slice_get events i ≡ Some a → a.checkable < length s.checkables
+
+-- all that the one caller takes in turns, behind those whose logs stand already, is on checkables of the site
+abbrev pub AreTurnsOnSite : Rules → Schedule → (List ℕ → Event) → PlainSite → List TurnLog → Stage → List Told → Type 0
+AreTurnsOnSite r schedule missing s logs st [] = ⊤
+AreTurnsOnSite r schedule missing s logs st (t ∷ ts) =
+    let l = turn_alone r schedule s logs st t in
+    AreOnSite s (all_events s st t l.moment) × AreTurnsOnSite r schedule missing s (logs ++ l ∷ []) (stage_behind missing st t l) ts
+
+-- and in a whole run
+abbrev pub IsOnSite : Rules → Schedule → (List ℕ → Event) → PlainSite → List Told → Type 0
+IsOnSite r schedule missing s ts = AreTurnsOnSite r schedule missing s [] start ts

@@ -5,4 +5,6 @@
 
 mod laws;
 
-pub use laws::{dealing_to_one_caller, rounds_of_one_caller_are_one, view_of_nothing};
+pub use laws::{
+    a_log_is_one_function, dealing_to_one_caller, rounds_of_one_caller_are_one, view_of_nothing,
+};
