@@ -1,6 +1,8 @@
 //! What a run means: the definitions that every part of the engine is proved against.
 //!
-//! They stand in `specs/`, in reading order: the view of one checkable (`View`).
+//! They stand in `specs/`, in reading order: the view of one checkable (`View`), the entry that an event makes of it
+//! (`Acts`), what the events of one turn make of all checkables (`Rounds`), which caller takes what (`Dealing`), turn
+//! after turn (`Runs`), and the same with one caller, as a function (`Alone`).
 #![tactic(auto)]
 
 mod laws;
