@@ -1,3 +1,4 @@
+pub mod Turns
 pub mod Fitting
 pub mod LevelFits
 pub mod Defining

@@ -4,6 +4,7 @@ pub mod Operators
 pub mod Terms
 pub mod Grammar
 pub mod Reading
+pub mod Gives
 pub mod Depth
 pub mod DepthView
 pub mod Files

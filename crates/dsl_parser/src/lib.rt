@@ -8,9 +8,13 @@
 
 mod depth;
 mod laws;
+mod next;
+mod parse_error;
 mod role;
+mod stop;
 #[cfg(test)]
 mod tests;
 
 pub use depth::too_deep;
 pub use laws::files_have_one_outcome;
+pub use parse_error::ParseError;
