@@ -43,6 +43,7 @@ pub(crate) fn prefixes<'a>(
 }
 
 /// The operators, and the one that must stand next.
+#[tactic(auto, using(crate::proofs::PartLists::prefixes_more))]
 fn more_prefixes<'a>(
     most: usize,
     mut signs: Vec<PrefixSign>,
