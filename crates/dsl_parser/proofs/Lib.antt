@@ -12,3 +12,4 @@ pub mod DepthLaw
 pub mod Place
 pub mod PartLists
 pub mod MadeTurns
+pub mod LevelReads

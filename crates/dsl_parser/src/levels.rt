@@ -1,10 +1,11 @@
 // Expressions of operators: those before an operand, and those between two, level by level.
 ghost use Rattle.std.specs.Prelude.{◌≡◌, ◌<◌, ◌≤◌, ◌-◌};
 ghost use Rattle.site_base.specs.SyntaxView.{expr_view};
-ghost use Rattle.dsl_rules.specs.Grammar.{made, both, pair, fold_pair};
+ghost use Rattle.dsl_rules.specs.Grammar.{made, both, pair, chain, fold_pair};
 ghost use Rattle.dsl_parser.specs.ExprParts.{operand_view};
 ghost use Rattle.dsl_parser.specs.Gives.{Gives};
 ghost use Rattle.dsl_parser.specs.Grammar.{Level, Operator, Unary, Prefixed, joined as joined_plain};
+ghost use Rattle.dsl_parser.specs.Operators.{level_sorts};
 ghost use Rattle.dsl_parser.specs.Reading.{read_by};
 
 use crate::nodes::joined;
@@ -39,7 +40,6 @@ pub(crate) fn operation<'a>(
 
 /// Operands between operators of one level.
 #[cycle(parse)]
-#[tactic(auto, unfolding(crate::specs::Grammar::Level))]
 fn operands<'a>(
     alloc: Global,
     most: usize,
@@ -48,7 +48,10 @@ fn operands<'a>(
 ) -> Result<(Operand, &'a [Token]), Stop<'a>>
     requires some { 0 < most }
     requires within { level ≤ 10 }
-    ensures { Gives operand_view result (read_by most (Level (level + 1)) tokens.now) }
+    ensures {
+        Gives operand_view result
+        (read_by most (chain (level_sorts level) joined_plain (Level level) (Operator level)) tokens.now)
+    }
 {
     let (mut left, mut rest) = operation(alloc, most, level, tokens)?;
     for _ in 0..most {

@@ -1,7 +1,7 @@
 use Rattle.std.proofs.Common.{◌≡◌, ℕ, ◌+◌, ◌-◌, ◌*◌, [], ◌∷◌, false}
 use Rattle.site_base.specs.SyntaxView.{exprs_view, entries_view, uses_view}
 use Rattle.dsl_lexer.specs.declared.sign.Sign.TheVariants as signs
-use Rattle.dsl_rules.specs.Grammar.{always, fold_pair, both, pair, one}
+use Rattle.dsl_rules.specs.Grammar.{always, fold_pair, both, pair, chain, one}
 use Rattle.dsl_rules.specs.Reading.{turns}
 use Rattle.dsl_parser.specs.Codes.{sorts, sign_sort}
 use Rattle.dsl_parser.specs.ExprParts.{operand_view, slots_view}
@@ -170,7 +170,7 @@ invariant-tails::listed-loop l =
 
 abbrev pub invariant-levels::operands-loop : goal.invariant-levels::operands-loop
 invariant-levels::operands-loop l =
-    turns sorts false (level_sorts l.level) always (fold_pair joined) (read_by l.most (both pair (Operator l.level) (Level l.level))) (l.most - l.counter) (operand_view l.left) l.rest ≡ read_by l.most (Level (l.level + 1)) l.tokens
+    turns sorts false (level_sorts l.level) always (fold_pair joined) (read_by l.most (both pair (Operator l.level) (Level l.level))) (l.most - l.counter) (operand_view l.left) l.rest ≡ read_by l.most (chain (level_sorts l.level) joined (Level l.level) (Operator l.level)) l.tokens
 
 abbrev pub invariant-arrays::elements-loop : goal.invariant-arrays::elements-loop
 invariant-arrays::elements-loop l =
