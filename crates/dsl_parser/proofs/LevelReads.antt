@@ -1,5 +1,5 @@
 -- What expressions and their levels read, by the bound and by the level.
-use Rattle.std.proofs.Common.{◌≡◌, ◌≢◌, ℕ, zero, suc, ◌-◌, List, refl, sym, ap, ◌∙◌, arith}
+use Rattle.std.proofs.Common.{◌≡◌, ◌≢◌, ℕ, zero, suc, ◌-◌, List, refl, arith}
 use Rattle.dsl_lexer.specs.declared.token.Token.{Token}
 use Rattle.dsl_rules.specs.Grammar.{chain}
 use Rattle.dsl_rules.specs.Reading.{bad}

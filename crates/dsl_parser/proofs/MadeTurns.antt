@@ -1,8 +1,8 @@
 -- Turns that make what is so far into more, and productions that keep what they read.
-use Rattle.std.proofs.Common.{◌≡◌, ℕ, zero, suc, List, [], ◌∷◌, Bool, true, false, Result, Ok, Err, refl, sym, ap, ◌∙◌}
+use Rattle.std.proofs.Common.{◌≡◌, ℕ, suc, List, Bool, true, false, Result, Ok, Err, refl, sym, ◌∙◌}
 use Rattle.std.specs.Borrow.{Bor}
 use Rattle.dsl_lexer.specs.declared.token.Token.{Token}
-use Rattle.dsl_rules.specs.Alphabet.{Sort, at, and, over}
+use Rattle.dsl_rules.specs.Alphabet.{Sort, at, over}
 use Rattle.dsl_rules.specs.Rules.{may}
 use Rattle.dsl_rules.specs.Reading.{Read, got, bad, ◌>>=◌, turns}
 use Rattle.dsl_parser.specs.Codes.{sorts}

@@ -1,13 +1,13 @@
 -- Lists of parts with one more behind them, beside their plain values.
-use Rattle.std.proofs.Common.{◌≡◌, ℕ, List, [], ◌∷◌, ◌++◌, Option, refl, ap, ◌∙◌}
-use Rattle.site_base.specs.Syntax.{Expression, more_expressions, more_entries, more_uses, no_uses, Uses, MaybeExpression, expression, unary}
-use Rattle.site_base.specs.SyntaxView.{expr_view, exprs_view, entries_view, uses_view, use_then, maybe_expr_view}
+use Rattle.std.proofs.Common.{◌≡◌, ℕ, List, [], ◌∷◌, ◌++◌, Option, refl, ap}
+use Rattle.site_base.specs.Syntax.{Expression, more_expressions, more_entries, more_uses, no_uses, expression, unary}
+use Rattle.site_base.specs.SyntaxView.{expr_view, exprs_view, entries_view, uses_view, maybe_expr_view}
 use Rattle.site_base.specs.declared.syntax.expr.Expr.{Expr}
 use Rattle.site_base.specs.declared.syntax.used.Use.{Use}
 use Rattle.site_base.specs.declared.syntax.expr_kind.ExprKind.TheViews.{out-Use, roll-Use}
 use Rattle.site_base.proofs.SyntaxRows.{use_fields, made_use}
 use Rattle.dsl_parser.specs.ExprParts.{prefixes_view}
-use Rattle.dsl_parser.specs.Grammar.{Prefix, prefix, with_prefixes}
+use Rattle.dsl_parser.specs.Grammar.{prefix, with_prefixes}
 use Rattle.dsl_parser.specs.Lists.{add_expression, add_entry, add_use}
 use Rattle.dsl_parser.specs.declared.prefixes.PrefixSign.{PrefixSign}
 

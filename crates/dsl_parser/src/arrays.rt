@@ -1,6 +1,5 @@
 // Arrays.
-ghost use Rattle.std.specs.Prelude.{◌≡◌, ◌<◌, ◌-◌, [], ◌∷◌, true};
-ghost use Rattle.site_base.specs.Syntax.{no_expressions};
+ghost use Rattle.std.specs.Prelude.{◌<◌, true};
 ghost use Rattle.site_base.specs.SyntaxView.{expr_view, maybe_expr_view};
 ghost use Rattle.dsl_rules.specs.Grammar.{made};
 ghost use Rattle.dsl_parser.specs.ExprParts.{slots_view};

@@ -1,12 +1,10 @@
 // Functions with "=>".
-ghost use Rattle.std.specs.Prelude.{◌≡◌, ◌<◌, ◌-◌, IfOk, [], ◌∷◌};
+ghost use Rattle.std.specs.Prelude.{◌≡◌, ◌<◌, IfOk};
 ghost use Rattle.site_base.specs.Syntax.{statement, return, some_expression, more_statements, no_statements};
 ghost use Rattle.site_base.specs.SyntaxView.{expr_view, func_view, stmts_view};
-ghost use Rattle.dsl_lexer.specs.declared.sign.Sign.TheVariants as signs;
 ghost use Rattle.dsl_parser.specs.Gives.{Gives};
 ghost use Rattle.dsl_parser.specs.Grammar.{Returned, LambdaBody, LambdaFunc, Lambda, begins_lambda as begins_plain};
 ghost use Rattle.dsl_parser.specs.Reading.{read_by};
-ghost use Rattle.dsl_parser.specs.Terms.{behind, sign as sign_rule};
 
 use crate::blocks::block;
 use crate::exprs::expr;
@@ -98,10 +96,8 @@ fn returned<'a>(
 
 /// The body that returns an expression.
 fn return_of(alloc: Global, place: Place, value: Expr) -> Result<Vec<Stmt>, AllocFailed<Stmt>>
-    ensures {
-        IfOk result
-        (λ b. stmts_view b.items ≡ more_statements (statement place (return (some_expression (expr_view value)))) no_statements)
-    }
+    ensures { IfOk result
+        (λ b. stmts_view b.items ≡ more_statements (statement place (return (some_expression (expr_view value)))) no_statements) }
 {
     let kind = StmtKind::Return { expr: Some(value) };
     let mut body = Vec::new(alloc);

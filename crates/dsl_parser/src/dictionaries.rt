@@ -1,11 +1,11 @@
 // Dictionaries.
-ghost use Rattle.std.specs.Prelude.{◌≡◌, ◌<◌, ◌-◌, [], ◌∷◌, IfOk};
+ghost use Rattle.std.specs.Prelude.{◌≡◌, ◌<◌, [], ◌∷◌, IfOk};
 ghost use Rattle.site_base.specs.SyntaxView.{expr_view, entries_view};
 ghost use Rattle.dsl_lexer.specs.declared.sign.Sign.TheVariants as signs;
 ghost use Rattle.dsl_rules.specs.Alphabet.{at};
 ghost use Rattle.dsl_rules.specs.Grammar.{made, one};
 ghost use Rattle.dsl_rules.specs.Reading.{one_read};
-ghost use Rattle.dsl_parser.specs.Codes.{sorts, sign_sort, ident_sort, string_sort};
+ghost use Rattle.dsl_parser.specs.Codes.{sorts, ident_sort, string_sort};
 ghost use Rattle.dsl_parser.specs.ExprParts.{entry_view, maybe_entry_view};
 ghost use Rattle.dsl_parser.specs.Gives.{Gives};
 ghost use Rattle.dsl_parser.specs.Grammar.{Expr as ExprRule, Dict, BracedPairs, Pairs, MaybePair, Pair as PairRule, add_pair};
@@ -90,10 +90,8 @@ fn with_separated_pair<'a>(
     tokens: &'a [Token],
 ) -> Result<(Vec<(Text, Expr)>, &'a [Token]), Stop<'a>>
     requires { 0 < most }
-    ensures {
-        Gives (λ ps. entries_view ps.items) result
-        (read_by most (made (add_turn add_pair (entries_view entries.items)) (behind (one bsep (λ t. t.place)) MaybePair)) tokens.now)
-    }
+    ensures { Gives (λ ps. entries_view ps.items) result
+        (read_by most (made (add_turn add_pair (entries_view entries.items)) (behind (one bsep (λ t. t.place)) MaybePair)) tokens.now) }
 {
     let (_, inner) = separator(tokens)?;
     with_next_pair(alloc, most, entries, inner)
@@ -108,10 +106,8 @@ fn with_next_pair<'a>(
     tokens: &'a [Token],
 ) -> Result<(Vec<(Text, Expr)>, &'a [Token]), Stop<'a>>
     requires { 0 < most }
-    ensures {
-        Gives (λ ps. entries_view ps.items) result
-        (read_by most (made (add_turn add_pair (entries_view entries.items)) MaybePair) tokens.now)
-    }
+    ensures { Gives (λ ps. entries_view ps.items) result
+        (read_by most (made (add_turn add_pair (entries_view entries.items)) MaybePair) tokens.now) }
 {
     let (next, rest) = maybe_pair(alloc, most, tokens)?;
     Ok((with_maybe_entry(entries, next)?, rest))
@@ -215,9 +211,7 @@ fn with_maybe_entry(
     entries: Vec<(Text, Expr)>,
     entry: Option<(Text, Expr)>,
 ) -> Result<Vec<(Text, Expr)>, AllocFailed<(Text, Expr)>>
-    ensures {
-        IfOk result (λ ps. entries_view ps.items ≡ add_turn add_pair (entries_view entries.items) (maybe_entry_view entry))
-    }
+    ensures { IfOk result (λ ps. entries_view ps.items ≡ add_turn add_pair (entries_view entries.items) (maybe_entry_view entry)) }
 {
     match entry {
         Some(entry) => with_entry(entries, entry),

@@ -1,11 +1,10 @@
 // Expressions.
-ghost use Rattle.std.specs.Prelude.{◌≡◌, ◌<◌, ◌-◌};
+ghost use Rattle.std.specs.Prelude.{◌≡◌, ◌<◌};
 ghost use Rattle.site_base.specs.SyntaxView.{expr_view};
 ghost use Rattle.dsl_rules.specs.Alphabet.{among, at};
-ghost use Rattle.dsl_rules.specs.Grammar.{made};
 ghost use Rattle.dsl_parser.specs.Codes.{sorts, kind_sort, sign_sort, word_sort};
 ghost use Rattle.dsl_parser.specs.Gives.{Gives};
-ghost use Rattle.dsl_parser.specs.Grammar.{Whole, Level, begun_expression};
+ghost use Rattle.dsl_parser.specs.Grammar.{Whole};
 ghost use Rattle.dsl_parser.specs.Reading.{reads, read_by};
 ghost use Rattle.dsl_parser.specs.Terms.{expr as expr_name, starts};
 

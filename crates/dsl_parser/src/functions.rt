@@ -1,10 +1,10 @@
 // Functions: their parameters and the names that they capture.
-ghost use Rattle.std.specs.Prelude.{◌≡◌, ◌<◌, ◌-◌, [], ◌∷◌};
+ghost use Rattle.std.specs.Prelude.{◌<◌, []};
 ghost use Rattle.site_base.specs.SyntaxView.{func_view, uses_view, maybe_expr_view};
 ghost use Rattle.site_base.specs.Syntax.{no_expression, some_expression};
 ghost use Rattle.dsl_lexer.specs.declared.sign.Sign.TheVariants as signs;
 ghost use Rattle.dsl_rules.specs.Grammar.{made};
-ghost use Rattle.dsl_parser.specs.ExprParts.{capture_view};
+ghost use Rattle.dsl_parser.specs.ExprParts.{capture_view, read_flat};
 ghost use Rattle.dsl_parser.specs.Gives.{Gives};
 ghost use Rattle.dsl_parser.specs.Grammar.{Expr as ExprRule, Names, Params, OneUse, UseNames, UseList, MaybeUse, Func as FuncRule, add_name, add_captured};
 ghost use Rattle.dsl_parser.specs.Reading.{read_by};
@@ -105,10 +105,8 @@ fn with_comma_use<'a>(
     tokens: &'a [Token],
 ) -> Result<(Vec<Use>, &'a [Token]), Stop<'a>>
     requires { 0 < most }
-    ensures {
-        Gives (λ us. uses_view us.items) result
-        (read_by most (made (add_captured (uses_view uses.items)) (behind (sign_rule signs.Comma) OneUse)) tokens.now)
-    }
+    ensures { Gives (λ us. uses_view us.items) result
+        (read_by most (made (add_captured (uses_view uses.items)) (behind (sign_rule signs.Comma) OneUse)) tokens.now) }
 {
     let (_, inner) = sign(Sign::Comma, tokens)?;
     let ((name, value), rest) = one_use(alloc, most, inner)?;
@@ -124,10 +122,8 @@ fn with_next_use<'a>(
     tokens: &'a [Token],
 ) -> Result<(Vec<Use>, &'a [Token]), Stop<'a>>
     requires { 0 < most }
-    ensures {
-        Gives (λ us. uses_view us.items) result
-        (read_by most (made (add_captured (uses_view uses.items)) OneUse) tokens.now)
-    }
+    ensures { Gives (λ us. uses_view us.items) result
+        (read_by most (made (add_captured (uses_view uses.items)) OneUse) tokens.now) }
 {
     let ((name, value), rest) = one_use(alloc, most, tokens)?;
     Ok((with_use(uses, name, value)?, rest))
@@ -157,10 +153,8 @@ fn maybe_value<'a>(
     tokens: &'a [Token],
 ) -> Result<(Option<Expr>, &'a [Token]), Stop<'a>>
     requires { 0 < most }
-    ensures {
-        Gives maybe_expr_view result
-        (read_by most (maybe some_expression no_expression (behind (sign_rule signs.Set) ExprRule)) tokens.now)
-    }
+    ensures { Gives maybe_expr_view result
+        (read_by most (maybe some_expression no_expression (behind (sign_rule signs.Set) ExprRule)) tokens.now) }
 {
     if at_sign(Sign::Set, tokens) {
         let (_, inner) = sign(Sign::Set, tokens)?;
@@ -212,12 +206,12 @@ fn names<'a>(
 ) -> Result<(Texts, &'a [Token]), Stop<'a>>
     ensures { Gives (λ ps. ps) result (read_by most Names tokens.now) }
 {
-    let (mut list, mut rest) = with_next_name(most, Texts::new(alloc), tokens)?;
+    let (mut list, mut rest) = with_next_name(Texts::new(alloc), tokens)?;
     for _ in 0..most {
         if !at_sign(Sign::Comma, rest) {
             break;
         }
-        let (longer, after) = with_comma_name(most, list, rest)?;
+        let (longer, after) = with_comma_name(list, rest)?;
         list = longer;
         rest = after;
     }
@@ -226,14 +220,11 @@ fn names<'a>(
 
 /// The names, and the one that must stand next behind a comma.
 fn with_comma_name<'a>(
-    most: usize,
     mut list: Texts,
     tokens: &'a [Token],
 ) -> Result<(Texts, &'a [Token]), Stop<'a>>
-    ensures {
-        Gives (λ ps. ps) result
-        (read_by most (made (add_name list) (behind (sign_rule signs.Comma) IDENT)) tokens.now)
-    }
+    ensures { Gives (λ ps. ps) result
+        (read_flat (made (add_name list) (behind (sign_rule signs.Comma) IDENT)) tokens.now) }
 {
     let (_, inner) = sign(Sign::Comma, tokens)?;
     let (name, rest) = ident(inner)?;
@@ -243,11 +234,10 @@ fn with_comma_name<'a>(
 
 /// The names, and the one that must stand next.
 fn with_next_name<'a>(
-    most: usize,
     mut list: Texts,
     tokens: &'a [Token],
 ) -> Result<(Texts, &'a [Token]), Stop<'a>>
-    ensures { Gives (λ ps. ps) result (read_by most (made (add_name list) IDENT) tokens.now) }
+    ensures { Gives (λ ps. ps) result (read_flat (made (add_name list) IDENT) tokens.now) }
 {
     let (name, rest) = ident(tokens)?;
     list.push(name)?;

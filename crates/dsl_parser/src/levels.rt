@@ -1,5 +1,5 @@
 // Expressions of operators: those before an operand, and those between two, level by level.
-ghost use Rattle.std.specs.Prelude.{◌≡◌, ◌<◌, ◌≤◌, ◌-◌};
+ghost use Rattle.std.specs.Prelude.{◌<◌, ◌≤◌};
 ghost use Rattle.site_base.specs.SyntaxView.{expr_view};
 ghost use Rattle.dsl_rules.specs.Grammar.{made, both, pair, chain, fold_pair};
 ghost use Rattle.dsl_parser.specs.ExprParts.{operand_view};
@@ -48,10 +48,8 @@ fn operands<'a>(
 ) -> Result<(Operand, &'a [Token]), Stop<'a>>
     requires some { 0 < most }
     requires within { level ≤ 10 }
-    ensures {
-        Gives operand_view result
-        (read_by most (chain (level_sorts level) joined_plain (Level level) (Operator level)) tokens.now)
-    }
+    ensures { Gives operand_view result
+        (read_by most (chain (level_sorts level) joined_plain (Level level) (Operator level)) tokens.now) }
 {
     let (mut left, mut rest) = operation(alloc, most, level, tokens)?;
     for _ in 0..most {
@@ -76,10 +74,8 @@ fn with_next_operand<'a>(
 ) -> Result<(Operand, &'a [Token]), Stop<'a>>
     requires some { 0 < most }
     requires within { level ≤ 10 }
-    ensures {
-        Gives operand_view result
-        (read_by most (made (fold_pair joined_plain (operand_view left)) (both pair (Operator level) (Level level))) tokens.now)
-    }
+    ensures { Gives operand_view result
+        (read_by most (made (fold_pair joined_plain (operand_view left)) (both pair (Operator level) (Level level))) tokens.now) }
 {
     let (op, middle) = operator(most, level, tokens)?;
     let (right, rest) = operation(alloc, most, level, middle)?;

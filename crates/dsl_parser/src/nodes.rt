@@ -31,7 +31,11 @@ pub(crate) fn joined(
 }
 
 /// A member of an operand.
-pub(crate) fn with_member(alloc: Global, operand: Operand, name: Text) -> Result<Operand, AllocError>
+pub(crate) fn with_member(
+    alloc: Global,
+    operand: Operand,
+    name: Text,
+) -> Result<Operand, AllocError>
     ensures { IfOk result (λ o. operand_view o ≡ with_tail (operand_view operand) (member_tail name)) }
 {
     let start = operand.start;
@@ -41,7 +45,11 @@ pub(crate) fn with_member(alloc: Global, operand: Operand, name: Text) -> Result
 }
 
 /// An element of an operand.
-pub(crate) fn with_index(alloc: Global, operand: Operand, index: Expr) -> Result<Operand, AllocError>
+pub(crate) fn with_index(
+    alloc: Global,
+    operand: Operand,
+    index: Expr,
+) -> Result<Operand, AllocError>
     ensures { IfOk result (λ o. operand_view o ≡ with_tail (operand_view operand) (index_tail (expr_view index))) }
 {
     let start = operand.start;
@@ -57,9 +65,7 @@ pub(crate) fn with_call(
     operand: Operand,
     arguments: Vec<Expr>,
 ) -> Result<Operand, AllocError>
-    ensures {
-        IfOk result (λ o. operand_view o ≡ with_tail (operand_view operand) (call_tail (exprs_view arguments.items)))
-    }
+    ensures { IfOk result (λ o. operand_view o ≡ with_tail (operand_view operand) (call_tail (exprs_view arguments.items))) }
 {
     let start = operand.start;
     let kind = ExprKind::Call(Box::new(alloc, operand.expr)?, arguments);

@@ -1,6 +1,5 @@
 // The operators of expressions.
 ghost use Rattle.std.specs.Prelude.{◌≡◌, ◌≤◌};
-ghost use Rattle.dsl_lexer.specs.declared.token_kind.TokenKind.TheVariants as kinds;
 ghost use Rattle.dsl_rules.specs.Alphabet.{among, at};
 ghost use Rattle.dsl_parser.specs.Codes.{sorts, kind_sort, sign_sort};
 ghost use Rattle.dsl_parser.specs.Gives.{Gives};

@@ -3,7 +3,7 @@ ghost use Rattle.std.specs.Prelude.{◌≡◌, IfOk};
 ghost use Rattle.site_base.specs.SyntaxView.{expr_view};
 ghost use Rattle.site_base.specs.Syntax.{expression, unary};
 ghost use Rattle.dsl_rules.specs.Grammar.{made};
-ghost use Rattle.dsl_parser.specs.ExprParts.{prefixes_view};
+ghost use Rattle.dsl_parser.specs.ExprParts.{prefixes_view, read_flat};
 ghost use Rattle.dsl_parser.specs.Gives.{Gives};
 ghost use Rattle.dsl_parser.specs.Grammar.{prefix as prefix_plain, OnePrefix, Prefixes, add_prefix, with_prefixes};
 ghost use Rattle.dsl_parser.specs.Reading.{read_by};
@@ -30,12 +30,12 @@ pub(crate) fn prefixes<'a>(
 ) -> Result<(Vec<PrefixSign>, &'a [Token]), Stop<'a>>
     ensures { Gives (λ os. prefixes_view os.items) result (read_by most Prefixes tokens.now) }
 {
-    let (mut signs, mut rest) = more_prefixes(most, Vec::new(alloc), tokens)?;
+    let (mut signs, mut rest) = more_prefixes(Vec::new(alloc), tokens)?;
     for _ in 0..most {
         if !at_prefix(rest) {
             break;
         }
-        let (longer, after) = more_prefixes(most, signs, rest)?;
+        let (longer, after) = more_prefixes(signs, rest)?;
         signs = longer;
         rest = after;
     }
@@ -45,23 +45,20 @@ pub(crate) fn prefixes<'a>(
 /// The operators, and the one that must stand next.
 #[tactic(auto, using(crate::proofs::PartLists::prefixes_more))]
 fn more_prefixes<'a>(
-    most: usize,
     mut signs: Vec<PrefixSign>,
     tokens: &'a [Token],
 ) -> Result<(Vec<PrefixSign>, &'a [Token]), Stop<'a>>
-    ensures {
-        Gives (λ os. prefixes_view os.items) result
-        (read_by most (made (add_prefix (prefixes_view signs.items)) OnePrefix) tokens.now)
-    }
+    ensures { Gives (λ os. prefixes_view os.items) result
+        (read_flat (made (add_prefix (prefixes_view signs.items)) OnePrefix) tokens.now) }
 {
-    let (sign, rest) = prefix(most, tokens)?;
+    let (sign, rest) = prefix(tokens)?;
     signs.push(sign)?;
     Ok((signs, rest))
 }
 
 /// An operator that must stand before an operand here.
-fn prefix<'a>(most: usize, tokens: &'a [Token]) -> Result<(PrefixSign, &'a [Token]), Stop<'a>>
-    ensures { Gives (λ p. prefix_plain p.place p.op) result (read_by most OnePrefix tokens.now) }
+fn prefix<'a>(tokens: &'a [Token]) -> Result<(PrefixSign, &'a [Token]), Stop<'a>>
+    ensures { Gives (λ p. prefix_plain p.place p.op) result (read_flat OnePrefix tokens.now) }
 {
     match tokens {
         [token, rest @ ..] if is_prefix(&token.kind) => {
@@ -74,7 +71,11 @@ fn prefix<'a>(most: usize, tokens: &'a [Token]) -> Result<(PrefixSign, &'a [Toke
 }
 
 /// The operand with these operators before it.
-pub(crate) fn applied(alloc: Global, signs: Vec<PrefixSign>, operand: Expr) -> Result<Expr, AllocError>
+pub(crate) fn applied(
+    alloc: Global,
+    signs: Vec<PrefixSign>,
+    operand: Expr,
+) -> Result<Expr, AllocError>
     ensures { IfOk result (λ e. expr_view e ≡ with_prefixes (prefixes_view signs.items) (expr_view operand)) }
 {
     let mut signs = signs;

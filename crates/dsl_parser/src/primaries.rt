@@ -1,5 +1,5 @@
 // Primary expressions.
-ghost use Rattle.std.specs.Prelude.{◌≡◌, ◌<◌, ◌-◌, [], ◌∷◌, IfOk};
+ghost use Rattle.std.specs.Prelude.{◌≡◌, ◌<◌, IfOk};
 ghost use Rattle.site_base.specs.Syntax.{expression};
 ghost use Rattle.site_base.specs.SyntaxView.{expr_view, expr_kind_view, func_view};
 ghost use Rattle.dsl_rules.specs.Alphabet.{among, at};
@@ -22,15 +22,7 @@ use std::alloc::{AllocError, Global};
 
 /// A literal, an identifier, `this`, `globals`, a parenthesis, an array, a dictionary or a function.
 #[cycle(parse)]
-#[tactic(auto, unfolding(
-    crate::specs::Grammar::Prim,
-    crate::specs::Grammar::Literal,
-    crate::specs::Grammar::Paren,
-    crate::specs::Grammar::Array,
-    crate::specs::Grammar::BracketedElements,
-    crate::specs::Grammar::Dict,
-    crate::specs::Grammar::BracedPairs
-))]
+#[tactic(auto, unfolding(crate::specs::Grammar::Prim, crate::specs::Grammar::Literal, crate::specs::Grammar::Paren, crate::specs::Grammar::Array, crate::specs::Grammar::BracketedElements, crate::specs::Grammar::Dict, crate::specs::Grammar::BracedPairs))]
 pub(crate) fn primary<'a>(
     alloc: Global,
     most: usize,
@@ -107,10 +99,8 @@ fn function_func<'a>(
 
 /// A literal, an identifier, `this` or `globals`.
 fn literal<'a>(tokens: &'a [Token]) -> Result<(Expr, &'a [Token]), Stop<'a>>
-    ensures {
-        Gives expr_view result
-        (one_read sorts literal_sorts (λ t. expression t.place (literal_plain t.kind)) tokens.now)
-    }
+    ensures { Gives expr_view result
+        (one_read sorts literal_sorts (λ t. expression t.place (literal_plain t.kind)) tokens.now) }
 {
     match tokens {
         [token, rest @ ..] if is_literal(&token.kind) => {

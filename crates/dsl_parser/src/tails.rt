@@ -1,11 +1,11 @@
 // What stands behind primary expressions: members, elements and calls.
-ghost use Rattle.std.specs.Prelude.{◌≡◌, ◌<◌, ℕ, [], ◌∷◌};
-ghost use Rattle.site_base.specs.SyntaxView.{expr_view, exprs_view};
+ghost use Rattle.std.specs.Prelude.{◌≡◌, ◌<◌};
+ghost use Rattle.site_base.specs.SyntaxView.{exprs_view};
 ghost use Rattle.dsl_lexer.specs.declared.sign.Sign.TheVariants as signs;
 ghost use Rattle.dsl_rules.specs.Alphabet.{at};
 ghost use Rattle.dsl_rules.specs.Grammar.{made};
-ghost use Rattle.dsl_parser.specs.Codes.{sorts, sign_sort};
-ghost use Rattle.dsl_parser.specs.ExprParts.{operand_view};
+ghost use Rattle.dsl_parser.specs.Codes.{sorts};
+ghost use Rattle.dsl_parser.specs.ExprParts.{operand_view, read_flat};
 ghost use Rattle.dsl_parser.specs.Gives.{Gives};
 ghost use Rattle.dsl_parser.specs.Grammar.{Expr as ExprRule, BegunPrim, Postfix, OneTail, Arguments, Listed, tail_sorts, with_tail, member_tail, index_tail, call_tail};
 ghost use Rattle.dsl_parser.specs.Lists.{add_expression};
@@ -76,12 +76,10 @@ fn with_next_tail<'a>(
     tokens: &'a [Token],
 ) -> Result<(Operand, &'a [Token]), Stop<'a>>
     requires { 0 < most }
-    ensures {
-        Gives operand_view result (read_by most (made (with_tail (operand_view operand)) OneTail) tokens.now)
-    }
+    ensures { Gives operand_view result (read_by most (made (with_tail (operand_view operand)) OneTail) tokens.now) }
 {
     if at_sign(Sign::Dot, tokens) {
-        next_member(alloc, most, operand, tokens)
+        next_member(alloc, operand, tokens)
     } else if at_sign(Sign::OpenBracket, tokens) {
         next_index(alloc, most, operand, tokens)
     } else {
@@ -92,14 +90,11 @@ fn with_next_tail<'a>(
 /// The operand's member whose name stands next, "." IDENT.
 fn next_member<'a>(
     alloc: Global,
-    most: usize,
     operand: Operand,
     tokens: &'a [Token],
 ) -> Result<(Operand, &'a [Token]), Stop<'a>>
-    ensures {
-        Gives operand_view result
-        (read_by most (made (with_tail (operand_view operand)) (made member_tail (behind (sign_rule signs.Dot) IDENT))) tokens.now)
-    }
+    ensures { Gives operand_view result
+        (read_flat (made (with_tail (operand_view operand)) (made member_tail (behind (sign_rule signs.Dot) IDENT))) tokens.now) }
 {
     let (_, inner) = sign(Sign::Dot, tokens)?;
     let (name, rest) = ident(inner)?;
@@ -115,10 +110,8 @@ fn next_index<'a>(
     tokens: &'a [Token],
 ) -> Result<(Operand, &'a [Token]), Stop<'a>>
     requires { 0 < most }
-    ensures {
-        Gives operand_view result
-        (read_by most (made (with_tail (operand_view operand)) (made index_tail (behind (sign_rule signs.OpenBracket) (before ExprRule (sign_rule signs.CloseBracket))))) tokens.now)
-    }
+    ensures { Gives operand_view result
+        (read_by most (made (with_tail (operand_view operand)) (made index_tail (behind (sign_rule signs.OpenBracket) (before ExprRule (sign_rule signs.CloseBracket))))) tokens.now) }
 {
     let (_, inner) = sign(Sign::OpenBracket, tokens)?;
     let (index, after) = expr(alloc, most - 1, inner)?;
@@ -135,10 +128,8 @@ fn next_call<'a>(
     tokens: &'a [Token],
 ) -> Result<(Operand, &'a [Token]), Stop<'a>>
     requires { 0 < most }
-    ensures {
-        Gives operand_view result
-        (read_by most (made (with_tail (operand_view operand)) (made call_tail (behind (sign_rule signs.OpenParen) (before Arguments (sign_rule signs.CloseParen))))) tokens.now)
-    }
+    ensures { Gives operand_view result
+        (read_by most (made (with_tail (operand_view operand)) (made call_tail (behind (sign_rule signs.OpenParen) (before Arguments (sign_rule signs.CloseParen))))) tokens.now) }
 {
     let (_, inner) = sign(Sign::OpenParen, tokens)?;
     let (list, after) = arguments(alloc, most, inner)?;
@@ -197,10 +188,8 @@ fn with_next_argument<'a>(
     tokens: &'a [Token],
 ) -> Result<(Vec<Expr>, &'a [Token]), Stop<'a>>
     requires { 0 < most }
-    ensures {
-        Gives (λ es. exprs_view es.items) result
-        (read_by most (made (add_expression (exprs_view list.items)) (behind (sign_rule signs.Comma) ExprRule)) tokens.now)
-    }
+    ensures { Gives (λ es. exprs_view es.items) result
+        (read_by most (made (add_expression (exprs_view list.items)) (behind (sign_rule signs.Comma) ExprRule)) tokens.now) }
 {
     let (_, inner) = sign(Sign::Comma, tokens)?;
     let (argument, rest) = expr(alloc, most - 1, inner)?;
@@ -216,10 +205,8 @@ fn with_next_expr<'a>(
     tokens: &'a [Token],
 ) -> Result<(Vec<Expr>, &'a [Token]), Stop<'a>>
     requires { 0 < most }
-    ensures {
-        Gives (λ es. exprs_view es.items) result
-        (read_by most (made (add_expression (exprs_view list.items)) ExprRule) tokens.now)
-    }
+    ensures { Gives (λ es. exprs_view es.items) result
+        (read_by most (made (add_expression (exprs_view list.items)) ExprRule) tokens.now) }
 {
     let (argument, rest) = expr(alloc, most - 1, tokens)?;
     Ok((with_expr(list, argument)?, rest))

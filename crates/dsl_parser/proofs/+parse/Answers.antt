@@ -1,4 +1,4 @@
-use Rattle.std.proofs.Common.{rules, ◌≡◌, ◌≢◌, ◌+◌, ◌-◌, [], ◌∷◌, true, sym, subst, arith}
+use Rattle.std.proofs.Common.{rules, ◌≡◌, ◌+◌, ◌-◌, [], ◌∷◌, true, sym, subst, arith}
 use Rattle.site_base.specs.SyntaxView.{expr_view, exprs_view, entries_view, uses_view}
 use Rattle.dsl_lexer.specs.declared.sign.Sign.TheVariants as signs
 use Rattle.dsl_rules.specs.Alphabet.{at}
