@@ -10,3 +10,6 @@ pub mod Knot
 pub mod NameLaws
 pub mod DepthLaw
 pub mod Place
+pub mod PartLists
+pub mod MadeTurns
+pub mod LevelReads

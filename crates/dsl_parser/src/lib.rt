@@ -6,12 +6,26 @@
 //! the walk that finds the first token that stands too deep (`depth`).
 #![tactic(auto)]
 
+mod arrays;
+mod arrow_functions;
+mod blocks;
 mod depth;
+mod dictionaries;
+mod exprs;
+mod functions;
 mod laws;
+mod levels;
 mod next;
+mod nodes;
+mod operand;
+mod operators;
 mod parse_error;
+mod prefixes;
+mod primaries;
 mod role;
+mod slots;
 mod stop;
+mod tails;
 #[cfg(test)]
 mod tests;
 
