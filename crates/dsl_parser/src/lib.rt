@@ -6,10 +6,27 @@
 //! the walk that finds the first token that stands too deep (`depth`).
 #![tactic(auto)]
 
+mod applies;
+mod begins;
+mod blocks;
+mod bodied;
+mod bodies;
+mod common;
 mod depth;
+mod exprs;
+mod files;
+mod functions;
+mod headed;
+mod heads;
+mod inclusions;
 mod laws;
+mod located;
+mod loops;
+mod named;
 mod next;
+mod objects;
 mod parse_error;
+mod parsing;
 mod role;
 mod stop;
 #[cfg(test)]
@@ -18,3 +35,4 @@ mod tests;
 pub use depth::too_deep;
 pub use laws::files_have_one_outcome;
 pub use parse_error::ParseError;
+pub use parsing::parse;
