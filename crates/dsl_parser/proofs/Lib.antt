@@ -10,3 +10,5 @@ pub mod Knot
 pub mod NameLaws
 pub mod DepthLaw
 pub mod Place
+pub mod Rows
+pub mod Outcomes

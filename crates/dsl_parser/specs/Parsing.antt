@@ -39,8 +39,8 @@ GivesFault tokens (Err errors.OutOfMemory) = Unit {0}
 
 -- what is given is what is read of the tokens, unless there was no memory
 abbrev pub Answers : Outcome → Result File ParseError → Type 0
+Answers o (Err errors.OutOfMemory) = Unit {0}
 Answers (tree_found tree) (Ok file) = file_view file ≡ tree
 Answers (fault_at place) (Err (errors.SyntaxFault p)) = p ≡ place
 Answers (deep_at_place place) (Err (errors.TooDeep p)) = p ≡ place
-Answers o (Err errors.OutOfMemory) = Unit {0}
 Answers o result = ⊥

@@ -4,10 +4,10 @@ ghost use Rattle.dsl_rules.specs.Grammar.{made};
 ghost use Rattle.dsl_rules.specs.Rules.{may};
 ghost use Rattle.dsl_parser.specs.Codes.{sorts};
 ghost use Rattle.dsl_parser.specs.Gives.{Gives};
-ghost use Rattle.dsl_parser.specs.Grammar.{AnyHead, ApplyHeads, ApplyName, ApplyStatement, HeadedBody, add_head, applied, may_head};
+ghost use Rattle.dsl_parser.specs.Grammar.{AnyHead, ApplyHeads, ApplyName, ApplyStatement, HeadedBody, add_head, applied, head_for, head_to, may_head};
 ghost use Rattle.dsl_parser.specs.NamedView.{headed_view, heads_view, head_sorts};
 ghost use Rattle.dsl_parser.specs.Reading.{read_by};
-ghost use Rattle.site_base.specs.SyntaxView.{maybe_expr_view, stmt_kind_view};
+ghost use Rattle.site_base.specs.SyntaxView.{each_view, maybe_expr_view, stmt_kind_view};
 
 use crate::begins::at_apply_name;
 use crate::exprs::expr;

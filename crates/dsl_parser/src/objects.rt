@@ -22,7 +22,7 @@ use std::sync::Arc;
 
 /// What a statement of a block is.
 #[cycle(parse)]
-#[tactic(auto, unfolding(crate::specs::Grammar::Kind))]
+#[tactic(auto, unfolding(crate::specs::Grammar::Kind, crate::specs::Grammar::ObjectStatement, crate::specs::Grammar::TemplateStatement, crate::specs::Grammar::ApplyStatement, crate::specs::Grammar::ConstStatement))]
 pub(crate) fn statement_kind<'a>(
     alloc: Global,
     most: usize,
