@@ -1,5 +1,5 @@
 -- What `parse` gives, from the outcome of reading.
-use Rattle.std.proofs.Common.{◌≡◌, List, Result, Ok, Err, sym, subst, ◌∙◌}
+use Rattle.std.proofs.Common.{List, Result, Ok, Err, sym, subst, ◌∙◌}
 use Rattle.site_base.specs.declared.syntax.file.File.{File}
 use Rattle.dsl_lexer.specs.declared.token.Token.{Token}
 use Rattle.dsl_lexer.specs.Lists.{IsWhole}

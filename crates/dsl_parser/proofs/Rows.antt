@@ -1,10 +1,10 @@
 -- Turns of rows, by what each makes of the things before it.
-use Rattle.std.proofs.Common.{◌≡◌, ◌≢◌, ◌-◌, ℕ, zero, suc, List, [], ◌∷◌, ◌++◌, drop, Bool, true, false, refl, sym, ap, ◌∙◌, subst, arith}
-use Rattle.site_base.specs.Syntax.{Statement, statement, Statements, more_statements, no_expression, some_expression, Expression, MaybeExpression}
+use Rattle.std.proofs.Common.{◌≡◌, ◌≢◌, ◌-◌, ℕ, zero, suc, List, [], ◌∷◌, ◌++◌, drop, Bool, true, false, refl, ap, ◌∙◌, arith}
+use Rattle.site_base.specs.Syntax.{Statement, Statements, more_statements, no_expression, some_expression, Expression}
 use Rattle.site_base.specs.SyntaxView.{stmt_view, stmts_view}
 use Rattle.site_base.specs.declared.syntax.stmt.Stmt.{Stmt}
 use Rattle.dsl_lexer.specs.declared.token.Token.{Token}
-use Rattle.dsl_rules.specs.Alphabet.{Sort, at, over, outside}
+use Rattle.dsl_rules.specs.Alphabet.{Sort, at, outside}
 use Rattle.dsl_rules.specs.Rules.{may}
 use Rattle.dsl_rules.specs.Grammar.{one, made, always}
 use Rattle.dsl_rules.specs.Reading.{Read, got, bad, ◌>>=◌, turns, first}
@@ -14,8 +14,8 @@ use Rattle.dsl_parser.specs.Codes.{sorts, sign_sort}
 use Rattle.dsl_parser.specs.Grammar.{production, ApplyName}
 use Rattle.dsl_parser.specs.Lists.{add_statement}
 use Rattle.dsl_parser.specs.Reading.{reads, read_by}
-use Rattle.dsl_parser.specs.Terms.{Name, expr, Value, starts, Rule, Turn, nothing, thing, add_turn, behind, maybe}
-use Rattle.dsl_parser.proofs.Turns.{turns_on, turns_bad, turns_end, may_at}
+use Rattle.dsl_parser.specs.Terms.{Name, expr, starts, Rule, Turn, nothing, thing, add_turn, behind, maybe}
+use Rattle.dsl_parser.proofs.Turns.{turns_on, may_at}
 
 -- a turn is taken, with any test
 pub turn_made : {A C : Type 0} (m n : ℕ) (cs : List Sort) (more : C → Sort → Bool) (step : C → A → C) (p : List Token → Read Token A) (c d : C) (ts mid : List Token) → m ≡ suc n → may sorts cs (more c) ts ≡ true → (p ts >>= λ x rest. got (step c x) rest) ≡ got d mid → turns sorts false cs more step p m c ts ≡ turns sorts false cs more step p n d mid
