@@ -1,5 +1,5 @@
 // Apply rules.
-ghost use Rattle.std.specs.Prelude.{◌≡◌, ◌<◌, is_some};
+ghost use Rattle.std.specs.Prelude.{◌≡◌, ◌<◌};
 ghost use Rattle.dsl_rules.specs.Grammar.{made};
 ghost use Rattle.dsl_rules.specs.Rules.{may};
 ghost use Rattle.dsl_parser.specs.Codes.{sorts};

@@ -1,5 +1,5 @@
 // Inclusions of other files.
-ghost use Rattle.std.specs.Prelude.{◌≡◌, [], ◌∷◌, IfOk, codes};
+ghost use Rattle.std.specs.Prelude.{◌≡◌, [], ◌∷◌, codes};
 ghost use Rattle.dsl_lexer.specs.declared.sign.Sign.TheVariants as signs;
 ghost use Rattle.dsl_rules.specs.Alphabet.{at};
 ghost use Rattle.dsl_rules.specs.Grammar.{made};
@@ -15,7 +15,7 @@ use crate::located::Located;
 use crate::next::{after_first, at_sign, at_word, ident, sign, string, word};
 use crate::stop::Stop;
 use dsl_lexer::{Sign, Token, TokenKind, Word};
-use site_base::{OutOfMemory, StmtKind, Text};
+use site_base::{StmtKind, Text};
 use std::alloc::Global;
 
 /// An inclusion of one file or of all files of a folder.

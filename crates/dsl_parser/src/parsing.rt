@@ -1,20 +1,16 @@
-// Files.
-ghost use Rattle.std.specs.Prelude.{◌≡◌, ◌<◌, List, length, Option, drop};
+// The trees of files.
+ghost use Rattle.std.specs.Prelude.{◌≡◌, ◌<◌, length};
 ghost use Rattle.dsl_lexer.specs.Lists.{IsWhole};
 ghost use Rattle.dsl_lexer.specs.declared.token.Token.{Token};
-ghost use Rattle.dsl_rules.specs.Reading.{Read};
-ghost use Rattle.dsl_parser.specs.Files.{file_outcome, outcome, cut_at, head_place};
-ghost use Rattle.dsl_parser.specs.Gives.{Gives};
+ghost use Rattle.dsl_parser.specs.Files.{file_outcome, head_place};
 ghost use Rattle.dsl_parser.specs.Parsing.{Answers, GivesTree, IsShallow, GivesOnly, GivesFault};
-ghost use Rattle.site_base.specs.Syntax.{Statements};
-ghost use Rattle.site_base.specs.SyntaxView.{stmts_view};
 
 use crate::depth::too_deep;
 use crate::files::file_statements;
 use crate::parse_error::ParseError;
 use crate::stop::Stop;
 use dsl_lexer::Token;
-use site_base::{File, Place, Stmt};
+use site_base::{File, Place};
 use std::alloc::Global;
 
 /// The one tree of a file's tokens, or why they have none.

@@ -1,5 +1,6 @@
 // That the definition of depth means what it should, and that calls succeed.
 mod depths;
+mod files;
 
 use crate::too_deep;
 use depths::{BRACKETS, Row, SEPARATORS, WEIGHTS};
