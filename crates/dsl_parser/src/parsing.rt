@@ -1,7 +1,6 @@
 // The trees of files.
 ghost use Rattle.std.specs.Prelude.{◌≡◌, ◌<◌, length};
 ghost use Rattle.dsl_lexer.specs.Lists.{IsWhole};
-ghost use Rattle.dsl_lexer.specs.declared.token.Token.{Token};
 ghost use Rattle.dsl_parser.specs.Files.{file_outcome, head_place};
 ghost use Rattle.dsl_parser.specs.Parsing.{Answers, GivesTree, IsShallow, GivesOnly, GivesFault};
 
