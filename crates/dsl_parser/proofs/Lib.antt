@@ -13,3 +13,5 @@ pub mod Place
 pub mod PartLists
 pub mod MadeTurns
 pub mod LevelReads
+pub mod Rows
+pub mod Outcomes

@@ -5,7 +5,9 @@ pub mod Terms
 pub mod Grammar
 pub mod Reading
 pub mod Gives
+pub mod NamedView
 pub mod Depth
 pub mod DepthView
 pub mod Files
 pub mod ExprParts
+pub mod Parsing

@@ -3,6 +3,7 @@ mod depths;
 mod expressions;
 mod failures;
 mod faults;
+mod files;
 mod outcomes;
 mod places;
 mod statements;

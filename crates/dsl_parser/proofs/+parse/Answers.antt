@@ -1,18 +1,22 @@
-use Rattle.std.proofs.Common.{rules, ◌≡◌, ◌+◌, ◌-◌, [], ◌∷◌, true, sym, subst, arith}
-use Rattle.site_base.specs.SyntaxView.{expr_view, exprs_view, entries_view, uses_view}
-use Rattle.dsl_lexer.specs.declared.sign.Sign.TheVariants as signs
+use Rattle.std.proofs.Common.{rules, ◌≡◌, ◌+◌, ◌-◌, [], ◌∷◌, true, sym, subst, arith, suc, false, ◌∙◌}
+use Rattle.site_base.specs.SyntaxView.{expr_view, exprs_view, entries_view, uses_view, maybe_expr_view, stmts_view}
 use Rattle.dsl_rules.specs.Alphabet.{at}
-use Rattle.dsl_rules.specs.Rules.{may}
 use Rattle.dsl_rules.specs.Grammar.{both, pair, fold_pair, one}
+use Rattle.dsl_rules.specs.Rules.{may}
+use Rattle.dsl_parser.proofs.Firsts.{first_AnyStatement, first_BodyStatement}
+use Rattle.dsl_parser.proofs.LevelReads.{expr_none, expr_on, level_none, level_on}
+use Rattle.dsl_parser.proofs.MadeTurns.{step_at, step_may}
+use Rattle.dsl_parser.proofs.Rows.{turn_made, row_step, thing_read, thing_is, thing_absent, reads_none, reads_on, name_sorts, name_read, name_is, name_absent}
 use Rattle.dsl_parser.specs.Codes.{sorts, sign_sort}
 use Rattle.dsl_parser.specs.ExprParts.{operand_view, slots_view}
 use Rattle.dsl_parser.specs.Gives.{Gives}
-use Rattle.dsl_parser.specs.Grammar.{Expr, OneTail, tail_sorts, with_tail, Level, Operator, joined, CommaSlot, add_slot, may_follow, MaybePair, add_pair, OneUse, add_captured}
+use Rattle.dsl_parser.specs.Grammar.{Expr, OneTail, tail_sorts, with_tail, Level, Operator, joined, CommaSlot, add_slot, may_follow, MaybePair, add_pair, OneUse, add_captured, AnyHead, AnyStatement, BodyStatement, MaybeBodyStatement, MaybeStatement, add_head, body_sorts, may_head, statement_sorts}
 use Rattle.dsl_parser.specs.Lists.{add_expression}
+use Rattle.dsl_parser.specs.NamedView.{head_sorts, heads_view}
 use Rattle.dsl_parser.specs.Operators.{level_sorts}
-use Rattle.dsl_parser.specs.Terms.{behind, sign, bsep, add_turn}
-use Rattle.dsl_parser.proofs.LevelReads.{expr_none, expr_on, level_none, level_on}
-use Rattle.dsl_parser.proofs.MadeTurns.{step_at, step_may}
+use Rattle.dsl_parser.specs.Reading.{read_by}
+use Rattle.dsl_parser.specs.Terms.{behind, sign, bsep, add_turn, block, sep}
+use Rattle.dsl_lexer.specs.declared.sign.Sign.TheVariants as signs
 use Rattle.dsl_parser.proofs.+parse.Goals as goal
 
 pub exprs::expr-returns-then-most-eq0 : goal.exprs::expr-returns-then-most-eq0
@@ -59,3 +63,85 @@ pub functions::use_names-loop-preserved : goal.functions::use_names-loop-preserv
 functions::use_names-loop-preserved t c =
     let held : at sorts (sign_sort signs.Comma ∷ []) c.loop.rest.now ≡ true = search rules in
     step_at c.args.most _ (c.args.most - (c.loop.counter + 1)) (sign_sort signs.Comma ∷ []) add_captured (behind (sign signs.Comma) OneUse) (uses_view c.loop.uses.items) (uses_view c.in_ok-longer.longer.items) c.loop.rest.now c.in_ok-longer.after.now _ (omega arith) held c.in_ok-longer.ensures c.loop.invariant
+
+-- Blocks.
+
+pub blocks::block-returns-then-most-eq0 : goal.blocks::block-returns-then-most-eq0
+blocks::block-returns-then-most-eq0 t c = reads_none c.args.most block c.args.tokens.now c.if-most-eq0.true
+
+pub blocks::block-returns : goal.blocks::block-returns
+blocks::block-returns t c = rw (reads_on c.args.most block c.args.tokens.now c.if-most-eq0.false) c.braced.ensures
+
+pub blocks::block_statements-loop-preserved : goal.blocks::block_statements-loop-preserved
+blocks::block_statements-loop-preserved t c =
+    let counts : c.args.most - c.loop.counter ≡ suc (c.args.most - (c.loop.counter + 1)) = omega arith in
+    let held : at sorts sep c.loop.rest.now ≡ true = search rules in
+    sym (row_step c.args.most _ _ sep MaybeStatement (stmts_view c.loop.list.items) (stmts_view c.in_ok-more.more.items) c.loop.rest.now c.in_ok-more.after.now counts held (let q = c.in_ok-more.ensures in rw c.after_first.ensures at q))
+    ∙ c.loop.invariant
+
+pub blocks::maybe_statement-returns-then-not-at_statement : goal.blocks::maybe_statement-returns-then-not-at_statement
+unfolding MaybeStatement
+blocks::maybe_statement-returns-then-not-at_statement t c =
+    let held : at sorts statement_sorts c.args.tokens.now ≡ false = search rules in
+    thing_absent c.args.most statement_sorts AnyStatement first_AnyStatement (stmts_view c.args.list.items) c.args.tokens.now held
+
+pub blocks::maybe_statement-returns-in_err-statement : goal.blocks::maybe_statement-returns-in_err-statement
+unfolding MaybeStatement
+blocks::maybe_statement-returns-in_err-statement t c =
+    let held : at sorts statement_sorts c.args.tokens.now ≡ true = search rules in
+    subst (Gives (λ b. stmts_view b.items) c.from_residual.result) (sym (thing_is c.args.most statement_sorts AnyStatement first_AnyStatement (stmts_view c.args.list.items) c.args.tokens.now held)) (search rules)
+
+pub blocks::maybe_statement-returns : goal.blocks::maybe_statement-returns
+unfolding MaybeStatement
+blocks::maybe_statement-returns t c =
+    let held : at sorts statement_sorts c.args.tokens.now ≡ true = search rules in
+    rw c.in_ok-push.ensures.items (thing_read c.args.most statement_sorts AnyStatement first_AnyStatement c.args.list.items c.in_ok-statement.statement c.args.tokens.now c.in_ok-statement.rest.now held c.in_ok-statement.ensures)
+
+-- Bodies.
+pub bodies::body_statements-loop-preserved : goal.bodies::body_statements-loop-preserved
+bodies::body_statements-loop-preserved t c =
+    let counts : c.args.most - c.loop.counter ≡ suc (c.args.most - (c.loop.counter + 1)) = omega arith in
+    let held : at sorts bsep c.loop.rest.now ≡ true = search rules in
+    sym (row_step c.args.most _ _ bsep MaybeBodyStatement (stmts_view c.loop.list.items) (stmts_view c.in_ok-more.more.items) c.loop.rest.now c.in_ok-more.after.now counts held (let q = c.in_ok-more.ensures in rw c.after_first.ensures at q))
+    ∙ c.loop.invariant
+
+pub bodies::maybe_body_statement-returns-then-not-at_body_statement : goal.bodies::maybe_body_statement-returns-then-not-at_body_statement
+unfolding MaybeBodyStatement
+bodies::maybe_body_statement-returns-then-not-at_body_statement t c =
+    let held : at sorts body_sorts c.args.tokens.now ≡ false = search rules in
+    thing_absent c.args.most body_sorts BodyStatement first_BodyStatement (stmts_view c.args.list.items) c.args.tokens.now held
+
+pub bodies::maybe_body_statement-returns-in_err-statement : goal.bodies::maybe_body_statement-returns-in_err-statement
+unfolding MaybeBodyStatement
+bodies::maybe_body_statement-returns-in_err-statement t c =
+    let held : at sorts body_sorts c.args.tokens.now ≡ true = search rules in
+    subst (Gives (λ b. stmts_view b.items) c.from_residual.result) (sym (thing_is c.args.most body_sorts BodyStatement first_BodyStatement (stmts_view c.args.list.items) c.args.tokens.now held)) (search rules)
+
+pub bodies::maybe_body_statement-returns : goal.bodies::maybe_body_statement-returns
+unfolding MaybeBodyStatement
+bodies::maybe_body_statement-returns t c =
+    let held : at sorts body_sorts c.args.tokens.now ≡ true = search rules in
+    rw c.in_ok-push.ensures.items (thing_read c.args.most body_sorts BodyStatement first_BodyStatement c.args.list.items c.in_ok-statement.statement c.args.tokens.now c.in_ok-statement.rest.now held c.in_ok-statement.ensures)
+
+-- Apply rules.
+pub applies::apply_heads-loop-preserved : goal.applies::apply_heads-loop-preserved
+applies::apply_heads-loop-preserved t c =
+    let counts : c.args.most - c.loop.counter ≡ suc (c.args.most - (c.loop.counter + 1)) = omega arith in
+    let held : may sorts head_sorts (may_head (heads_view c.loop.heads)) c.loop.rest.now ≡ true = search rules in
+    sym (turn_made _ _ head_sorts may_head add_head (read_by c.args.most AnyHead) (heads_view c.loop.heads) (heads_view c.in_ok-more.more) c.loop.rest.now c.in_ok-more.after.now counts held c.in_ok-more.ensures)
+    ∙ c.loop.invariant
+
+pub applies::apply_name-returns-then-not-at_apply_name : goal.applies::apply_name-returns-then-not-at_apply_name
+applies::apply_name-returns-then-not-at_apply_name t c =
+    let held : at sorts name_sorts c.args.tokens.now ≡ false = search rules in
+    name_absent c.args.most c.args.tokens.now held
+
+pub applies::apply_name-returns-in_err-name : goal.applies::apply_name-returns-in_err-name
+applies::apply_name-returns-in_err-name t c =
+    let held : at sorts name_sorts c.args.tokens.now ≡ true = search rules in
+    subst (Gives maybe_expr_view c.from_residual.result) (sym (name_is c.args.most c.args.tokens.now held)) (search rules)
+
+pub applies::apply_name-returns : goal.applies::apply_name-returns
+applies::apply_name-returns t c =
+    let held : at sorts name_sorts c.args.tokens.now ≡ true = search rules in
+    name_read c.args.most (expr_view c.in_ok-name.name) c.args.tokens.now c.in_ok-name.rest.now held c.in_ok-name.ensures
