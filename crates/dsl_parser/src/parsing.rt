@@ -12,13 +12,19 @@ use dsl_lexer::Token;
 use site_base::{File, Place};
 use std::alloc::Global;
 
-/// The one tree of a file's tokens, or why they have none.
+/// The one tree of a file's tokens, of which the last is the end token and no other is, and the places rise: what `lex`
+/// gives (Icinga 2 documentation, Language Reference). Each node has the place of its first token.
+///
+/// `SyntaxFault` at the first token, the end included, such that the tokens before it begin a file and with it they begin
+/// none. `TooDeep` at the first token through which more than 100 brackets are open, or on which more than 200 tokens weigh,
+/// where that isn't behind the other place. `OutOfMemory` where there is no memory for the tree.
 pub fn parse(alloc: Global, tokens: &[Token]) -> Result<File, ParseError>
     requires { IsWhole tokens.now }
     ensures tree { GivesTree tokens.now result }
     ensures shallow { IsShallow tokens.now result }
     ensures only { GivesOnly tokens.now result }
     ensures fault { GivesFault tokens.now result }
+    ensures value { Answers (file_outcome tokens.now) result }
 {
     outcome_of(alloc, tokens)
 }
