@@ -1,4 +1,5 @@
 pub mod Turns
+pub mod Steps
 pub mod Fitting
 pub mod LevelFits
 pub mod Defining

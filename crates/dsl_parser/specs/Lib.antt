@@ -5,6 +5,7 @@ pub mod Terms
 pub mod Grammar
 pub mod Reading
 pub mod Gives
+pub mod Parts
 pub mod Depth
 pub mod DepthView
 pub mod Files

@@ -6,12 +6,25 @@
 //! the walk that finds the first token that stands too deep (`depth`).
 #![tactic(auto)]
 
+mod arrays;
+mod assignments;
+mod blocks;
+mod choice;
+mod choices;
+mod common;
 mod depth;
+mod exprs;
+mod functions;
 mod laws;
+mod loops;
 mod next;
+mod otherwise;
 mod parse_error;
 mod role;
+mod setting;
 mod stop;
+mod target;
+mod targets;
 #[cfg(test)]
 mod tests;
 

@@ -1,0 +1,74 @@
+use Rattle.std.proofs.Common.{◌≡◌, ℕ, ◌+◌, ◌-◌, ◌*◌}
+use Rattle.dsl_parser.proofs.+parse.Given as goal
+
+abbrev pub decreases-exprs::expr : goal.decreases-exprs::expr
+decreases-exprs::expr l = 100 * l.most
+
+abbrev pub decreases-blocks::block : goal.decreases-blocks::block
+decreases-blocks::block l = 100 * l.most
+
+abbrev pub decreases-functions::func : goal.decreases-functions::func
+decreases-functions::func l = 100 * l.most - 90
+
+abbrev pub decreases-arrays::slot : goal.decreases-arrays::slot
+decreases-arrays::slot l = 100 * l.most - 89
+
+abbrev pub decreases-common::common : goal.decreases-common::common
+decreases-common::common l = 100 * l.most - 30
+
+abbrev pub decreases-common::var_statement : goal.decreases-common::var_statement
+decreases-common::var_statement l = 100 * l.most - 40
+
+abbrev pub decreases-common::maybe_value : goal.decreases-common::maybe_value
+decreases-common::maybe_value l = 100 * l.most - 57
+
+abbrev pub decreases-common::import_statement : goal.decreases-common::import_statement
+decreases-common::import_statement l = 100 * l.most - 40
+
+abbrev pub decreases-common::throw_statement : goal.decreases-common::throw_statement
+decreases-common::throw_statement l = 100 * l.most - 40
+
+abbrev pub decreases-common::return_statement : goal.decreases-common::return_statement
+decreases-common::return_statement l = 100 * l.most - 40
+
+abbrev pub decreases-common::define_statement : goal.decreases-common::define_statement
+decreases-common::define_statement l = 100 * l.most - 41
+
+abbrev pub decreases-common::define_or_set : goal.decreases-common::define_or_set
+decreases-common::define_or_set l = 100 * l.most - 31
+
+abbrev pub decreases-assignments::expr_behind_lines : goal.decreases-assignments::expr_behind_lines
+decreases-assignments::expr_behind_lines l = 100 * l.most - 59
+
+abbrev pub decreases-assignments::set_to : goal.decreases-assignments::set_to
+decreases-assignments::set_to l = 100 * l.most - 58
+
+abbrev pub decreases-assignments::set_or_eval : goal.decreases-assignments::set_or_eval
+decreases-assignments::set_or_eval l = 100 * l.most - 41
+
+abbrev pub decreases-choices::otherwise : goal.decreases-choices::otherwise
+decreases-choices::otherwise l = 100 * l.most - 44
+
+abbrev pub decreases-choices::first_choice : goal.decreases-choices::first_choice
+decreases-choices::first_choice l = 100 * l.most - 42
+
+abbrev pub decreases-choices::more_choice : goal.decreases-choices::more_choice
+decreases-choices::more_choice l = 100 * l.most - 43
+
+abbrev pub decreases-choices::choices : goal.decreases-choices::choices
+decreases-choices::choices l = 100 * l.most - 41
+
+abbrev pub decreases-choices::if_statement : goal.decreases-choices::if_statement
+decreases-choices::if_statement l = 100 * l.most - 40
+
+abbrev pub decreases-loops::loop_head : goal.decreases-loops::loop_head
+decreases-loops::loop_head l = 100 * l.most - 59
+
+abbrev pub decreases-loops::guarded : goal.decreases-loops::guarded
+decreases-loops::guarded l = 100 * l.most - 59
+
+abbrev pub decreases-loops::while_statement : goal.decreases-loops::while_statement
+decreases-loops::while_statement l = 100 * l.most - 40
+
+abbrev pub decreases-loops::for_statement : goal.decreases-loops::for_statement
+decreases-loops::for_statement l = 100 * l.most - 40
