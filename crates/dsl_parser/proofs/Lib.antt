@@ -1,5 +1,9 @@
 pub mod Turns
+pub mod MadeTurns
 pub mod Steps
+pub mod Arms
+pub mod Assigning
+pub mod Commons
 pub mod Fitting
 pub mod LevelFits
 pub mod Defining

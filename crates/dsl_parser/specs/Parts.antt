@@ -1,6 +1,6 @@
 -- What the parts of statements, as the parser holds them, stand for.
 use Rattle.std.specs.Prelude.{Option, Some, None}
-use Rattle.site_base.specs.Syntax.{expression}
+use Rattle.site_base.specs.Syntax.{Expression, expression, StatementKind, eval}
 use Rattle.site_base.specs.SyntaxView.{expr_view, expr_kind_view, stmt_row, base_view, steps_view, arms_view, stmts_view}
 use Rattle.site_base.specs.declared.syntax.arm.Arm.{Arm}
 use Rattle.site_base.specs.declared.syntax.expr_kind.ExprKind.TheBlock.{struct-Arm, Step::Member, Step::Index'}
@@ -36,3 +36,7 @@ maybe_target_view (Some t) = Some (target_view t)
 abbrev pub with_step : Step → Option grammar.Target → Option grammar.Target
 with_step (Step::Member t) o = grammar.with_member t o
 with_step (Step::Index' l k) o = grammar.with_index (expression l (expr_kind_view k)) o
+
+-- the assignment to what an expression leads to
+abbrev pub set_of_left : Expression → grammar.Setting → StatementKind
+set_of_left e x = grammar.set_value (grammar.assigned (grammar.maybe_set (eval e) (grammar.stepped (grammar.target_of e))) x)

@@ -1,15 +1,16 @@
 // Assignments, and expressions as statements.
 ghost use Rattle.std.specs.Prelude.{◌≡◌, ◌<◌, ℕ, IfOk, Some, None, [], ◌∷◌, not, cond, is_some, true};
 ghost use Rattle.dsl_lexer.specs.declared.sign.Sign.TheVariants.{OpenParen};
-ghost use Rattle.site_base.specs.Syntax.{StatementKind, eval};
+ghost use Rattle.site_base.specs.Syntax.{StatementKind};
 ghost use Rattle.site_base.specs.SyntaxView.{expr_view, stmt_kind_view};
 ghost use Rattle.dsl_rules.specs.Alphabet.{at, among, and};
+ghost use Rattle.dsl_rules.specs.Grammar.{made};
 ghost use Rattle.dsl_rules.specs.Reading.{one_read};
 ghost use Rattle.dsl_parser.specs.Codes.{sorts, kind_sort, sign_sort};
 ghost use Rattle.dsl_parser.specs.Gives.{Gives};
 ghost use Rattle.dsl_parser.specs.Grammar.{Expr as ExprRule, SetTo, SetOrEval, set_value, assigned, maybe_set, stepped, target_of as target_of_plain};
 ghost use Rattle.dsl_parser.specs.Operators.{set_sorts, set_of as set_of_plain};
-ghost use Rattle.dsl_parser.specs.Parts.{setting_view, target_view};
+ghost use Rattle.dsl_parser.specs.Parts.{setting_view, target_view, set_of_left};
 ghost use Rattle.dsl_parser.specs.Reading.{read_by};
 ghost use Rattle.dsl_parser.specs.Terms.{behind, nl};
 
@@ -111,7 +112,7 @@ fn set_of(target: Target, setting: Setting) -> StmtKind
 /// The assignment to what an expression leads to.
 fn set_left(alloc: Global, left: Expr, setting: Setting) -> Result<StmtKind, OutOfMemory>
     requires { is_some (stepped (target_of_plain (expr_view left))) ≡ true }
-    ensures { IfOk result (λ k. stmt_kind_view k ≡ set_value (assigned (maybe_set (eval (expr_view left)) (stepped (target_of_plain (expr_view left)))) (setting_view setting))) }
+    ensures { IfOk result (λ k. stmt_kind_view k ≡ set_of_left (expr_view left) (setting_view setting)) }
 {
     match target_of(alloc, left)? {
         Some(target) => Ok(set_of(target, setting)),
@@ -124,6 +125,23 @@ fn sets(left: &Expr, tokens: &[Token], rest: &[Token]) -> bool
     ensures { result ≡ and (is_some (stepped (target_of_plain (expr_view left.now)))) (and (not (at sorts (sign_sort OpenParen ∷ []) tokens.now)) (at sorts set_sorts rest.now)) }
 {
     is_target(left) && !at_sign(Sign::OpenParen, tokens) && at_set(rest)
+}
+
+/// The assignment to what an expression leads to, of what is assigned behind it.
+#[cycle(parse)]
+fn set_behind<'a>(
+    alloc: Global,
+    most: usize,
+    left: Expr,
+    tokens: &'a [Token],
+) -> Result<(StmtKind, &'a [Token]), Stop<'a>>
+    requires most { 0 < most }
+    requires target { is_some (stepped (target_of_plain (expr_view left))) ≡ true }
+    ensures { Gives stmt_kind_view result (read_by most (made (set_of_left (expr_view left)) SetTo) tokens.now) }
+{
+    let (setting, rest) = set_to(alloc, most, tokens)?;
+    let kind = set_left(alloc, left, setting)?;
+    Ok((kind, rest))
 }
 
 /// An assignment or an expression: `target setop nl expr | expr`.
@@ -144,7 +162,5 @@ pub(crate) fn set_or_eval<'a>(
     if !sets(&left, tokens, rest) {
         return Ok((StmtKind::Eval { expr: left }, rest));
     }
-    let (setting, rest) = set_to(alloc, most, rest)?;
-    let kind = set_left(alloc, left, setting)?;
-    Ok((kind, rest))
+    set_behind(alloc, most, left, rest)
 }

@@ -20,7 +20,7 @@ pub(crate) fn block<'a>(
 ) -> Result<(Vec<Stmt>, &'a [Token]), Stop<'a>>
     ensures { Gives (λ b. stmts_view b.items) result (reads most block_name tokens.now) }
 {
-    if most > 0 {
+    if most > 1 {
         let _ = common(alloc, most - 1, tokens);
     }
     Err(Stop::Memory)

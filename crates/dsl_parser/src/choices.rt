@@ -1,11 +1,14 @@
 // The statement `if`.
-ghost use Rattle.std.specs.Prelude.{◌≡◌, ◌<◌, ℕ, IfOk};
+ghost use Rattle.std.specs.Prelude.{◌≡◌, ◌<◌, ℕ, IfOk, [], ◌∷◌};
+ghost use Rattle.dsl_lexer.specs.declared.word.Word.TheVariants.{Else as else_word};
 ghost use Rattle.site_base.specs.SyntaxView.{stmt_kind_view};
+ghost use Rattle.dsl_parser.specs.Codes.{sorts, word_sort};
 ghost use Rattle.dsl_parser.specs.Gives.{Gives};
-ghost use Rattle.dsl_parser.specs.Grammar.{Else, FirstChoice, Choices, IfStatement, first_arm, add_else, choice_value};
+ghost use Rattle.dsl_parser.specs.Grammar.{Else, FirstChoice, Choices, IfStatement, first_arm, add_else, choice_value, may_else};
 ghost use Rattle.dsl_parser.specs.Parts.{armed_view, choice_view, otherwise_view};
 ghost use Rattle.dsl_parser.specs.Reading.{read_by};
 ghost use Rattle.dsl_rules.specs.Grammar.{made};
+ghost use Rattle.dsl_rules.specs.Rules.{may};
 
 use crate::blocks::block;
 use crate::choice::Choice;
@@ -53,6 +56,7 @@ fn with_else(choice: Choice, otherwise: Otherwise) -> Result<Choice, AllocFailed
 }
 
 /// The statement of a choice.
+#[tactic(auto, using(site_base::proofs::SyntaxKinds::kind_if))]
 fn if_of(choice: Choice) -> StmtKind
     ensures { stmt_kind_view result ≡ choice_value (choice_view choice) }
 {
@@ -115,6 +119,14 @@ fn more_choice<'a>(
     Ok((choice, rest))
 }
 
+/// If one more `else` stands here.
+#[tactic(auto, using(crate::proofs::Arms::may_follow))]
+fn goes_on(choice: &Choice, tokens: &[Token]) -> bool
+    ensures { result ≡ may sorts (word_sort else_word ∷ []) (may_else (choice_view choice.now)) tokens.now }
+{
+    at_word(Word::Else, tokens) && choice.more
+}
+
 /// All arms, each `else` behind any number of newlines.
 #[cycle(parse)]
 #[tactic(auto, unfolding(crate::specs::Grammar::Choices))]
@@ -129,7 +141,7 @@ fn choices<'a>(
     let (mut choice, mut rest) = first_choice(alloc, most, tokens)?;
     for _ in 0..most {
         let behind = skip_lines(rest);
-        if !choice.more || !at_word(Word::Else, behind) {
+        if !goes_on(&choice, behind) {
             break;
         }
         let (next, after) = more_choice(alloc, most, choice, behind)?;

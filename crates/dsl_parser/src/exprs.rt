@@ -20,7 +20,7 @@ pub(crate) fn expr<'a>(
 ) -> Result<(Expr, &'a [Token]), Stop<'a>>
     ensures { Gives expr_view result (reads most expr_name tokens.now) }
 {
-    if most > 0 {
+    if most > 1 {
         let _ = common(alloc, most - 1, tokens);
     }
     Err(Stop::Memory)

@@ -49,6 +49,7 @@ pub(crate) fn loop_head<'a>(
 }
 
 /// The arm of a condition and a block.
+#[tactic(auto, using(crate::proofs::Arms::made_armed))]
 fn arm_of(cond: Expr, block: Vec<Stmt>) -> Arm
     ensures { armed_view result ≡ armed (expr_view cond) (stmts_view block.items) }
 {
@@ -74,6 +75,7 @@ pub(crate) fn guarded<'a>(
 }
 
 /// The `while` of a condition and a block.
+#[tactic(auto, using(crate::proofs::Arms::armed_fields, site_base::proofs::SyntaxKinds::kind_while))]
 fn while_of(arm: Arm) -> StmtKind
     ensures { stmt_kind_view result ≡ while_armed (armed_view arm) }
 {

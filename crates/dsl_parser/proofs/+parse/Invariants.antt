@@ -1,4 +1,10 @@
-use Rattle.std.proofs.Common.{◌≡◌, ℕ, ◌+◌, ◌-◌, ◌*◌}
+use Rattle.std.proofs.Common.{◌≡◌, ℕ, ◌+◌, ◌-◌, ◌*◌, [], ◌∷◌, true}
+use Rattle.dsl_lexer.specs.declared.word.Word.TheVariants as words
+use Rattle.dsl_rules.specs.Reading.{turns}
+use Rattle.dsl_parser.specs.Codes.{sorts, word_sort}
+use Rattle.dsl_parser.specs.Grammar.{Choices, Else, may_else, add_else}
+use Rattle.dsl_parser.specs.Parts.{choice_view}
+use Rattle.dsl_parser.specs.Reading.{read_by}
 use Rattle.dsl_parser.proofs.+parse.Given as goal
 
 abbrev pub decreases-exprs::expr : goal.decreases-exprs::expr
@@ -46,6 +52,9 @@ decreases-assignments::set_to l = 100 * l.most - 58
 abbrev pub decreases-assignments::set_or_eval : goal.decreases-assignments::set_or_eval
 decreases-assignments::set_or_eval l = 100 * l.most - 41
 
+abbrev pub decreases-assignments::set_behind : goal.decreases-assignments::set_behind
+decreases-assignments::set_behind l = 100 * l.most - 57
+
 abbrev pub decreases-choices::otherwise : goal.decreases-choices::otherwise
 decreases-choices::otherwise l = 100 * l.most - 44
 
@@ -72,3 +81,7 @@ decreases-loops::while_statement l = 100 * l.most - 40
 
 abbrev pub decreases-loops::for_statement : goal.decreases-loops::for_statement
 decreases-loops::for_statement l = 100 * l.most - 40
+
+abbrev pub invariant-choices::choices-loop : goal.invariant-choices::choices-loop
+invariant-choices::choices-loop l =
+    turns sorts true (word_sort words.Else ∷ []) may_else add_else (read_by l.most Else) (l.most - l.counter) (choice_view l.choice) l.rest ≡ read_by l.most Choices l.tokens
