@@ -1,6 +1,6 @@
 -- The arms of an `if`, by their fields and with one arm more.
-use Rattle.std.proofs.Common.{◌≡◌, List, [], ◌∷◌, ◌++◌, Bool, true, false, Vec, Global, refl, ap, sym, ◌∙◌}
-use Rattle.site_base.specs.Syntax.{Expression, expression, Statements, Arms, no_arms, more_arms}
+use Rattle.std.proofs.Common.{◌≡◌, List, [], ◌∷◌, ◌++◌, Bool, true, Vec, Global, refl, ap, sym, ◌∙◌}
+use Rattle.site_base.specs.Syntax.{Expression, expression, Statements, Arms, no_arms}
 use Rattle.site_base.specs.SyntaxView.{expr_view, expr_kind_view, stmts_view, stmt_row, arm_then, arms_view}
 use Rattle.site_base.specs.declared.syntax.arm.Arm.{Arm}
 use Rattle.site_base.specs.declared.syntax.expr.Expr.{Expr}
@@ -8,11 +8,11 @@ use Rattle.site_base.specs.declared.syntax.expr_kind.ExprKind.TheBlock.{struct-A
 use Rattle.site_base.specs.declared.syntax.expr_kind.ExprKind.TheViews.{out-Arm, roll-Arm}
 use Rattle.site_base.specs.declared.syntax.stmt.Stmt.{Stmt}
 use Rattle.site_base.proofs.SyntaxRows.{stmts_vec, arm_fields}
-use Rattle.dsl_rules.specs.Alphabet.{Sort, at, and, over}
+use Rattle.dsl_rules.specs.Alphabet.{Sort, at, and}
 use Rattle.dsl_rules.specs.Rules.{may}
 use Rattle.dsl_lexer.specs.declared.token.Token.{Token}
 use Rattle.dsl_parser.specs.Codes.{sorts}
-use Rattle.dsl_parser.specs.Grammar.{armed, Choice, choice, else_if, add_else, may_else}
+use Rattle.dsl_parser.specs.Grammar.{armed, choice, else_if, add_else, may_else}
 use Rattle.dsl_parser.specs.Lists.{add_arm}
 use Rattle.dsl_parser.specs.Parts.{armed_view}
 

@@ -1,18 +1,18 @@
 -- Assignments, and expressions as statements, as the code reads them.
-use Rattle.std.proofs.Common.{◌≡◌, ℕ, zero, suc, ◌+◌, ◌-◌, ◌<◌, List, [], ◌∷◌, length, nat_eq, Bool, true, false, not, cond, Option, Some, None, is_some, refl, sym, ap, ◌∙◌, arith}
+use Rattle.std.proofs.Common.{◌≡◌, ℕ, suc, ◌-◌, ◌<◌, List, [], ◌∷◌, length, nat_eq, Bool, true, false, not, cond, Option, Some, None, is_some, refl, sym, ap, ◌∙◌, arith}
 use Rattle.site_base.specs.Syntax.{Expression, eval, at_name, at_this, at_globals, no_steps, member_step, index_step}
 use Rattle.dsl_lexer.specs.declared.token.Token.{Token}
 use Rattle.dsl_lexer.specs.declared.sign.Sign.TheVariants as signs
-use Rattle.dsl_rules.specs.Alphabet.{Sort, same, at, and}
+use Rattle.dsl_rules.specs.Alphabet.{same, at, and}
 use Rattle.dsl_rules.specs.Grammar.{made}
 use Rattle.dsl_rules.specs.Rules.{may}
-use Rattle.dsl_rules.specs.Reading.{Read, got, bad, ◌>>=◌, turns, read}
+use Rattle.dsl_rules.specs.Reading.{Read, got, bad, ◌>>=◌, turns}
 use Rattle.dsl_parser.specs.Codes.{sorts, kind_sort, sign_sort}
 use Rattle.dsl_parser.specs.Grammar.{Target, target, target_of, stepped, Maybe_set, maybe_set, may_set, set_value, evaluated, Setting, setting, assigned, SetTo, SetOrEval}
 use Rattle.dsl_parser.specs.Operators.{set_sorts}
 use Rattle.dsl_parser.specs.Parts.{set_of_left}
 use Rattle.dsl_parser.specs.Reading.{reads, read_by}
-use Rattle.dsl_parser.specs.Terms.{expr, starts}
+use Rattle.dsl_parser.specs.Terms.{expr}
 use Rattle.dsl_parser.proofs.Turns.{turns_on, turns_bad, turns_end}
 
 -- an assignment stands here
@@ -80,14 +80,14 @@ set_read n (t ∷ ts) rest e le some h on = by (read_by n SetTo rest) refl
     by (got x mid) q =
         behind_left n t ts rest e h
         ∙ ap (λ r. r >>= λ x more. got (set_value x) more)
-          (turns_on n (n - 1) false set_sorts may_set assigned (read_by n SetTo) (evaluated t e) x rest mid counts (may_is e t ts rest ∙ on) q
-          ∙ turns_end (n - 1) false set_sorts may_set assigned (read_by n SetTo) (assigned (evaluated t e) x) mid (only_one (evaluated t e) x mid))
+        (turns_on n (n - 1) false set_sorts may_set assigned (read_by n SetTo) (evaluated t e) x rest mid counts (may_is e t ts rest ∙ on) q
+        ∙ turns_end (n - 1) false set_sorts may_set assigned (read_by n SetTo) (assigned (evaluated t e) x) mid (only_one (evaluated t e) x mid))
         ∙ ap (λ c. got (set_value (assigned c x)) mid) (left_is e t ts rest on)
         ∙ sym (ap (λ r. r >>= λ x more. got (set_of_left e x) more) q)
     by (bad s) q =
         behind_left n t ts rest e h
         ∙ ap (λ r. r >>= λ x more. got (set_value x) more)
-          (turns_bad n (n - 1) false set_sorts may_set assigned (read_by n SetTo) (evaluated t e) rest s counts (may_is e t ts rest ∙ on) q)
+        (turns_bad n (n - 1) false set_sorts may_set assigned (read_by n SetTo) (evaluated t e) rest s counts (may_is e t ts rest ∙ on) q)
         ∙ sym (ap (λ r. r >>= λ x more. got (set_of_left e x) more) q)
 
 -- where a target stands, it is whole

@@ -12,6 +12,7 @@ use Rattle.dsl_parser.specs.Grammar.{VarStatement, ImportStatement, IfStatement,
 use Rattle.dsl_parser.specs.Reading.{read_by}
 use Rattle.dsl_parser.specs.Terms.{word}
 
+-- which statement it is
 pub read_common : (n : ℕ) (ts : List Token) → read_by n Common ts ≡
     cond (at sorts (word_sort words.Var ∷ []) ts) (read_by n VarStatement ts)
     (cond (at sorts (word_sort words.Import ∷ []) ts) (read_by n ImportStatement ts)

@@ -1,5 +1,5 @@
 -- Turns of loops whose step is read with what stands before it.
-use Rattle.std.proofs.Common.{◌≡◌, ℕ, suc, List, Bool, true, refl, sym, ap, ◌∙◌}
+use Rattle.std.proofs.Common.{◌≡◌, ℕ, suc, List, Bool, true, refl, ap, ◌∙◌}
 use Rattle.dsl_lexer.specs.declared.token.Token.{Token}
 use Rattle.dsl_rules.specs.Alphabet.{Sort, over}
 use Rattle.dsl_rules.specs.Rules.{may}

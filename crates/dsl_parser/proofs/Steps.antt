@@ -1,5 +1,5 @@
 -- Targets with one step more.
-use Rattle.std.proofs.Common.{◌≡◌, ℕ, List, [], ◌∷◌, ◌++◌, Option, Some, None, is_some, Bool, true, false, refl, ap, sym, ◌∙◌}
+use Rattle.std.proofs.Common.{◌≡◌, ℕ, List, [], ◌∷◌, ◌++◌, Option, Some, None, is_some, refl, ap, sym, ◌∙◌}
 use Rattle.site_base.specs.Syntax.{Root, at_name, at_this, at_globals, Expression, expression, Steps, no_steps, member_step, index_step}
 use Rattle.site_base.specs.SyntaxView.{expr_kind_view, step_then, steps_view}
 use Rattle.site_base.specs.declared.syntax.expr_kind.ExprKind.TheBlock.{Step::Member, Step::Index'}

@@ -12,6 +12,7 @@ use Rattle.dsl_parser.specs.declared.setting.Setting.{Setting}
 use Rattle.dsl_parser.specs.declared.target.Target.{Target}
 use Rattle.dsl_parser.specs.Grammar as grammar
 
+-- the parts of an `if`
 abbrev pub armed_view : Arm → grammar.Armed
 armed_view (struct-Arm l k s b) = grammar.armed (expression l (expr_kind_view k)) (stmt_row b)
 
@@ -22,6 +23,7 @@ abbrev pub otherwise_view : Otherwise → grammar.Otherwise
 otherwise_view (otherwise.If a) = grammar.else_if (armed_view a)
 otherwise_view (otherwise.Block b) = grammar.else_block (stmts_view b.items)
 
+-- the parts of an assignment
 abbrev pub setting_view : Setting → grammar.Setting
 setting_view s = grammar.setting s.op (expr_view s.expr)
 

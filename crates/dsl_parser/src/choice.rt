@@ -1,10 +1,12 @@
 // The arms of an `if` while they are read.
 use site_base::{Arm, Stmt};
 
-/// The arms so far, what is run where no condition holds, and if an `else` may follow.
+/// The arms of an `if` so far.
 #[derive(Debug, Drop)]
 pub(crate) struct Choice {
     pub arms: Vec<Arm>,
+    /// What is run where no condition holds.
     pub other: Vec<Stmt>,
+    /// If an `else` may follow.
     pub more: bool,
 }

@@ -37,7 +37,11 @@ fn choice_of(alloc: Global, arm: Arm) -> Result<Choice, AllocFailed<Arm>>
 fn with_else(choice: Choice, otherwise: Otherwise) -> Result<Choice, AllocFailed<Arm>>
     ensures { IfOk result (λ c. choice_view c ≡ add_else (choice_view choice) (otherwise_view otherwise)) }
 {
-    let Choice { mut arms, other, .. } = choice;
+    let Choice {
+        mut arms,
+        other,
+        ..
+    } = choice;
     match otherwise {
         Otherwise::If(arm) => {
             arms.push(arm)?;

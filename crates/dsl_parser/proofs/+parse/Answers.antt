@@ -1,4 +1,4 @@
-use Rattle.std.proofs.Common.{◌≡◌, ℕ, suc, ◌+◌, ◌-◌, [], ◌∷◌, true, false, nat_eq, length, subst, sym, ap, ◌∙◌, arith}
+use Rattle.std.proofs.Common.{◌≡◌, suc, ◌+◌, ◌-◌, [], ◌∷◌, true, false, nat_eq, length, subst, sym, ap, ◌∙◌, arith}
 use Rattle.site_base.specs.Syntax.{break, continue}
 use Rattle.site_base.specs.SyntaxView.{expr_view}
 use Rattle.dsl_lexer.specs.declared.word.Word.TheVariants as words
@@ -40,7 +40,7 @@ choices::choices-loop-preserved t c =
     let next = choice_view c.in_ok-next.next in
     let counts : c.args.most - c.loop.counter ≡ suc (c.args.most - (c.loop.counter + 1)) = omega arith in
     let held : may sorts (word_sort words.Else ∷ []) (may_else before) (over sorts true c.loop.rest.now) ≡ true =
-        ap (may sorts (word_sort words.Else ∷ []) (may_else before)) (sym c.skip_lines-behind.ensures) ∙ sym c.goes_on.ensures ∙ c.if-not-goes_on.false
+    ap (may sorts (word_sort words.Else ∷ []) (may_else before)) (sym c.skip_lines-behind.ensures) ∙ sym c.goes_on.ensures ∙ c.if-not-goes_on.false
     in
     let here : (read_by c.args.most Else c.skip_lines-behind.result.now >>= λ x rest. got (add_else before x) rest) ≡ got next c.in_ok-next.after.now = c.in_ok-next.ensures in
     let made = subst (λ z. (read_by c.args.most Else z >>= λ x rest. got (add_else before x) rest) ≡ got next c.in_ok-next.after.now) c.skip_lines-behind.ensures here in

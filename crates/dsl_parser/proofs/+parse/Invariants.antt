@@ -1,4 +1,4 @@
-use Rattle.std.proofs.Common.{◌≡◌, ℕ, ◌+◌, ◌-◌, ◌*◌, [], ◌∷◌, true}
+use Rattle.std.proofs.Common.{◌≡◌, ◌-◌, ◌*◌, [], ◌∷◌, true}
 use Rattle.dsl_lexer.specs.declared.word.Word.TheVariants as words
 use Rattle.dsl_rules.specs.Reading.{turns}
 use Rattle.dsl_parser.specs.Codes.{sorts, word_sort}
@@ -7,6 +7,7 @@ use Rattle.dsl_parser.specs.Parts.{choice_view}
 use Rattle.dsl_parser.specs.Reading.{read_by}
 use Rattle.dsl_parser.proofs.+parse.Given as goal
 
+-- how far each function is from the end of the recursion
 abbrev pub decreases-exprs::expr : goal.decreases-exprs::expr
 decreases-exprs::expr l = 100 * l.most
 
@@ -82,6 +83,7 @@ decreases-loops::while_statement l = 100 * l.most - 40
 abbrev pub decreases-loops::for_statement : goal.decreases-loops::for_statement
 decreases-loops::for_statement l = 100 * l.most - 40
 
+-- the turns that are left give what all give
 abbrev pub invariant-choices::choices-loop : goal.invariant-choices::choices-loop
 invariant-choices::choices-loop l =
     turns sorts true (word_sort words.Else ∷ []) may_else add_else (read_by l.most Else) (l.most - l.counter) (choice_view l.choice) l.rest ≡ read_by l.most Choices l.tokens

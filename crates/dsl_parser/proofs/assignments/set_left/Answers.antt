@@ -4,8 +4,6 @@ use Rattle.site_base.specs.SyntaxView.{expr_view}
 use Rattle.dsl_parser.specs.Grammar.{target_of, set_value, assigned, maybe_set}
 use Rattle.dsl_parser.specs.Parts.{setting_view, target_view, maybe_target_view}
 use Rattle.dsl_parser.proofs.Assigning.{stepped_is}
-use Rattle.dsl_parser.proofs.Commons.{one_word}
-use Rattle.dsl_parser.proofs.MadeTurns.{turns_made}
 use Rattle.dsl_parser.proofs.assignments.set_left.Goals as goal
 
 pub returns : goal.returns

@@ -1,4 +1,4 @@
-use Rattle.std.proofs.Common.{◌≡◌, sym, ◌∙◌}
+use Rattle.std.proofs.Common.{sym, ◌∙◌}
 use Rattle.site_base.specs.SyntaxView.{expr_view}
 use Rattle.dsl_parser.specs.Grammar.{target_of}
 use Rattle.dsl_parser.proofs.Steps.{some_member, some_index}

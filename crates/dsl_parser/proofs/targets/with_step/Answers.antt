@@ -1,4 +1,3 @@
-use Rattle.std.proofs.Common.{◌≡◌}
 use Rattle.site_base.specs.SyntaxView.{base_view}
 use Rattle.dsl_parser.proofs.Steps.{one_step}
 use Rattle.dsl_parser.proofs.targets.with_step.Goals as goal
