@@ -16,21 +16,11 @@ use Rattle.dsl_parser.specs.Lists.{add_statement}
 use Rattle.dsl_parser.specs.Reading.{reads, read_by}
 use Rattle.dsl_parser.specs.Terms.{Name, expr, starts, Rule, Turn, nothing, thing, add_turn, behind, maybe}
 use Rattle.dsl_parser.proofs.Turns.{turns_on, may_at}
-
--- a turn is taken, with any test
-pub turn_made : {A C : Type 0} (m n : ℕ) (cs : List Sort) (more : C → Sort → Bool) (step : C → A → C) (p : List Token → Read Token A) (c d : C) (ts mid : List Token) → m ≡ suc n → may sorts cs (more c) ts ≡ true → (p ts >>= λ x rest. got (step c x) rest) ≡ got d mid → turns sorts false cs more step p m c ts ≡ turns sorts false cs more step p n d mid
-turn_made {A} {C} m n cs more step p c d ts mid e h q = by (p ts) refl q
-  where
-    by : (r : Read Token A) → p ts ≡ r → (r >>= λ x rest. got (step c x) rest) ≡ got d mid → turns sorts false cs more step p m c ts ≡ turns sorts false cs more step p n d mid
-    by (got x rest) is q =
-        let same_value : step c x ≡ d = cc in
-        let same_rest : rest ≡ mid = cc in
-        turns_on m n false cs more step p c x ts rest e h is ∙ ap (λ z. turns sorts false cs more step p n z rest) same_value ∙ ap (λ z. turns sorts false cs more step p n d z) same_rest
-    by (bad s) is q = absurd cc
+use Rattle.dsl_parser.proofs.MadeTurns.{turned}
 
 -- where each turn may be taken
 pub row_made : {A C : Type 0} (m n : ℕ) (cs : List Sort) (step : C → A → C) (p : List Token → Read Token A) (c d : C) (ts mid : List Token) → m ≡ suc n → at sorts cs ts ≡ true → (p ts >>= λ x rest. got (step c x) rest) ≡ got d mid → turns sorts false cs always step p m c ts ≡ turns sorts false cs always step p n d mid
-row_made m n cs step p c d ts mid e h q = turn_made m n cs always step p c d ts mid e (may_at cs ts ∙ h) q
+row_made m n cs step p c d ts mid e h q = turned m n false cs always step p c d ts mid e (may_at cs ts ∙ h) q
 
 -- Rows of statements.
 

@@ -6,6 +6,7 @@ pub mod Grammar
 pub mod Reading
 pub mod Gives
 pub mod NamedView
+pub mod Parts
 pub mod Depth
 pub mod DepthView
 pub mod Files

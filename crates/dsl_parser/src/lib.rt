@@ -10,10 +10,13 @@
 mod applies;
 mod arrays;
 mod arrow_functions;
+mod assignments;
 mod begins;
 mod blocks;
 mod bodied;
 mod bodies;
+mod choice;
+mod choices;
 mod common;
 mod depth;
 mod dictionaries;
@@ -33,14 +36,18 @@ mod nodes;
 mod objects;
 mod operand;
 mod operators;
+mod otherwise;
 mod parse_error;
 mod parsing;
 mod prefixes;
 mod primaries;
 mod role;
+mod setting;
 mod slots;
 mod stop;
 mod tails;
+mod target;
+mod targets;
 #[cfg(test)]
 mod tests;
 

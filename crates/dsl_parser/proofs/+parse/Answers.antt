@@ -1,23 +1,29 @@
-use Rattle.std.proofs.Common.{rules, ◌≡◌, ◌+◌, ◌-◌, [], ◌∷◌, true, sym, subst, arith, suc, false, ◌∙◌}
+use Rattle.std.proofs.Common.{rules, ◌≡◌, ◌+◌, ◌-◌, [], ◌∷◌, true, sym, subst, arith, suc, false, ◌∙◌, nat_eq, length, ap}
+use Rattle.site_base.specs.Syntax.{break, continue}
 use Rattle.site_base.specs.SyntaxView.{expr_view, exprs_view, entries_view, uses_view, maybe_expr_view, stmts_view}
-use Rattle.dsl_rules.specs.Alphabet.{at}
+use Rattle.dsl_rules.specs.Alphabet.{at, over}
 use Rattle.dsl_rules.specs.Grammar.{both, pair, fold_pair, one}
+use Rattle.dsl_rules.specs.Reading.{got, ◌>>=◌}
 use Rattle.dsl_rules.specs.Rules.{may}
+use Rattle.dsl_parser.proofs.Assigning.{eval_alone, set_read, set_target}
+use Rattle.dsl_parser.proofs.Commons.{read_common, one_word}
 use Rattle.dsl_parser.proofs.Firsts.{first_AnyStatement, first_BodyStatement}
 use Rattle.dsl_parser.proofs.LevelReads.{expr_none, expr_on, level_none, level_on}
-use Rattle.dsl_parser.proofs.MadeTurns.{step_at, step_may}
-use Rattle.dsl_parser.proofs.Rows.{turn_made, row_step, thing_read, thing_is, thing_absent, reads_none, reads_on, name_sorts, name_read, name_is, name_absent}
-use Rattle.dsl_parser.specs.Codes.{sorts, sign_sort}
+use Rattle.dsl_parser.proofs.MadeTurns.{step_at, step_may, turned}
+use Rattle.dsl_parser.proofs.Rows.{row_step, thing_read, thing_is, thing_absent, reads_none, reads_on, name_sorts, name_read, name_is, name_absent}
+use Rattle.dsl_parser.specs.Codes.{sorts, sign_sort, word_sort}
 use Rattle.dsl_parser.specs.ExprParts.{operand_view, slots_view}
 use Rattle.dsl_parser.specs.Gives.{Gives}
-use Rattle.dsl_parser.specs.Grammar.{Expr, OneTail, tail_sorts, with_tail, Level, Operator, joined, CommaSlot, add_slot, may_follow, MaybePair, add_pair, OneUse, add_captured, AnyHead, AnyStatement, BodyStatement, MaybeBodyStatement, MaybeStatement, add_head, body_sorts, may_head, statement_sorts}
+use Rattle.dsl_parser.specs.Grammar.{Expr, OneTail, tail_sorts, with_tail, Level, Operator, joined, CommaSlot, add_slot, may_follow, MaybePair, add_pair, OneUse, add_captured, AnyHead, AnyStatement, BodyStatement, MaybeBodyStatement, MaybeStatement, add_head, body_sorts, may_head, statement_sorts, Else, may_else, add_else}
 use Rattle.dsl_parser.specs.Lists.{add_expression}
 use Rattle.dsl_parser.specs.NamedView.{head_sorts, heads_view}
 use Rattle.dsl_parser.specs.Operators.{level_sorts}
+use Rattle.dsl_parser.specs.Parts.{choice_view}
 use Rattle.dsl_parser.specs.Reading.{read_by}
 use Rattle.dsl_parser.specs.Terms.{behind, sign, bsep, add_turn, block, sep}
 use Rattle.dsl_lexer.specs.declared.sign.Sign.TheVariants as signs
 use Rattle.dsl_parser.proofs.+parse.Goals as goal
+use Rattle.dsl_lexer.specs.declared.word.Word.TheVariants as words
 
 pub exprs::expr-returns-then-most-eq0 : goal.exprs::expr-returns-then-most-eq0
 exprs::expr-returns-then-most-eq0 t c = expr_none c.args.most c.args.tokens.now c.if-most-eq0.true
@@ -65,7 +71,6 @@ functions::use_names-loop-preserved t c =
     step_at c.args.most _ (c.args.most - (c.loop.counter + 1)) (sign_sort signs.Comma ∷ []) add_captured (behind (sign signs.Comma) OneUse) (uses_view c.loop.uses.items) (uses_view c.in_ok-longer.longer.items) c.loop.rest.now c.in_ok-longer.after.now _ (omega arith) held c.in_ok-longer.ensures c.loop.invariant
 
 -- Blocks.
-
 pub blocks::block-returns-then-most-eq0 : goal.blocks::block-returns-then-most-eq0
 blocks::block-returns-then-most-eq0 t c = reads_none c.args.most block c.args.tokens.now c.if-most-eq0.true
 
@@ -128,7 +133,7 @@ pub applies::apply_heads-loop-preserved : goal.applies::apply_heads-loop-preserv
 applies::apply_heads-loop-preserved t c =
     let counts : c.args.most - c.loop.counter ≡ suc (c.args.most - (c.loop.counter + 1)) = omega arith in
     let held : may sorts head_sorts (may_head (heads_view c.loop.heads)) c.loop.rest.now ≡ true = search rules in
-    sym (turn_made _ _ head_sorts may_head add_head (read_by c.args.most AnyHead) (heads_view c.loop.heads) (heads_view c.in_ok-more.more) c.loop.rest.now c.in_ok-more.after.now counts held c.in_ok-more.ensures)
+    sym (turned _ _ false head_sorts may_head add_head (read_by c.args.most AnyHead) (heads_view c.loop.heads) (heads_view c.in_ok-more.more) c.loop.rest.now c.in_ok-more.after.now counts held c.in_ok-more.ensures)
     ∙ c.loop.invariant
 
 pub applies::apply_name-returns-then-not-at_apply_name : goal.applies::apply_name-returns-then-not-at_apply_name
@@ -145,3 +150,87 @@ pub applies::apply_name-returns : goal.applies::apply_name-returns
 applies::apply_name-returns t c =
     let held : at sorts name_sorts c.args.tokens.now ≡ true = search rules in
     name_read c.args.most (expr_view c.in_ok-name.name) c.args.tokens.now c.in_ok-name.rest.now held c.in_ok-name.ensures
+
+-- Assignments.
+
+pub assignments::set_or_eval-returns-then-not-sets : goal.assignments::set_or_eval-returns-then-not-sets
+assignments::set_or_eval-returns-then-not-sets t c =
+    let some : nat_eq (length c.args.tokens.now) 0 ≡ false = sym c.is_empty.ensures ∙ c.if-is_empty.false in
+    eval_alone c.args.most c.args.tokens.now c.in_ok-left.rest.now (expr_view c.in_ok-left.left) some c.in_ok-left.ensures (sym c.sets.ensures ∙ c.if-not-sets.true)
+
+pub assignments::set_or_eval-set_behind-requires : goal.assignments::set_or_eval-set_behind-requires
+assignments::set_or_eval-set_behind-requires t c =
+    let target = set_target (expr_view c.in_ok-left.left) c.args.tokens.now c.in_ok-left.rest.now (sym c.sets.ensures ∙ c.if-not-sets.false) in
+    (omega arith, (c.requires, target))
+
+pub assignments::set_or_eval-returns : goal.assignments::set_or_eval-returns
+assignments::set_or_eval-returns t c =
+    let some : nat_eq (length c.args.tokens.now) 0 ≡ false = sym c.is_empty.ensures ∙ c.if-is_empty.false in
+    rw (set_read c.args.most c.args.tokens.now c.in_ok-left.rest.now (expr_view c.in_ok-left.left) c.requires some c.in_ok-left.ensures (sym c.sets.ensures ∙ c.if-not-sets.false))
+    c.set_behind.ensures
+
+-- The arms of an `if`.
+pub choices::choices-loop-preserved : goal.choices::choices-loop-preserved
+choices::choices-loop-preserved t c =
+    let before = choice_view c.loop.choice in
+    let next = choice_view c.in_ok-next.next in
+    let counts : c.args.most - c.loop.counter ≡ suc (c.args.most - (c.loop.counter + 1)) = omega arith in
+    let held : may sorts (word_sort words.Else ∷ []) (may_else before) (over sorts true c.loop.rest.now) ≡ true =
+    ap (may sorts (word_sort words.Else ∷ []) (may_else before)) (sym c.skip_lines-behind.ensures) ∙ sym c.goes_on.ensures ∙ c.if-not-goes_on.false
+    in
+    let here : (read_by c.args.most Else c.skip_lines-behind.result.now >>= λ x rest. got (add_else before x) rest) ≡ got next c.in_ok-next.after.now = c.in_ok-next.ensures in
+    let made = subst (λ z. (read_by c.args.most Else z >>= λ x rest. got (add_else before x) rest) ≡ got next c.in_ok-next.after.now) c.skip_lines-behind.ensures here in
+    sym
+    (turned (c.args.most - c.loop.counter) (c.args.most - (c.loop.counter + 1)) true (word_sort words.Else ∷ []) may_else add_else (read_by c.args.most Else) before next c.loop.rest.now c.in_ok-next.after.now counts held made) ∙
+    c.loop.invariant
+
+-- Statements, by their first token.
+pub common::common-returns-then-at_word : goal.common::common-returns-then-at_word
+common::common-returns-then-at_word t c =
+    rw (read_common c.args.most c.args.tokens.now, sym c.at_word.ensures ∙ c.if-at_word.true)
+    c.var_statement.ensures
+
+pub common::common-returns-then-at_word-2 : goal.common::common-returns-then-at_word-2
+common::common-returns-then-at_word-2 t c =
+    rw (read_common c.args.most c.args.tokens.now, sym c.at_word.ensures ∙ c.if-at_word.false, sym c.at_word-else-at_word.ensures ∙ c.if-at_word-2.true)
+    c.import_statement.ensures
+
+pub common::common-returns-then-at_word-3 : goal.common::common-returns-then-at_word-3
+common::common-returns-then-at_word-3 t c =
+    rw (read_common c.args.most c.args.tokens.now, sym c.at_word.ensures ∙ c.if-at_word.false, sym c.at_word-else-at_word.ensures ∙ c.if-at_word-2.false, sym c.at_word-else-at_word-2.ensures ∙ c.if-at_word-3.true)
+    c.if_statement.ensures
+
+pub common::common-returns-then-at_word-4 : goal.common::common-returns-then-at_word-4
+common::common-returns-then-at_word-4 t c =
+    rw (read_common c.args.most c.args.tokens.now, sym c.at_word.ensures ∙ c.if-at_word.false, sym c.at_word-else-at_word.ensures ∙ c.if-at_word-2.false, sym c.at_word-else-at_word-2.ensures ∙ c.if-at_word-3.false, sym c.at_word-else-at_word-3.ensures ∙ c.if-at_word-4.true)
+    c.while_statement.ensures
+
+pub common::common-returns-then-at_word-5 : goal.common::common-returns-then-at_word-5
+common::common-returns-then-at_word-5 t c =
+    rw (read_common c.args.most c.args.tokens.now, sym c.at_word.ensures ∙ c.if-at_word.false, sym c.at_word-else-at_word.ensures ∙ c.if-at_word-2.false, sym c.at_word-else-at_word-2.ensures ∙ c.if-at_word-3.false, sym c.at_word-else-at_word-3.ensures ∙ c.if-at_word-4.false, sym c.at_word-else-at_word-4.ensures ∙ c.if-at_word-5.true)
+    c.for_statement.ensures
+
+pub common::common-returns-then-at_word-6 : goal.common::common-returns-then-at_word-6
+common::common-returns-then-at_word-6 t c =
+    rw (read_common c.args.most c.args.tokens.now, sym c.at_word.ensures ∙ c.if-at_word.false, sym c.at_word-else-at_word.ensures ∙ c.if-at_word-2.false, sym c.at_word-else-at_word-2.ensures ∙ c.if-at_word-3.false, sym c.at_word-else-at_word-3.ensures ∙ c.if-at_word-4.false, sym c.at_word-else-at_word-4.ensures ∙ c.if-at_word-5.false, sym c.at_word-else-at_word-5.ensures ∙ c.if-at_word-6.true)
+    c.return_statement.ensures
+
+pub common::common-returns-then-at_word-7 : goal.common::common-returns-then-at_word-7
+common::common-returns-then-at_word-7 t c =
+    rw (c.after_first.ensures, read_common c.args.most c.args.tokens.now, sym c.at_word.ensures ∙ c.if-at_word.false, sym c.at_word-else-at_word.ensures ∙ c.if-at_word-2.false, sym c.at_word-else-at_word-2.ensures ∙ c.if-at_word-3.false, sym c.at_word-else-at_word-3.ensures ∙ c.if-at_word-4.false, sym c.at_word-else-at_word-4.ensures ∙ c.if-at_word-5.false, sym c.at_word-else-at_word-5.ensures ∙ c.if-at_word-6.false, sym c.at_word-else-at_word-6.ensures ∙ c.if-at_word-7.true)
+    (one_word c.args.most words.Break break c.args.tokens.now (sym c.at_word-else-at_word-6.ensures ∙ c.if-at_word-7.true))
+
+pub common::common-returns-then-at_word-8 : goal.common::common-returns-then-at_word-8
+common::common-returns-then-at_word-8 t c =
+    rw (c.after_first-then-at_word-8.ensures, read_common c.args.most c.args.tokens.now, sym c.at_word.ensures ∙ c.if-at_word.false, sym c.at_word-else-at_word.ensures ∙ c.if-at_word-2.false, sym c.at_word-else-at_word-2.ensures ∙ c.if-at_word-3.false, sym c.at_word-else-at_word-3.ensures ∙ c.if-at_word-4.false, sym c.at_word-else-at_word-4.ensures ∙ c.if-at_word-5.false, sym c.at_word-else-at_word-5.ensures ∙ c.if-at_word-6.false, sym c.at_word-else-at_word-6.ensures ∙ c.if-at_word-7.false, sym c.at_word-else-at_word-7.ensures ∙ c.if-at_word-8.true)
+    (one_word c.args.most words.Continue continue c.args.tokens.now (sym c.at_word-else-at_word-7.ensures ∙ c.if-at_word-8.true))
+
+pub common::common-returns-then-at_word-9 : goal.common::common-returns-then-at_word-9
+common::common-returns-then-at_word-9 t c =
+    rw (read_common c.args.most c.args.tokens.now, sym c.at_word.ensures ∙ c.if-at_word.false, sym c.at_word-else-at_word.ensures ∙ c.if-at_word-2.false, sym c.at_word-else-at_word-2.ensures ∙ c.if-at_word-3.false, sym c.at_word-else-at_word-3.ensures ∙ c.if-at_word-4.false, sym c.at_word-else-at_word-4.ensures ∙ c.if-at_word-5.false, sym c.at_word-else-at_word-5.ensures ∙ c.if-at_word-6.false, sym c.at_word-else-at_word-6.ensures ∙ c.if-at_word-7.false, sym c.at_word-else-at_word-7.ensures ∙ c.if-at_word-8.false, sym c.at_word-else-at_word-8.ensures ∙ c.if-at_word-9.true)
+    c.throw_statement.ensures
+
+pub common::common-returns-else-at_word-9 : goal.common::common-returns-else-at_word-9
+common::common-returns-else-at_word-9 t c =
+    rw (read_common c.args.most c.args.tokens.now, sym c.at_word.ensures ∙ c.if-at_word.false, sym c.at_word-else-at_word.ensures ∙ c.if-at_word-2.false, sym c.at_word-else-at_word-2.ensures ∙ c.if-at_word-3.false, sym c.at_word-else-at_word-3.ensures ∙ c.if-at_word-4.false, sym c.at_word-else-at_word-4.ensures ∙ c.if-at_word-5.false, sym c.at_word-else-at_word-5.ensures ∙ c.if-at_word-6.false, sym c.at_word-else-at_word-6.ensures ∙ c.if-at_word-7.false, sym c.at_word-else-at_word-7.ensures ∙ c.if-at_word-8.false, sym c.at_word-else-at_word-8.ensures ∙ c.if-at_word-9.false)
+    c.define_or_set.ensures
