@@ -4,13 +4,12 @@
 pub(super) type Row = (&'static str, u32, u32, u32, u32);
 
 /// Expressions as statements.
-pub(super) const EXPRESSIONS: [Row; 13] = [
+pub(super) const EXPRESSIONS: [Row; 12] = [
     ("a", 1, 1, 1, 1),
     ("  a.b", 1, 3, 1, 3),
     ("\n\n-a", 3, 1, 3, 1),
     ("(a).b", 1, 1, 1, 1),
     ("(f)(x)", 1, 1, 1, 1),
-    ("(1 / 0)", 1, 1, 1, 2),
     ("((a))", 1, 1, 1, 3),
     ("((a).b)", 1, 1, 1, 2),
     ("(-a)", 1, 1, 1, 2),
@@ -21,13 +20,14 @@ pub(super) const EXPRESSIONS: [Row; 13] = [
 ];
 
 /// Binary operators: the last two numbers are those of the right operand.
-pub(super) const OPERANDS: [Row; 6] = [
+pub(super) const OPERANDS: [Row; 7] = [
     ("a + b", 1, 1, 1, 5),
     ("a + (b)", 1, 1, 1, 6),
     ("a + -b", 1, 1, 1, 5),
     ("a + (b).c", 1, 1, 1, 5),
     ("a + b * c", 1, 1, 1, 5),
     ("a +\n\n  b", 1, 1, 3, 3),
+    ("(1 / (0))", 1, 1, 1, 7),
 ];
 
 /// Inclusions: the last two numbers are those of the name, or of the `<` before it.
