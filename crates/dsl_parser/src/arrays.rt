@@ -7,7 +7,8 @@ ghost use Rattle.dsl_parser.specs.Gives.{Gives};
 ghost use Rattle.dsl_parser.specs.Grammar.{Slot, CommaSlot, Elements, BracketedElements, Array, add_slot};
 ghost use Rattle.dsl_parser.specs.Reading.{read_by};
 
-use crate::exprs::{begins_expr, expr};
+use crate::begins::at_expr;
+use crate::exprs::expr;
 use crate::next::sign;
 use crate::nodes::array_at;
 use crate::slots::{Slots, at_slot, with_slot};
@@ -137,7 +138,7 @@ pub(crate) fn slot<'a>(
     requires { 0 < most }
     ensures { Gives maybe_expr_view result (read_by most Slot tokens.now) }
 {
-    if begins_expr(tokens) {
+    if at_expr(tokens) {
         let (next, rest) = expr(alloc, most - 1, tokens)?;
         Ok((Some(next), rest))
     } else {

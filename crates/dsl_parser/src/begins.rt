@@ -61,6 +61,16 @@ pub(crate) fn at_body_statement(tokens: &[Token]) -> bool
     }
 }
 
+/// If an expression begins here.
+pub(crate) fn at_expr(tokens: &[Token]) -> bool
+    ensures { result ≡ at sorts (starts expr) tokens.now }
+{
+    match tokens {
+        [token, ..] => begins_expr(&token.kind),
+        [] => false,
+    }
+}
+
 /// If the name of an apply rule begins here: an expression that doesn't begin with `{`.
 pub(crate) fn at_apply_name(tokens: &[Token]) -> bool
     ensures { result ≡ at sorts (outside (sign_sort signs.OpenBrace ∷ []) (starts expr)) tokens.now }

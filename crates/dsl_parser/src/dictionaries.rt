@@ -12,8 +12,9 @@ ghost use Rattle.dsl_parser.specs.Grammar.{Expr as ExprRule, Dict, BracedPairs, 
 ghost use Rattle.dsl_parser.specs.Reading.{read_by};
 ghost use Rattle.dsl_parser.specs.Terms.{behind, nl, sign as sign_rule, text, bsep, add_turn};
 
+use crate::begins::at_body_separator;
 use crate::exprs::expr;
-use crate::next::{at_ident, at_line, at_sign, ident, newlines, sign, string};
+use crate::next::{at_ident, ident, newlines, sign, string};
 use crate::nodes::{dictionary_at, with_entry};
 use crate::stop::Stop;
 use dsl_lexer::{Sign, Token, TokenKind};
@@ -71,7 +72,7 @@ fn pairs<'a>(
 {
     let (mut entries, mut rest) = with_next_pair(alloc, most, Vec::new(alloc), tokens)?;
     for _ in 0..most {
-        if !at_separator(rest) {
+        if !at_body_separator(rest) {
             break;
         }
         let (longer, after) = with_separated_pair(alloc, most, entries, rest)?;
@@ -194,16 +195,9 @@ fn separator<'a>(tokens: &'a [Token]) -> Result<(Place, &'a [Token]), Stop<'a>>
     ensures { Gives (λ p. p) result (one_read sorts bsep (λ t. t.place) tokens.now) }
 {
     match tokens {
-        [token, rest @ ..] if at_separator(tokens) => Ok((token.place, rest)),
+        [token, rest @ ..] if at_body_separator(tokens) => Ok((token.place, rest)),
         _ => Err(Stop::Fault(tokens)),
     }
-}
-
-/// If the next token is a newline, a semicolon or a comma.
-fn at_separator(tokens: &[Token]) -> bool
-    ensures { result ≡ at sorts bsep tokens.now }
-{
-    at_line(tokens) || at_sign(Sign::Semicolon, tokens) || at_sign(Sign::Comma, tokens)
 }
 
 /// The entries with the one that may be there behind them.

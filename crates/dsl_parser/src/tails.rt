@@ -12,7 +12,8 @@ ghost use Rattle.dsl_parser.specs.Lists.{add_expression};
 ghost use Rattle.dsl_parser.specs.Reading.{read_by};
 ghost use Rattle.dsl_parser.specs.Terms.{behind, before, sign as sign_rule, IDENT};
 
-use crate::exprs::{begins_expr, expr};
+use crate::begins::at_expr;
+use crate::exprs::expr;
 use crate::next::{at_sign, ident, sign};
 use crate::nodes::{with_call, with_expr, with_index, with_member};
 use crate::operand::Operand;
@@ -148,7 +149,7 @@ fn arguments<'a>(
     requires { 0 < most }
     ensures { Gives (λ es. exprs_view es.items) result (read_by most Arguments tokens.now) }
 {
-    if begins_expr(tokens) {
+    if at_expr(tokens) {
         let (list, rest) = listed(alloc, most, tokens)?;
         Ok((list, rest))
     } else {
