@@ -1,3 +1,9 @@
+pub mod Turns
+pub mod MadeTurns
+pub mod Steps
+pub mod Arms
+pub mod Assigning
+pub mod Commons
 pub mod Fitting
 pub mod LevelFits
 pub mod Defining
@@ -9,3 +15,7 @@ pub mod Knot
 pub mod NameLaws
 pub mod DepthLaw
 pub mod Place
+pub mod PartLists
+pub mod LevelReads
+pub mod Rows
+pub mod Outcomes

@@ -4,6 +4,11 @@ pub mod Operators
 pub mod Terms
 pub mod Grammar
 pub mod Reading
+pub mod Gives
+pub mod NamedView
+pub mod Parts
 pub mod Depth
 pub mod DepthView
 pub mod Files
+pub mod ExprParts
+pub mod Parsing

@@ -2,15 +2,56 @@
 //!
 //! The definitions stand in `specs/`, in reading order: the sorts of tokens (`Codes`), the operators (`Operators`), small
 //! forms of grammars (`Terms`), the grammar, production by production (`Grammar`), reading by it (`Reading`), how deep
-//! tokens stand (`Depth`), and what tokens are files and where others go wrong (`Files`). Then the law of files (`laws`) and
-//! the walk that finds the first token that stands too deep (`depth`).
+//! tokens stand (`Depth`), what tokens are files and where others go wrong (`Files`), and what `parse` gives (`Parsing`). Then the
+//! law of files (`laws`), the walk that finds the first token that stands too deep (`depth`), and the parser: `parsing`, and
+//! a function for each production in the modules below it.
 #![tactic(auto)]
 
+mod applies;
+mod arrays;
+mod arrow_functions;
+mod assignments;
+mod begins;
+mod blocks;
+mod bodied;
+mod bodies;
+mod choice;
+mod choices;
+mod common;
 mod depth;
+mod dictionaries;
+mod exprs;
+mod files;
+mod functions;
+mod headed;
+mod heads;
+mod inclusions;
 mod laws;
+mod levels;
+mod located;
+mod loops;
+mod named;
+mod next;
+mod nodes;
+mod objects;
+mod operand;
+mod operators;
+mod otherwise;
+mod parse_error;
+mod parsing;
+mod prefixes;
+mod primaries;
 mod role;
+mod setting;
+mod slots;
+mod stop;
+mod tails;
+mod target;
+mod targets;
 #[cfg(test)]
 mod tests;
 
 pub use depth::too_deep;
 pub use laws::files_have_one_outcome;
+pub use parse_error::ParseError;
+pub use parsing::parse;

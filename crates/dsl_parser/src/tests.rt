@@ -1,48 +1,85 @@
-// That the definition of depth means what it should, and that calls succeed.
+// That texts have the trees and faults that the language gives them, and that calls succeed.
 mod depths;
+mod expressions;
+mod failures;
+mod faults;
+mod files;
+mod outcomes;
+mod places;
+mod statements;
+mod trees;
 
-use crate::too_deep;
-use depths::{BRACKETS, Row, SEPARATORS, WEIGHTS};
-use dsl_lexer::lex;
-use site_base::{OutOfMemory, Text};
-use std::alloc::Global;
-use std::process::Abort;
+use depths::{BRACKETS, SEPARATORS, WEIGHTS};
+use expressions::EXPRESSIONS;
+use failures::{check_depth, check_fault, check_outcome};
+use faults::FAULTS;
+use outcomes::OUTCOMES;
+use statements::STATEMENTS;
 use std::test::Fail;
+use trees::{check_places, check_print};
 
-/// The text of a row.
-fn text_of(alloc: Global, row: &Row) -> Result<Text, OutOfMemory> {
-    let (head, part, times, tail, _) = *row;
-    let mut text = Text::copy_of(alloc, head)?;
-    for _ in 0..times {
-        text.push_str(part)?;
+#[test]
+fn the_first_token_too_deep(rt: HostRuntime) -> Result<(), Fail> {
+    let alloc = rt.alloc();
+    for row in &BRACKETS {
+        check_depth(&rt, alloc, row)?;
     }
-    text.push_str(tail)?;
-    Ok(text)
-}
-
-fn check(rt: &impl Abort, alloc: Global, row: &Row) -> Result<(), OutOfMemory> {
-    let text = text_of(alloc, row)?;
-    let bytes = text.as_str().as_bytes();
-    assert!(rt; bytes.len() < 10000);
-    match lex(alloc, bytes, 0) {
-        Ok(tokens) => assert_eq!(rt; too_deep(alloc, tokens.as_slice())?, row.4),
-        Err(_) => return Err(OutOfMemory),
+    for row in &WEIGHTS {
+        check_depth(&rt, alloc, row)?;
     }
-    Ok(())
-}
-
-fn check_all(rt: &impl Abort, alloc: Global, rows: &[Row]) -> Result<(), OutOfMemory> {
-    for row in rows {
-        check(rt, alloc, row)?;
+    for row in &SEPARATORS {
+        check_depth(&rt, alloc, row)?;
     }
     Ok(())
 }
 
 #[test]
-fn the_first_token_too_deep(rt: HostRuntime) -> Result<(), Fail> {
+fn statements_are_printed(rt: HostRuntime) -> Result<(), Fail> {
     let alloc = rt.alloc();
-    check_all(&rt, alloc, &BRACKETS)?;
-    check_all(&rt, alloc, &WEIGHTS)?;
-    check_all(&rt, alloc, &SEPARATORS)?;
+    for row in &STATEMENTS {
+        check_print(&rt, alloc, row)?;
+    }
+    Ok(())
+}
+
+#[test]
+fn expressions_are_printed(rt: HostRuntime) -> Result<(), Fail> {
+    let alloc = rt.alloc();
+    for row in &EXPRESSIONS {
+        check_print(&rt, alloc, row)?;
+    }
+    Ok(())
+}
+
+#[test]
+fn faults_stand_at_the_first_bad_token(rt: HostRuntime) -> Result<(), Fail> {
+    let alloc = rt.alloc();
+    for row in &FAULTS {
+        check_fault(&rt, alloc, row)?;
+    }
+    Ok(())
+}
+
+#[test]
+fn repeated_parts_have_outcomes(rt: HostRuntime) -> Result<(), Fail> {
+    let alloc = rt.alloc();
+    for row in &OUTCOMES {
+        check_outcome(&rt, alloc, row)?;
+    }
+    Ok(())
+}
+
+#[test]
+fn nodes_stand_at_their_first_token(rt: HostRuntime) -> Result<(), Fail> {
+    let alloc = rt.alloc();
+    for row in &places::EXPRESSIONS {
+        check_places(&rt, alloc, row)?;
+    }
+    for row in &places::OPERANDS {
+        check_places(&rt, alloc, row)?;
+    }
+    for row in &places::INCLUSIONS {
+        check_places(&rt, alloc, row)?;
+    }
     Ok(())
 }
