@@ -19,3 +19,4 @@ pub mod PartLists
 pub mod LevelReads
 pub mod Rows
 pub mod Outcomes
+pub mod RowLaws
