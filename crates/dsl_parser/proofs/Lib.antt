@@ -20,3 +20,5 @@ pub mod LevelReads
 pub mod Rows
 pub mod Outcomes
 pub mod RowLaws
+pub mod Leading
+pub mod TargetLaws

@@ -6,9 +6,9 @@ ghost use Rattle.dsl_lexer.specs.declared.token.Token.{Token};
 ghost use Rattle.dsl_rules.specs.Grammar.{Derives};
 ghost use Rattle.dsl_parser.specs.Codes.{sorts};
 ghost use Rattle.dsl_parser.specs.Files.{Holds, file_outcome};
-ghost use Rattle.dsl_parser.specs.Grammar.{AnyStatement, BlockStatements, BodyStatement, BodyStatements, FileStatements, Pair, Pairs, Top, add_pair, names};
+ghost use Rattle.dsl_parser.specs.Grammar.{AnyStatement, BlockStatements, BodyStatement, BodyStatements, FileStatements, Pair, Pairs, SetOrEval, Top, add_pair, names};
 ghost use Rattle.dsl_parser.specs.Lists.{add_statement};
-ghost use Rattle.dsl_parser.specs.Table.{Row, Same};
+ghost use Rattle.dsl_parser.specs.Table.{Derived, Row, Same, TableSetOrEval};
 ghost use Rattle.dsl_parser.specs.Terms.{bsep, sep};
 
 /// What is read of a file's tokens is the grammar's: the one tree that they have, or the first token, the end included,
@@ -28,4 +28,11 @@ pub fn rows_are_things_between_separators()
     ensures body { (h : ℕ) → Same (Derives sorts (names h) BodyStatements) (Row bsep add_statement no_statements (Derives sorts (names h) BodyStatement)) }
     ensures block { (h : ℕ) → Same (Derives sorts (names h) BlockStatements) (Row sep add_statement no_statements (Derives sorts (names h) AnyStatement)) }
     ensures file { (h : ℕ) → Same (Derives sorts (names h) FileStatements) (Row sep add_statement no_statements (Derives sorts (names h) Top)) }
+{}
+
+/// Assignments, which are read as an expression and then, where it leads somewhere, what it is set to: each is a target
+/// and what it is set to, and all else that is read so is an expression.
+#[tactic(auto, using(crate::proofs::TargetLaws::assignments))]
+pub fn assignments_lead_to_targets()
+    ensures { Same (Derived SetOrEval) (Derived TableSetOrEval) }
 {}

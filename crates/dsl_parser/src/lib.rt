@@ -52,6 +52,8 @@ mod targets;
 mod tests;
 
 pub use depth::too_deep;
-pub use laws::{files_have_one_outcome, rows_are_things_between_separators};
+pub use laws::{
+    assignments_lead_to_targets, files_have_one_outcome, rows_are_things_between_separators,
+};
 pub use parse_error::ParseError;
 pub use parsing::parse;
