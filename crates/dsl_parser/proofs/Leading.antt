@@ -27,6 +27,7 @@ pub index_before : (i : Expression) (o : Option Target) (g : Target) → with_in
 index_before i None g e = absurd cc
 index_before i (Some (target r ss)) g e = (target r ss, refl, cc)
 
+-- a target, of which `this` and `globals` alone are none
 pub stepped_some : (o : Option Target) (g : Target) → stepped o ≡ Some g → o ≡ Some g
 stepped_some None g e = absurd cc
 stepped_some (Some (target (at_name t) ss)) g e = e
@@ -63,10 +64,7 @@ kept cs step R P made (x ∷ xs) c d mid rest r p = kept cs step R P made xs (st
 abbrev leads : Begun → Option Target
 leads x = target_of (begun_expression x)
 
--- a literal that leads somewhere
-abbrev Bare : List Token → Target → Type 0
-Bare ts g = ((at sorts (word_sort words.This ∷ []) ts ≡ true) × (target at_this no_steps ≡ g)) ⊎ ((at sorts (word_sort words.Globals ∷ []) ts ≡ true) × (target at_globals no_steps ≡ g))
-
+-- where a literal leads
 literal_leads : (k : TokenKind) (g : Target) → target_of_kind (literal_kind k) ≡ Some g → ((among (kind_sort k) (ident_sort ∷ []) ≡ true) × (target (at_name (kind_text k)) no_steps ≡ g)) ⊎ (((among (kind_sort k) (word_sort words.This ∷ []) ≡ true) × (target at_this no_steps ≡ g)) ⊎ ((among (kind_sort k) (word_sort words.Globals ∷ []) ≡ true) × (target at_globals no_steps ≡ g)))
 literal_leads (kinds.Ident t) g e = inl (refl, cc)
 literal_leads (kinds.Word words.This) g e = inr (inl (refl, cc))
@@ -78,6 +76,7 @@ module _ (L M : Rules Token Name Value) (more : (ts : List Token) (e : Expressio
   abbrev Before : Begun → Target → List Token → List Token → Type 0
   Before c g mid rest = (f : Target) × (ys : List OneStep) × (leads c ≡ Some f) × Turns sorts false step_sorts always step_on (Derives sorts M TableStep) ys f mid g rest
 
+  -- each tail that leads further is a step
   member_turn : (c : Begun) (n : List ℕ) (g : Target) (ts mid rest : List Token) → Derives sorts L (behind (sign signs.Dot) IDENT) ts n mid → Before (with_tail c (member_tail n)) g mid rest → Before c g ts rest
   unfolding TableStep
   member_turn (begun p e) n g ts mid rest d (f, ys, is, steps) =
@@ -120,6 +119,7 @@ module _ (L M : Rules Token Name Value) (more : (ts : List Token) (e : Expressio
   prim_leads t ts e g rest bare (inr (inr (inr (inl (s, d, is))))) q = absurd (let h = ap target_of is ∙ q in cc)
   prim_leads t ts e g rest bare (inr (inr (inr (inr (f, d, is))))) q = absurd (let h = ap target_of is ∙ q in cc)
 
+  -- each level with no operator
   postfix_leads : (t : Token) (ts : List Token) (x : Begun) (g : Target) (rest : List Token) → same (kind_sort t.kind) (sign_sort signs.OpenParen) ≡ false → Derives sorts L Postfix (t ∷ ts) x rest → leads x ≡ Some g → stepped (Some g) ≡ Some g → Derives sorts M TableTarget (t ∷ ts) g rest
   unfolding Postfix BegunPrim TableTarget
   postfix_leads t ts x g rest bare (mid, c, xs, (e, d, is), turns) q full = by (tails_lead xs c x g mid rest turns q)

@@ -35,6 +35,7 @@ module _ {A C : Type 0} (seps : List Sort) (add : C → A → C) (X : RuleOf Tok
   with_separator c d p ts mid rest s (m, [], ps, ys, qs, e) = (ts, [], p ∷ ps, refl, (mid, s, subst (λ z. Many (Separator seps) z ps rest) (sym ys) qs), e)
   with_separator c d p ts mid rest s (m, y ∷ ys, ps, (n, (k, q, y', t, (l, ts', y'', us, x, e2), e1), more), qs, e) = (m, y ∷ ys, ps, (n, (mid, p, y', s, (l, q ∷ ts', y'', (k, t, us), x, e2), e1), more), qs, e)
 
+  -- the turns behind a thing
   followed : (xs : List (Turn A)) (c : C) (ts : List Token) (d : C) (rest : List Token) → Rest xs c ts d rest → Followed c ts d rest
   followed [] c ts d rest r = (ts, [], [], refl, r.1, r.0)
   followed (x ∷ xs) c ts d rest (m, h, (k, p, y, s, inl (a, r, e1), e2), more) =
@@ -48,6 +49,7 @@ module _ {A C : Type 0} (seps : List Sort) (add : C → A → C) (X : RuleOf Tok
   abbrev Led : C → List Token → C → List Token → Type 0
   Led none ts d rest = Row seps add none X ts d rest
 
+  -- what the turns before the first thing are
   one_before : (none d : C) (p : Place) (ts mid rest : List Token) → Separator seps ts p mid → Led none mid d rest → Led none ts d rest
   one_before none d p ts mid rest s (m, ps, xs, qs, r, e) = (m, p ∷ ps, xs, (mid, s, qs), r, e)
 
@@ -63,6 +65,7 @@ module _ {A C : Type 0} (seps : List Sort) (add : C → A → C) (X : RuleOf Tok
 
   -- And back.
 
+  -- a separator is a turn
   turn_here : (c : C) (ts : List Token) (p : Place) (mid : List Token) → Separator seps ts p mid → may sorts seps (always c) ts ≡ true
   turn_here c ts p mid s = may_at seps ts ∙ (one_at seps (λ t. t.place) ts p mid s).0
 
@@ -73,6 +76,7 @@ module _ {A C : Type 0} (seps : List Sort) (add : C → A → C) (X : RuleOf Tok
   nothing_first : (c d : C) (p : Place) (ts mid rest : List Token) → Separator seps ts p mid → Turned c mid d rest → Turned c ts d rest
   nothing_first c d p ts mid rest s r = (nothing ∷ r.0, (mid, turn_here c ts p mid s, (mid, p, nothing, s, inr (refl, refl), refl), r.1))
 
+  -- separators, and the things between them, are turns
   turns_of_separators : (ps : List Place) (c d : C) (ts mid rest : List Token) → Many (Separator seps) ts ps mid → Turned c mid d rest → Turned c ts d rest
   turns_of_separators [] c d ts mid rest e r = subst (λ z. Turned c z d rest) (sym e) r
   turns_of_separators (p ∷ ps) c d ts mid rest (m, s, more) r = nothing_first c d p ts m rest s (turns_of_separators ps c d m mid rest more r)
@@ -97,6 +101,7 @@ module _ {A C : Type 0} (seps : List Sort) (add : C → A → C) (X : RuleOf Tok
   read_first [] a none d ts l mid rest e x r = (mid, add none a, r.0, (thing a, inl (a, subst (λ z. X z a mid) (sym e) x, refl), refl), r.1)
   read_first (p ∷ ps) a none d ts l mid rest (m, s, more) x r = read_behind none d ts rest (turns_of_further ps p a none d ts m l mid rest s more x r)
 
+  -- both ways
   row_read : (none d : C) (ts rest : List Token) → Led none ts d rest → RowRead none ts d rest
   row_read none d ts rest (m, ps, xs, qs, inl (n, zs, rs, (k, a, ys, x, more, e3), us, e2), e1) =
       let e : fold add none (a ∷ ys) ≡ d = subst (λ z. fold add none z ≡ d) (sym (e3 ∙ e2)) e1 in

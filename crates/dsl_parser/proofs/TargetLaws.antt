@@ -32,12 +32,14 @@ full (to_index i) (target at_this no_steps) = refl
 full (to_index i) (target at_globals no_steps) = refl
 full (to_index i) f = refl
 
+-- with one step more an expression leads one step further
 member_led : (c : Begun) (n : List ℕ) (f : Target) → target_of (begun_expression c) ≡ Some f → target_of (begun_expression (with_tail c (member_tail n))) ≡ Some (step_on f (to_member n))
 member_led (begun p e) n (target r ss) q = ap (with_member n) q
 
 index_led : (c : Begun) (i : Expression) (f : Target) → target_of (begun_expression c) ≡ Some f → target_of (begun_expression (with_tail c (index_tail i))) ≡ Some (step_on f (to_index i))
 index_led (begun p e) i (target r ss) q = ap (with_index i) q
 
+-- where each literal leads
 name_led : (k : TokenKind) → among (kind_sort k) (ident_sort ∷ []) ≡ true → target_of_kind (literal_kind k) ≡ Some (target (at_name (kind_text k)) no_steps)
 name_led (kinds.Ident t) m = refl
 name_led k m = absurd cc
@@ -55,6 +57,7 @@ tail_here : (c : Begun) (f : Target) (ts : List Token) → may sorts step_sorts 
 tail_here c f [] h = absurd cc
 tail_here c f (t ∷ ts) h = may_at tail_sorts (t ∷ ts) ∙ among_left (sorts.sort_of t) step_sorts (sign_sort signs.OpenParen ∷ []) (sym (may_at step_sorts (t ∷ ts)) ∙ h)
 
+-- a token of another sort is no parenthesis
 no_paren : (t : Token) (c : Sort) → among (sorts.sort_of t) (c ∷ []) ≡ true → among c (sign_sort signs.OpenParen ∷ []) ≡ false → same (kind_sort t.kind) (sign_sort signs.OpenParen) ≡ false
 no_paren t c m n = by (same (kind_sort t.kind) (sign_sort signs.OpenParen)) (sort_is t c m (sign_sort signs.OpenParen ∷ []) false n)
   where
@@ -63,14 +66,17 @@ no_paren t c m n = by (same (kind_sort t.kind) (sign_sort signs.OpenParen)) (sor
     by false h = refl
 
 module _ (L : Rules Token Name Value) where
+  -- steps, one after the other
   abbrev Steps : List OneStep → Target → List Token → Target → List Token → Type 0
   Steps ys f ts g rest = Turns sorts false step_sorts always step_on (Derives sorts L TableStep) ys f ts g rest
 
+  -- where a step stands, a turn may be taken
   step_here : (f : Target) (ts : List Token) (y : OneStep) (rest : List Token) → Derives sorts L TableStep ts y rest → may sorts step_sorts (always f) ts ≡ true
   unfolding TableStep
   step_here f ts y rest (inl (n, d, is)) = may_at step_sorts ts ∙ at_first (sign_sort signs.Dot) (sign_sort signs.OpenBracket) ts (one_at (sign_sort signs.Dot ∷ []) (λ t. t.place) ts d.1 d.0 d.3).0
   step_here f ts y rest (inr (i, d, is)) = may_at step_sorts ts ∙ at_second (sign_sort signs.Dot) (sign_sort signs.OpenBracket) ts (one_at (sign_sort signs.OpenBracket ∷ []) (λ t. t.place) ts d.1 d.0 d.3).0
 
+  -- steps are tails that lead there
   steps_led : (ys : List OneStep) (f g : Target) (c : Begun) (mid rest : List Token) → Steps ys f mid g rest → target_of (begun_expression c) ≡ Some f → (xs : List Tail) × (d : Begun) × Turns sorts false tail_sorts always with_tail (Derives sorts L OneTail) xs c mid d rest × (target_of (begun_expression d) ≡ Some g)
   unfolding TableStep OneTail
   steps_led [] f g c mid rest r e = ([], c, (refl, r.1), e ∙ ap Some r.0)
@@ -81,6 +87,7 @@ module _ (L : Rules Token Name Value) where
       let w = steps_led ys (step_on f y) g (with_tail c (index_tail i)) m rest turns (index_led c i f e ∙ ap (λ z. Some (step_on f z)) is) in
       (index_tail i ∷ w.0, w.1, (m, tail_here c f mid h, inr (inl (i, d, refl)), w.2), w.3)
 
+  -- an operand is an expression of each level
   level_of : (k : ℕ) (ts : List Token) (x : Begun) (rest : List Token) → Derives sorts L Unary ts x rest → Derives sorts L (Level k) ts x rest
   unfolding Level
   level_of zero ts x rest d = d
@@ -90,6 +97,7 @@ module _ (L : Rules Token Name Value) where
   abbrev Led : Token → List Token → Target → List Token → Type 0
   Led t ts g rest = (same (kind_sort t.kind) (sign_sort signs.OpenParen) ≡ false) × ((e : Expression) × Derives sorts L Whole (t ∷ ts) e rest × (stepped (target_of e) ≡ Some g))
 
+  -- what begins a target, with steps behind it
   base_led : (t : Token) (ts mid : List Token) (c : Sort) (f g : Target) (ys : List OneStep) (rest : List Token) → among (sorts.sort_of t) (c ∷ []) ≡ true → among c literal_sorts ≡ true → among c (sign_sort signs.OpenParen ∷ []) ≡ false → target_of_kind (literal_kind t.kind) ≡ Some f → ts ≡ mid → Steps ys f mid g rest → stepped (Some g) ≡ Some g → Led t ts g rest
   unfolding Whole Unary Prefixed Postfix BegunPrim Prim Literal
   base_led t ts mid c f g ys rest m lit away is end steps whole =
@@ -136,6 +144,7 @@ module _ (L : Rules Token Name Value) where
 
 -- Assignments.
 
+-- what holds at a height holds one above it
 deeper : (h : ℕ) (ts : List Token) (e : Expression) (rest : List Token) → names h expr ts e rest → names (suc h) expr ts e rest
 deeper h ts e rest d = ((env h 0).law expr).more ts e rest d
 
@@ -143,16 +152,19 @@ set_deeper : (h : ℕ) (ts : List Token) (x : Setting) (rest : List Token) → D
 unfolding SetTo
 set_deeper h ts x rest (m, o, e, one, (k, n, f, lines, (i, d, e1), e2), e3) = (m, o, e, one, (k, n, f, lines, (i, deeper h k i rest d, e1), e2), e3)
 
+-- where something is set
 set_at : (h : ℕ) (ts : List Token) (x : Setting) (rest : List Token) → Derives sorts (names h) SetTo ts x rest → at sorts set_sorts ts ≡ true
 unfolding SetTo
 set_at h ts x rest d = (one_at set_sorts (λ t. set_of t.kind) ts d.1 d.0 d.3).0
 
+-- what an expression that leads somewhere is read as
 evaluated_is : (t : Token) (e : Expression) (g : Target) → same (kind_sort t.kind) (sign_sort signs.OpenParen) ≡ false → stepped (target_of e) ≡ Some g → evaluated t e ≡ maybe_set (eval e) (Some g)
 evaluated_is t e g bare q = ap (λ b. maybe_set (eval e) (cond b None (stepped (target_of e)))) bare ∙ ap (maybe_set (eval e)) q
 
 set_is : (s : StatementKind) (g : Target) (x : Setting) → set_value (assigned (maybe_set s (Some g)) x) ≡ set_to g x
 set_is s (target r ss) (setting o e) = refl
 
+-- if something may be set here
 may_value : (c : Maybe_set) (ts : List Token) → may sorts set_sorts (may_set c) ts ≡ true → (k : Sort) × (may_set c k ≡ true)
 may_value c [] h = absurd cc
 may_value c (t ∷ ts) h = (sorts.sort_of t, and_right (at sorts set_sorts (t ∷ ts)) (may_set c (sorts.sort_of t)) h)
@@ -161,10 +173,12 @@ may_here : (c : Maybe_set) (ts : List Token) → at sorts set_sorts ts ≡ true 
 may_here c [] a h = absurd cc
 may_here c (t ∷ ts) a h = both_true (at sorts set_sorts (t ∷ ts)) (may_set c (sorts.sort_of t)) a (h (sorts.sort_of t))
 
+-- nothing is set twice
 set_once : (c : Maybe_set) (x : Setting) (k : Sort) → may_set (assigned c x) k ≡ true → ⊥
 set_once (maybe_set s None) x k h = absurd cc
 set_once (maybe_set s (Some (target r ss))) (setting o e) k h = absurd cc
 
+-- where something may be set, the expression leads somewhere
 led_to : (t : Token) (e : Expression) (k : Sort) → may_set (evaluated t e) k ≡ true → (g : Target) × (same (kind_sort t.kind) (sign_sort signs.OpenParen) ≡ false) × (stepped (target_of e) ≡ Some g)
 led_to t e k h = by (same (kind_sort t.kind) (sign_sort signs.OpenParen)) (stepped (target_of e)) refl refl h
   where
@@ -173,6 +187,7 @@ led_to t e k h = by (same (kind_sort t.kind) (sign_sort signs.OpenParen)) (stepp
     by false None p q h = absurd cc
     by false (Some g) p q h = (g, p, q)
 
+-- one way, and the other
 table_of : (h : ℕ) (ts : List Token) (k : StatementKind) (rest : List Token) → Derives sorts (names h) SetOrEval ts k rest → Derives sorts (names h) TableSetOrEval ts k rest
 unfolding SetOrEval TableSetOrEval
 table_of h [] k rest d = absurd d.1.3

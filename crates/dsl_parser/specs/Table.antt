@@ -42,10 +42,12 @@ Row seps add none X ts c rest = Both (λ _ xs. fold add none xs) (Many (Separato
 
 -- Assignments.
 
+-- the way to a member, or to what an index names
 pub data OneStep : Type 0 where
   to_member : List ℕ → OneStep
   to_index : Expression → OneStep
 
+-- the target with one step more
 abbrev pub step_on : Target → OneStep → Target
 step_on (target r ss) (to_member n) = target r (add_member ss n)
 step_on (target r ss) (to_index e) = target r (add_index ss e)
@@ -77,6 +79,7 @@ WordBase =
 unfoldable pub TableTarget : Rule Target
 TableTarget = either (stepping NameBase) (stepping (both step_on WordBase TableStep))
 
+-- what is set, to what
 abbrev pub set_to : Target → Setting → StatementKind
 set_to (target r ss) (setting o e) = set r ss o e
 

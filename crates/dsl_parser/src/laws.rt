@@ -21,7 +21,7 @@ pub fn files_have_one_outcome()
 
 /// The rows of the grammar, which are read from left to right as a thing or none and then, behind each separator, a thing
 /// or none: each is any number of separators, things with one separator or more between each two, and any number of
-/// separators, and its value is that of all things in order.
+/// separators, or separators alone; its value is that of all things in order, and each such row is read so.
 #[tactic(auto, using(crate::proofs::RowLaws::pairs_are, crate::proofs::RowLaws::body_is, crate::proofs::RowLaws::block_is, crate::proofs::RowLaws::file_is))]
 pub fn rows_are_things_between_separators()
     ensures dictionary { (h : ℕ) → Same (Derives sorts (names h) Pairs) (Row bsep add_pair no_entries (Derives sorts (names h) Pair)) }
@@ -30,8 +30,8 @@ pub fn rows_are_things_between_separators()
     ensures file { (h : ℕ) → Same (Derives sorts (names h) FileStatements) (Row sep add_statement no_statements (Derives sorts (names h) Top)) }
 {}
 
-/// Assignments, which are read as an expression and then, where it leads somewhere, what it is set to: each is a target
-/// and what it is set to, and all else that is read so is an expression.
+/// A statement that is read as an expression and then, where that leads somewhere, what it is set to: it is a target and
+/// what that is set to, or an expression alone, and each of these is read so.
 #[tactic(auto, using(crate::proofs::TargetLaws::assignments))]
 pub fn assignments_lead_to_targets()
     ensures { Same (Derived SetOrEval) (Derived TableSetOrEval) }

@@ -2,9 +2,10 @@
 //!
 //! The definitions stand in `specs/`, in reading order: the sorts of tokens (`Codes`), the operators (`Operators`), small
 //! forms of grammars (`Terms`), the grammar, production by production (`Grammar`), reading by it (`Reading`), how deep
-//! tokens stand (`Depth`), what tokens are files and where others go wrong (`Files`), and what `parse` gives (`Parsing`). Then the
-//! law of files (`laws`), the walk that finds the first token that stands too deep (`depth`), and the parser: `parsing`, and
-//! a function for each production in the modules below it.
+//! tokens stand (`Depth`), what tokens are files and where others go wrong (`Files`), rows and assignments as the
+//! language's table has them (`Table`), and what `parse` gives (`Parsing`). Then the laws of files and of these productions
+//! (`laws`), the walk that finds the first token that stands too deep (`depth`), and the parser: `parsing`, and a function
+//! for each production in the modules below it.
 #![tactic(auto)]
 
 mod applies;
