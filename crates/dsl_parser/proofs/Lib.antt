@@ -19,3 +19,6 @@ pub mod PartLists
 pub mod LevelReads
 pub mod Rows
 pub mod Outcomes
+pub mod RowLaws
+pub mod Leading
+pub mod TargetLaws

@@ -12,3 +12,4 @@ pub mod DepthView
 pub mod Files
 pub mod ExprParts
 pub mod Parsing
+pub mod Table

@@ -2,9 +2,10 @@
 //!
 //! The definitions stand in `specs/`, in reading order: the sorts of tokens (`Codes`), the operators (`Operators`), small
 //! forms of grammars (`Terms`), the grammar, production by production (`Grammar`), reading by it (`Reading`), how deep
-//! tokens stand (`Depth`), what tokens are files and where others go wrong (`Files`), and what `parse` gives (`Parsing`). Then the
-//! law of files (`laws`), the walk that finds the first token that stands too deep (`depth`), and the parser: `parsing`, and
-//! a function for each production in the modules below it.
+//! tokens stand (`Depth`), what tokens are files and where others go wrong (`Files`), rows and assignments as the
+//! language's table has them (`Table`), and what `parse` gives (`Parsing`). Then the laws of files and of these productions
+//! (`laws`), the walk that finds the first token that stands too deep (`depth`), and the parser: `parsing`, and a function
+//! for each production in the modules below it.
 #![tactic(auto)]
 
 mod applies;
@@ -52,6 +53,8 @@ mod targets;
 mod tests;
 
 pub use depth::too_deep;
-pub use laws::files_have_one_outcome;
+pub use laws::{
+    assignments_lead_to_targets, files_have_one_outcome, rows_are_things_between_separators,
+};
 pub use parse_error::ParseError;
 pub use parsing::parse;
