@@ -8,3 +8,4 @@ pub mod Gives
 pub mod Depth
 pub mod DepthView
 pub mod Files
+pub mod Parsing

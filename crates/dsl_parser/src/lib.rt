@@ -10,6 +10,7 @@ mod depth;
 mod laws;
 mod next;
 mod parse_error;
+mod parsing;
 mod role;
 mod stop;
 #[cfg(test)]
@@ -18,3 +19,4 @@ mod tests;
 pub use depth::too_deep;
 pub use laws::files_have_one_outcome;
 pub use parse_error::ParseError;
+pub use parsing::parse;

@@ -1,0 +1,121 @@
+// The walk over the files of a site.
+ghost use Rattle.std.specs.Prelude.{◌≡◌, ◌≤◌, List, ℕ, Some, IfOk, OnOk, IsErrOf};
+ghost use Rattle.dsl_lexer.specs.Places.{start_of};
+ghost use Rattle.site_edge.specs.Told.{Rose};
+ghost use Rattle.site_conf.specs.Views.{state_view, answer_view};
+ghost use Rattle.site_conf.specs.Walks.{part, walk_outcome, outcome_of};
+
+use crate::entering::{enter, meet};
+use crate::inclusion::{Inclusion, place};
+use crate::naming::sources;
+use crate::progress::Progress;
+use crate::source::Source;
+use crate::{LoadFault, Walk, WalkAnswer};
+use site_base::{Place, Text};
+use site_edge::Files;
+use std::alloc::Global;
+
+/// No more inclusions stand in one another.
+const MAX_DEPTH: u32 = 50;
+
+/// The head of the root.
+const START: Place = Place {
+    file: 0,
+    line: 1,
+    col: 1,
+};
+
+/// Walks over the files of a site, from its root, in the order of their inclusions, depth first.
+pub fn walk<F: Files>(alloc: Global, files: &mut F, root: &str) -> Result<WalkAnswer, LoadFault>
+    ensures value { (all : List (List ℕ × List ℕ)) → F.told files.old ≡ Some all → IfOk result (λ a. answer_view a ≡ walk_outcome all root.now) }
+    ensures same { F.told files.new ≡ F.told files.old }
+    ensures cause { IsErrOf result LoadFault.Failed → Rose (F.faults files.old) (F.faults files.new) }
+    ensures counts { F.faults files.old ≤ F.faults files.new }
+{
+    let mut progress = Progress::new(alloc);
+    let source = Source::File(Text::copy_of(alloc, root)?);
+    if let Some(index) = meet(alloc, files, &mut progress, START, &source)? {
+        walk_part(alloc, files, &mut progress, MAX_DEPTH, index)?;
+    }
+    Ok(answer(progress))
+}
+
+/// The answer at the end of a walk.
+fn answer(progress: Progress) -> WalkAnswer
+    ensures { answer_view result ≡ outcome_of (state_view progress) }
+{
+    if progress.diags.is_empty() {
+        WalkAnswer::Walked(Walk {
+            names: progress.names,
+            trees: progress.trees,
+            order: progress.order,
+        })
+    } else {
+        WalkAnswer::Diags {
+            files: progress.names,
+            list: progress.diags,
+        }
+    }
+}
+
+/// Goes through the inclusions of a file, where so many may still stand in one another.
+#[cycle(walk)]
+fn walk_part<F: Files>(
+    alloc: Global,
+    files: &mut F,
+    progress: &mut Progress,
+    left: u32,
+    index: u32,
+) -> Result<(), LoadFault>
+    ensures value { (all : List (List ℕ × List ℕ)) → F.told files.old ≡ Some all → OnOk result (state_view progress.new ≡ part all left index (state_view progress.old)) }
+    ensures same { F.told files.new ≡ F.told files.old }
+    ensures cause { IsErrOf result LoadFault.Failed → Rose (F.faults files.old) (F.faults files.new) }
+    ensures counts { F.faults files.old ≤ F.faults files.new }
+{
+    let name = progress.name_at(index)?;
+    let list = progress.inclusions_at(index)?;
+    for inclusion in &list {
+        walk_inclusion(alloc, files, progress, left, name.as_str(), inclusion)?;
+    }
+    Ok(())
+}
+
+/// Goes through what one inclusion names.
+#[cycle(walk)]
+fn walk_inclusion<F: Files>(
+    alloc: Global,
+    files: &mut F,
+    progress: &mut Progress,
+    left: u32,
+    file: &str,
+    inclusion: &Inclusion,
+) -> Result<(), LoadFault> {
+    if progress.ended {
+        return Ok(());
+    }
+    let named = sources(alloc, files, file, inclusion)?;
+    let Ok(number) = u32::try_from(named.len()) else {
+        return Err(LoadFault::OutOfMemory);
+    };
+    progress.number(number)?;
+    for source in &named {
+        walk_source(alloc, files, progress, left, place(inclusion), source)?;
+    }
+    Ok(())
+}
+
+/// Takes one inclusion, and follows it.
+#[cycle(walk)]
+fn walk_source<F: Files>(
+    alloc: Global,
+    files: &mut F,
+    progress: &mut Progress,
+    left: u32,
+    at: Place,
+    source: &Source,
+) -> Result<(), LoadFault> {
+    if let Some(index) = enter(alloc, files, progress, left, at, source)? {
+        walk_part(alloc, files, progress, left - 1, index)?;
+    }
+    Ok(())
+}
