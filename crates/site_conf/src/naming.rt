@@ -77,7 +77,7 @@ fn in_folder(
 {
     let mut all = Vec::new(alloc);
     for name in names.into_vec() {
-        if is_in_folder(folder, pattern, name.as_str()) {
+        if is_in_folder(alloc, folder, pattern, name.as_str())? {
             all.push(Source::File(name))?;
         }
     }
@@ -85,11 +85,20 @@ fn in_folder(
 }
 
 /// Whether a name stands in the folder and the pattern describes its last part.
-fn is_in_folder(folder: &str, pattern: &str, name: &str) -> bool
-    ensures { result ≡ stands_in folder.now pattern.now name.now }
+fn is_in_folder(
+    alloc: Global,
+    folder: &str,
+    pattern: &str,
+    name: &str,
+) -> Result<bool, OutOfMemory>
+    ensures { IfOk result (λ b. b ≡ stands_in folder.now pattern.now name.now) }
 {
     let (in_folder, last) = split_name(name);
-    in_folder == folder && matches(pattern.as_bytes(), last.as_bytes())
+    if in_folder == folder {
+        matches(alloc, pattern.as_bytes(), last.as_bytes())
+    } else {
+        Ok(false)
+    }
 }
 
 /// Of these names, those whose last part the pattern describes.
@@ -98,7 +107,7 @@ fn below_folder(alloc: Global, pattern: &str, names: Texts) -> Result<Vec<Source
 {
     let mut all = Vec::new(alloc);
     for name in names.into_vec() {
-        if ends_so(pattern, name.as_str()) {
+        if ends_so(alloc, pattern, name.as_str())? {
             all.push(Source::File(name))?;
         }
     }
@@ -106,9 +115,9 @@ fn below_folder(alloc: Global, pattern: &str, names: Texts) -> Result<Vec<Source
 }
 
 /// Whether the pattern describes the last part of a name.
-fn ends_so(pattern: &str, name: &str) -> bool
-    ensures { result ≡ ends_in pattern.now name.now }
+fn ends_so(alloc: Global, pattern: &str, name: &str) -> Result<bool, OutOfMemory>
+    ensures { IfOk result (λ b. b ≡ ends_in pattern.now name.now) }
 {
     let (_, last) = split_name(name);
-    matches(pattern.as_bytes(), last.as_bytes())
+    matches(alloc, pattern.as_bytes(), last.as_bytes())
 }

@@ -1,0 +1,1 @@
+use Rattle.site_conf.proofs.wildcard.passes.Goals as goal
