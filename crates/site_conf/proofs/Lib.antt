@@ -1,2 +1,7 @@
 pub mod NameLaws
 pub mod WildLaws
+pub mod ListingLaws
+pub mod Toldness
+pub mod LexBridge
+pub mod KeyLaws
+pub mod NamingLaws

@@ -1,5 +1,6 @@
 -- The statements of a file that include others.
-use Rattle.std.specs.Prelude.{ℕ, List, [], ◌∷◌, Option, Some, None}
+use Rattle.std.specs.Prelude.{ℕ, List, [], ◌∷◌, ◌++◌, Option, Some, None}
+use Rattle.std.specs.Option.{option_to_list}
 use Rattle.site_base.specs.Syntax.{Statement, statement, Statements, no_statements, more_statements, StatementKind, include, include_library, include_all}
 use Rattle.site_base.specs.declared.place.Place.{Place}
 use Rattle.site_conf.specs.declared.inclusion.Inclusion.{Inclusion}
@@ -11,14 +12,10 @@ inclusion_of (include_library name at) = Some (Library name at)
 inclusion_of (include_all dir pattern at) = Some (Folder dir pattern at)
 inclusion_of k = None
 
-abbrev pub with_first : Option Inclusion → List Inclusion → List Inclusion
-with_first None more = more
-with_first (Some i) more = i ∷ more
-
 -- in the file's order
 abbrev pub inclusions : Statements → List Inclusion
 inclusions no_statements = []
-inclusions (more_statements (statement p k) ss) = with_first (inclusion_of k) (inclusions ss)
+inclusions (more_statements (statement p k) ss) = option_to_list (inclusion_of k) ++ inclusions ss
 
 -- where the name of what is included stands
 abbrev pub place_of : Inclusion → Place

@@ -130,6 +130,11 @@ abbrev pub part : Told → ℕ → ℕ → WalkState → WalkState
 part files zero = part_with files stopped zero
 part files (suc left) = part_with files (onward_by (part files left)) (suc left)
 
+-- what follows an inclusion then
+abbrev pub onward_at : Told → ℕ → Entered → WalkState
+onward_at files zero = stopped
+onward_at files (suc left) = onward_by (part files left)
+
 -- the walk from a root: it is met at its own head, and at most 50 inclusions stand in one another
 abbrev pub walked : Told → List ℕ → WalkState
 walked files root = onward_by (part files 50) (met files (start_of 0) (File root) empty_state)

@@ -20,6 +20,7 @@ const MAX_INCLUSIONS: u32 = 10_000;
 
 /// One inclusion, where so many may still stand in it and itself: the file whose inclusions are to be
 /// followed, if there is one. The walk ends at the one that is too many.
+#[tactic(auto, unfolding(crate::specs::Walks::entered))]
 pub(crate) fn enter<F: Files>(
     alloc: Global,
     files: &mut F,
@@ -52,6 +53,7 @@ pub(crate) fn enter<F: Files>(
 
 /// Meets a file, which is read where it wasn't met before: it is the one to be followed where it has a
 /// tree. That it is missing or too long is told each time, and the fault of its own text once.
+#[tactic(auto, unfolding(crate::specs::Walks::met))]
 pub(crate) fn meet<F: Files>(
     alloc: Global,
     files: &mut F,
@@ -64,11 +66,13 @@ pub(crate) fn meet<F: Files>(
     ensures cause { IsErrOf result LoadFault.Failed → Rose (F.faults files.old) (F.faults files.new) }
     ensures counts { F.faults files.old ≤ F.faults files.new }
 {
-    let index = match progress.sources.find(source)? {
-        Some(index) => index,
-        None => read(alloc, files, progress, source)?,
-    };
-    Ok(settle(alloc, progress, at, source, index)?)
+    match progress.sources.find(source)? {
+        Some(index) => Ok(settle(alloc, progress, at, source, index)?),
+        None => {
+            let index = read(alloc, files, progress, source)?;
+            Ok(settle(alloc, progress, at, source, index)?)
+        }
+    }
 }
 
 /// Reads a file that wasn't met before, and gives its index.

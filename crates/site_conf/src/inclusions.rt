@@ -1,5 +1,6 @@
 // The inclusions of a file.
-ghost use Rattle.std.specs.Prelude.{◌≡◌, IfOk};
+ghost use Rattle.std.specs.Prelude.{◌≡◌, ◌++◌, IfOk, OnOk};
+ghost use Rattle.std.specs.Option.{option_to_list};
 ghost use Rattle.site_base.specs.SyntaxView.{file_view, stmt_kind_view};
 ghost use Rattle.site_conf.specs.Inclusions.{inclusion_of, inclusions};
 
@@ -12,12 +13,21 @@ pub(crate) fn inclusions_in(alloc: Global, file: &File) -> Result<Vec<Inclusion>
     ensures { IfOk result (λ v. v.items ≡ inclusions (file_view file.now)) }
 {
     let mut all = Vec::new(alloc);
-    for statement in &file.statements {
-        if let Some(inclusion) = inclusion(&statement.kind)? {
-            all.push(inclusion)?;
-        }
+    let statements = file.statements.as_slice();
+    for statement in statements {
+        add_inclusion(&mut all, &statement.kind)?;
     }
     Ok(all)
+}
+
+/// Adds the inclusion that a statement is, if it is one.
+fn add_inclusion(all: &mut Vec<Inclusion>, kind: &StmtKind) -> Result<(), OutOfMemory>
+    ensures { OnOk result (all.new.items ≡ all.old.items ++ option_to_list (inclusion_of (stmt_kind_view kind.now))) }
+{
+    if let Some(inclusion) = inclusion(kind)? {
+        all.push(inclusion)?;
+    }
+    Ok(())
 }
 
 /// The inclusion that a statement is, if it is one.

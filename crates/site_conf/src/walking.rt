@@ -3,7 +3,7 @@ ghost use Rattle.std.specs.Prelude.{◌≡◌, ◌≤◌, List, ℕ, Some, IfOk,
 ghost use Rattle.dsl_lexer.specs.Places.{start_of};
 ghost use Rattle.site_edge.specs.Told.{Rose};
 ghost use Rattle.site_conf.specs.Views.{state_view, answer_view};
-ghost use Rattle.site_conf.specs.Walks.{part, walk_outcome, outcome_of};
+ghost use Rattle.site_conf.specs.Walks.{part, one_inclusion, onward_at, entered, walk_outcome, outcome_of};
 
 use crate::entering::{enter, meet};
 use crate::inclusion::{Inclusion, place};
@@ -89,7 +89,12 @@ fn walk_inclusion<F: Files>(
     left: u32,
     file: &str,
     inclusion: &Inclusion,
-) -> Result<(), LoadFault> {
+) -> Result<(), LoadFault>
+    ensures value { (all : List (List ℕ × List ℕ)) → F.told files.old ≡ Some all → OnOk result (state_view progress.new ≡ one_inclusion all (onward_at all left) left file.now inclusion.now (state_view progress.old)) }
+    ensures same { F.told files.new ≡ F.told files.old }
+    ensures cause { IsErrOf result LoadFault.Failed → Rose (F.faults files.old) (F.faults files.new) }
+    ensures counts { F.faults files.old ≤ F.faults files.new }
+{
     if progress.ended {
         return Ok(());
     }
@@ -113,7 +118,12 @@ fn walk_source<F: Files>(
     left: u32,
     at: Place,
     source: &Source,
-) -> Result<(), LoadFault> {
+) -> Result<(), LoadFault>
+    ensures value { (all : List (List ℕ × List ℕ)) → F.told files.old ≡ Some all → OnOk result (state_view progress.new ≡ onward_at all left (entered all left at source.now (state_view progress.old))) }
+    ensures same { F.told files.new ≡ F.told files.old }
+    ensures cause { IsErrOf result LoadFault.Failed → Rose (F.faults files.old) (F.faults files.new) }
+    ensures counts { F.faults files.old ≤ F.faults files.new }
+{
     if let Some(index) = enter(alloc, files, progress, left, at, source)? {
         walk_part(alloc, files, progress, left - 1, index)?;
     }

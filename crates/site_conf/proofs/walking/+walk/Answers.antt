@@ -1,0 +1,1 @@
+use Rattle.site_conf.proofs.walking.+walk.Goals as goal
