@@ -5,3 +5,4 @@ pub mod Toldness
 pub mod LexBridge
 pub mod KeyLaws
 pub mod NamingLaws
+pub mod WalkLaws

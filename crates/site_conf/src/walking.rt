@@ -1,9 +1,9 @@
 // The walk over the files of a site.
-ghost use Rattle.std.specs.Prelude.{◌≡◌, ◌≤◌, List, ℕ, Some, IfOk, OnOk, IsErrOf};
+ghost use Rattle.std.specs.Prelude.{◌≡◌, ◌≤◌, List, ℕ, Some, IfOk, OnOk, IsErrOf, length};
 ghost use Rattle.dsl_lexer.specs.Places.{start_of};
 ghost use Rattle.site_edge.specs.Told.{Rose};
 ghost use Rattle.site_conf.specs.Views.{state_view, answer_view};
-ghost use Rattle.site_conf.specs.Walks.{part, one_inclusion, onward_at, entered, walk_outcome, outcome_of};
+ghost use Rattle.site_conf.specs.Walks.{part, each_inclusion, one_inclusion, each_source, onward_at, entered, with_number, walk_outcome, outcome_of};
 
 use crate::entering::{enter, meet};
 use crate::inclusion::{Inclusion, place};
@@ -11,7 +11,7 @@ use crate::naming::sources;
 use crate::progress::Progress;
 use crate::source::Source;
 use crate::{LoadFault, Walk, WalkAnswer};
-use site_base::{Place, Text};
+use site_base::{OutOfMemory, Place, Text};
 use site_edge::Files;
 use std::alloc::Global;
 
@@ -58,8 +58,9 @@ fn answer(progress: Progress) -> WalkAnswer
     }
 }
 
-/// Goes through the inclusions of a file, where so many may still stand in one another.
+/// Goes through the inclusions of a file that was met, where so many may still stand in one another.
 #[cycle(walk)]
+#[tactic(auto, using(crate::proofs::WalkLaws::part_is), unfolding(crate::specs::Walks::part_with))]
 fn walk_part<F: Files>(
     alloc: Global,
     files: &mut F,
@@ -73,9 +74,34 @@ fn walk_part<F: Files>(
     ensures counts { F.faults files.old ≤ F.faults files.new }
 {
     let name = progress.name_at(index)?;
-    let list = progress.inclusions_at(index)?;
-    for inclusion in &list {
-        walk_inclusion(alloc, files, progress, left, name.as_str(), inclusion)?;
+    let inclusions = progress.inclusions_at(index)?;
+    walk_inclusions(
+        alloc,
+        files,
+        progress,
+        left,
+        name.as_str(),
+        inclusions.as_slice(),
+    )
+}
+
+/// Goes through inclusions in the file of this name.
+#[cycle(walk)]
+fn walk_inclusions<F: Files>(
+    alloc: Global,
+    files: &mut F,
+    progress: &mut Progress,
+    left: u32,
+    file: &str,
+    inclusions: &[Inclusion],
+) -> Result<(), LoadFault>
+    ensures value { (all : List (List ℕ × List ℕ)) → F.told files.old ≡ Some all → OnOk result (state_view progress.new ≡ each_inclusion all (onward_at all left) left file.now inclusions.now (state_view progress.old)) }
+    ensures same { F.told files.new ≡ F.told files.old }
+    ensures cause { IsErrOf result LoadFault.Failed → Rose (F.faults files.old) (F.faults files.new) }
+    ensures counts { F.faults files.old ≤ F.faults files.new }
+{
+    for inclusion in inclusions {
+        walk_inclusion(alloc, files, progress, left, file, inclusion)?;
     }
     Ok(())
 }
@@ -99,12 +125,34 @@ fn walk_inclusion<F: Files>(
         return Ok(());
     }
     let named = sources(alloc, files, file, inclusion)?;
-    let Ok(number) = u32::try_from(named.len()) else {
-        return Err(LoadFault::OutOfMemory);
-    };
-    progress.number(number)?;
-    for source in &named {
-        walk_source(alloc, files, progress, left, place(inclusion), source)?;
+    number_of(progress, named.as_slice())?;
+    walk_sources(
+        alloc,
+        files,
+        progress,
+        left,
+        place(inclusion),
+        named.as_slice(),
+    )
+}
+
+/// Takes inclusions at one place, one after another.
+#[cycle(walk)]
+fn walk_sources<F: Files>(
+    alloc: Global,
+    files: &mut F,
+    progress: &mut Progress,
+    left: u32,
+    at: Place,
+    named: &[Source],
+) -> Result<(), LoadFault>
+    ensures value { (all : List (List ℕ × List ℕ)) → F.told files.old ≡ Some all → OnOk result (state_view progress.new ≡ each_source all (onward_at all left) left at named.now (state_view progress.old)) }
+    ensures same { F.told files.new ≡ F.told files.old }
+    ensures cause { IsErrOf result LoadFault.Failed → Rose (F.faults files.old) (F.faults files.new) }
+    ensures counts { F.faults files.old ≤ F.faults files.new }
+{
+    for source in named {
+        walk_source(alloc, files, progress, left, at, source)?;
     }
     Ok(())
 }
@@ -124,8 +172,18 @@ fn walk_source<F: Files>(
     ensures cause { IsErrOf result LoadFault.Failed → Rose (F.faults files.old) (F.faults files.new) }
     ensures counts { F.faults files.old ≤ F.faults files.new }
 {
-    if let Some(index) = enter(alloc, files, progress, left, at, source)? {
-        walk_part(alloc, files, progress, left - 1, index)?;
+    match enter(alloc, files, progress, left, at, source)? {
+        Some(index) => walk_part(alloc, files, progress, left - 1, index),
+        None => Ok(()),
     }
-    Ok(())
+}
+
+/// The number of files that an inclusion names stands in the order.
+fn number_of(progress: &mut Progress, named: &[Source]) -> Result<(), OutOfMemory>
+    ensures { OnOk result (state_view progress.new ≡ with_number (length named.now) (state_view progress.old)) }
+{
+    let Ok(number) = u32::try_from(named.len()) else {
+        return Err(OutOfMemory);
+    };
+    progress.number(number)
 }
