@@ -1,5 +1,5 @@
 -- Files among the keys that they are kept under.
-use Rattle.std.proofs.Common.{◌≡◌, ℕ, suc, ◌+◌, Bool, not, true, false, cond, ◌&&◌, ◌||◌, nat_lt, List, [], ◌∷◌, ◌++◌, length, map, position, Option, Some, None, String, Global, refl, sym, ap, ap₂, ◌∙◌, arith, subst}
+use Rattle.std.proofs.Common.{◌≡◌, ℕ, suc, ◌+◌, Bool, not, true, false, cond, ◌&&◌, ◌||◌, nat_lt, List, [], ◌∷◌, ◌++◌, length, map, position, Some, None, String, Global, refl, sym, ap, ap₂, ◌∙◌, arith}
 use Rattle.std.specs.List.{list_any, prefix_len, position_or_len}
 use Rattle.std.specs.Bool.{beq}
 use Rattle.std.specs.String.{string_eq}
@@ -7,7 +7,6 @@ use Rattle.std.proofs.lemmas.List.{length-map, map-append}
 use Rattle.std.proofs.lemmas.Bool.Decides.{nat_tests}
 use Rattle.site_conf.specs.Sources.{same_source, source_at}
 use Rattle.site_conf.specs.SourceKeys.{source_by, source_of}
-use Rattle.site_conf.specs.declared.source.Source.{Source}
 
 abbrev pub Key : Type 0
 Key = Bool × String Global

@@ -1,5 +1,5 @@
 -- What is told of tokens by what is read.
-use Rattle.std.proofs.Common.{◌≡◌, ◌⊎◌, inl, inr, ℕ, ◌≤◌, Bool, true, false, cond, List, [], take, length, refl, sym, ap, subst, ◌∙◌, arith}
+use Rattle.std.proofs.Common.{◌≡◌, inl, inr, ℕ, Bool, true, false, cond, List, [], take, length, refl, sym, ap, ◌∙◌, arith}
 use Rattle.std.specs.Str.{IsUtf8, is_utf8}
 use Rattle.std.specs.Str.Lossy.{utf8_valid_len}
 use Rattle.std.proofs.lemmas.Str.{is_utf8-from_IsUtf8, IsUtf8-from_is_utf8}
@@ -10,7 +10,7 @@ use Rattle.dsl_lexer.specs.Places.{start_of, place_behind}
 use Rattle.dsl_lexer.specs.declared.token.Token.{Token}
 use Rattle.dsl_lexer.proofs.LexLaws.{lexes_reads, stops_reads}
 use Rattle.dsl_parser.specs.Files.{file_outcome}
-use Rattle.site_conf.specs.Reading.{Kept, tokens_of, kept_tokens, kept_outcome, kept_fault, kept_bytes}
+use Rattle.site_conf.specs.Reading.{tokens_of, kept_tokens, kept_outcome, kept_fault, kept_bytes}
 use Rattle.site_base.specs.declared.diag_kind.DiagKind.TheVariants as kind
 
 not_utf8 : (bytes : List ℕ) (b : Bool) → is_utf8 bytes ≡ b → (IsUtf8 bytes → ⊥) → b ≡ false

@@ -1,9 +1,9 @@
 -- Lists of names in byte order are told by what is in them.
-use Rattle.std.proofs.Common.{◌≡◌, ◌⊎◌, inl, inr, ℕ, zero, suc, ◌+◌, ◌<◌, Bool, true, false, cond, List, [], ◌∷◌, map, filter, length, Contains, refl, sym, ap, subst, ◌∙◌, arith, nat_eq}
+use Rattle.std.proofs.Common.{◌≡◌, ◌⊎◌, inl, inr, ℕ, zero, suc, Bool, true, false, cond, List, [], ◌∷◌, map, filter, Contains, refl, sym, ap, subst, ◌∙◌, arith}
 use Rattle.std.specs.List.{AllByRecursion}
 use Rattle.std.specs.List.Sorted.{IsStrictlySortedBy}
 use Rattle.std.specs.Cmp.Lexicographic.{slice_cmp, nat_list_cmp_total, texts_ties, same_text}
-use Rattle.std.specs.Ordering.{nat_cmp, ordering_reverse, eq_by_cmp}
+use Rattle.std.specs.Ordering.{nat_cmp, ordering_reverse}
 use Rattle.std.specs.declared.cmp.Ordering.{Ordering}
 use Rattle.std.specs.declared.cmp.Ordering.TheVariants.{Less, Equal, Greater}
 use Rattle.site_edge.specs.Told.{IsListingOf, is_below, name_of}
@@ -53,7 +53,6 @@ same_from m n e = same_text m n (sym (texts_ties m n ∙ ap is_tie e))
     is_tie Less = false
     is_tie Equal = true
     is_tie Greater = false
-
 
 -- two lists in byte order with the same names are one list
 same_head : (x y : List ℕ) (xs ys : List (List ℕ)) → AllByRecursion (λ z. cmp x z ≡ Less) xs → AllByRecursion (λ z. cmp y z ≡ Less) ys → IsIn x (y ∷ ys) → IsIn y (x ∷ xs) → x ≡ y
@@ -159,5 +158,5 @@ unfolding listing
 listing_is dir files names h =
     let all : List (List ℕ) = map name_of files in
     one_list names (ordered (filter (is_below dir) all)) h.ordered (sorted_ordered (filter (is_below dir) all))
-      (λ n i. let m = (h.members n).0 (in_to names n i) in to_ordered (filter (is_below dir) all) n (to_filter (is_below dir) all n m.1 (in_from all n m.0)))
-      (λ n i. let f = in_filter (is_below dir) all n (in_ordered (filter (is_below dir) all) n i) in in_from names n ((h.members n).1 (in_to all n f.0, f.1)))
+    (λ n i. let m = (h.members n).0 (in_to names n i) in to_ordered (filter (is_below dir) all) n (to_filter (is_below dir) all n m.1 (in_from all n m.0)))
+    (λ n i. let f = in_filter (is_below dir) all n (in_ordered (filter (is_below dir) all) n i) in in_from names n ((h.members n).1 (in_to all n f.0, f.1)))

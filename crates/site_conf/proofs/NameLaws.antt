@@ -1,5 +1,5 @@
 -- The last byte of a kind.
-use Rattle.std.proofs.Common.{◌≡◌, ◌⊎◌, inl, inr, ℕ, zero, suc, ◌+◌, ◌<◌, ◌≤◌, ◌==◌, Bool, true, false, cond, List, [], ◌∷◌, length, drop, get_or, refl, sym, ap, subst, ◌∙◌, arith, drop-cons, add-one}
+use Rattle.std.proofs.Common.{◌≡◌, ◌⊎◌, inl, inr, ℕ, zero, suc, ◌+◌, ◌<◌, ◌≤◌, Bool, true, false, cond, List, [], ◌∷◌, length, drop, get_or, refl, sym, ap, subst, ◌∙◌, arith, drop-cons, add-one}
 use Rattle.std.specs.Str.{IsCharBoundary, IsUtf8}
 use Rattle.std.proofs.lemmas.Bool.Decides.{nat_tests}
 use Rattle.std.proofs.lemmas.Str.{IsCharBoundary-before_ascii, IsCharBoundary-after_ascii, IsCharBoundary-start, IsCharBoundary-end}
@@ -22,7 +22,7 @@ turn_by : (p : ℕ → Bool) (bs : List ℕ) (i len : ℕ) (c : Bool) → i < le
 turn_by p bs i len c inside e =
     ap (λ x. so_far p (i + 1) (cond c (i + 1) len) (drop x bs)) (add-one i)
     ∙ sym (ap (so_far p i len) (drop-cons bs i 0 inside) ∙ step_by (p (get_or bs i 0)) (through_last p (drop (suc i) bs)) i len
-        ∙ ap (λ x. so_far p (i + 1) (cond x (i + 1) len) (drop (suc i) bs)) e)
+    ∙ ap (λ x. so_far p (i + 1) (cond x (i + 1) len) (drop (suc i) bs)) e)
 
 -- a turn of the search, at a byte of the kind
 pub turn_hit : (p : ℕ → Bool) (bs : List ℕ) (i len next : ℕ) → i < length bs → p (get_or bs i 0) ≡ true → next ≡ i + 1 → so_far p (i + 1) next (drop (i + 1) bs) ≡ so_far p i len (drop i bs)

@@ -1,5 +1,5 @@
 -- What inclusions name, by what is found.
-use Rattle.std.proofs.Common.{◌≡◌, List, ℕ, [], ◌∷◌, Bool, true, cond, sym, ap, ap₂, subst, ◌∙◌, refl}
+use Rattle.std.proofs.Common.{◌≡◌, List, ℕ, [], ◌∷◌, true, cond, sym, ap, ◌∙◌}
 use Rattle.site_edge.specs.Told.{IsListingOf}
 use Rattle.site_conf.specs.Listings.{listing}
 use Rattle.site_conf.specs.Names.{folder_of, last_part, has_wildcard, joined, trimmed}

@@ -1,7 +1,7 @@
 -- Parts of the walk.
 use Rattle.std.proofs.Common.{◌≡◌, ℕ, zero, suc, ◌+◌, ◌-◌, ◌<◌, ◌≤◌, List, [], ◌∷◌, length, drop, get_or, refl, sym, ap, ◌∙◌, arith, drop-cons, add-one}
 use Rattle.site_base.specs.declared.place.Place.{Place}
-use Rattle.site_conf.specs.Walks.{Told, WalkState, Entered, follows, stays, part, part_with, onward_at, onward_by, stopped, each_inclusion, one_inclusion, each_source, entered}
+use Rattle.site_conf.specs.Walks.{Told, WalkState, Entered, follows, stays, part, part_with, onward_at, each_inclusion, one_inclusion, each_source, entered}
 use Rattle.site_conf.specs.declared.inclusion.Inclusion.{Inclusion}
 use Rattle.site_conf.specs.declared.source.Source.{Source}
 

@@ -1,5 +1,5 @@
 -- The parts of files' names.
-use Rattle.std.specs.Prelude.{ℕ, zero, suc, List, [], ◌∷◌, ◌++◌, ◌==◌, ◌||◌, not, Bool, true, false, take, drop, if◌then◌else◌}
+use Rattle.std.specs.Prelude.{ℕ, zero, suc, List, [], ◌∷◌, ◌++◌, ◌==◌, ◌||◌, not, Bool, false, take, drop, if◌then◌else◌}
 use Rattle.std.specs.List.{list_any}
 
 -- one byte more in front, which is of the kind or not

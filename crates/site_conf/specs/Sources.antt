@@ -1,5 +1,5 @@
 -- What inclusions name, and what it holds.
-use Rattle.std.specs.Prelude.{ℕ, List, [], ◌∷◌, ◌++◌, ◌&&◌, Bool, true, false, Option, filter, map, if◌then◌else◌, position}
+use Rattle.std.specs.Prelude.{ℕ, List, [], ◌∷◌, ◌++◌, ◌&&◌, Bool, false, Option, filter, map, if◌then◌else◌, position}
 use Rattle.std.specs.Str.{bytes_eq}
 use Rattle.site_edge.specs.Told.{find_file}
 use Rattle.site_conf.specs.Names.{joined, trimmed, folder_of, last_part, has_wildcard}

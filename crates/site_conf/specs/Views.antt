@@ -1,6 +1,5 @@
 -- The plain values that the code's own stand for.
-use Rattle.std.specs.Prelude.{ℕ, ◌≡◌, List, [], ◌∷◌, map, Option, Some, None}
-use Rattle.std.specs.declared.vec.Vec.{Vec}
+use Rattle.std.specs.Prelude.{ℕ, ◌≡◌, map, Option, Some, None}
 use Rattle.site_base.specs.SyntaxView.{file_view}
 use Rattle.site_conf.specs.Reading.{Kept as KeptValue}
 use Rattle.site_conf.specs.Walks.{WalkState, Entered, follows, stays, WalkOutcome, site, faults}

@@ -12,11 +12,7 @@ pub(crate) enum Inclusion {
     /// `include <name>`
     Library { name: Text, at: Place },
     /// `include_recursive "dir", "pattern"`
-    Folder {
-        dir: Text,
-        pattern: Text,
-        at: Place,
-    },
+    Folder { dir: Text, pattern: Text, at: Place },
 }
 
 /// Where the name in an inclusion stands.

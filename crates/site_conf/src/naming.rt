@@ -29,9 +29,7 @@ pub(crate) fn sources<F: Files>(
             let name = joined(alloc, file, name.as_str())?;
             named(alloc, files, name)
         }
-        Inclusion::Library { name, .. } => {
-            Ok(only(alloc, Source::Library(name.clone()?))?)
-        }
+        Inclusion::Library { name, .. } => { Ok(only(alloc, Source::Library(name.clone()?))?) }
         Inclusion::Folder { dir, pattern, .. } => {
             let dir = joined(alloc, file, dir.as_str())?;
             let names = files.names(trimmed(dir.as_str()))?;
@@ -85,12 +83,7 @@ fn in_folder(
 }
 
 /// Whether a name stands in the folder and the pattern describes its last part.
-fn is_in_folder(
-    alloc: Global,
-    folder: &str,
-    pattern: &str,
-    name: &str,
-) -> Result<bool, OutOfMemory>
+fn is_in_folder(alloc: Global, folder: &str, pattern: &str, name: &str) -> Result<bool, OutOfMemory>
     ensures { IfOk result (λ b. b ≡ stands_in folder.now pattern.now name.now) }
 {
     let (in_folder, last) = split_name(name);

@@ -10,11 +10,7 @@ use std::alloc::Global;
 ///
 /// It takes time and memory by the product of the lengths, whatever the number of `*`: part by part from the
 /// last, a row has for each rest of the text, by its length, whether the parts from there on describe it.
-pub(crate) fn matches(
-    alloc: Global,
-    pattern: &[u8],
-    text: &[u8],
-) -> Result<bool, OutOfMemory>
+pub(crate) fn matches(alloc: Global, pattern: &[u8], text: &[u8]) -> Result<bool, OutOfMemory>
     ensures { IfOk result (λ b. b ≡ matches_text pattern.now text.now) }
 {
     let mut row = last_row(alloc, text.len())?;

@@ -1,1 +1,0 @@
-use Rattle.site_conf.proofs.inclusions.inclusions_in.Goals as goal

@@ -1,4 +1,4 @@
-use Rattle.std.proofs.Common.{◌≡◌, ℕ, ◌+◌, cond, get_or, true, false, length, sym, ap, subst, ◌∙◌, arith, refl, rules}
+use Rattle.std.proofs.Common.{◌≡◌, ℕ, get_or, true, false, sym, ap, subst, ◌∙◌, rules}
 use Rattle.std.specs.Str.{IsCharBoundary}
 use Rattle.site_conf.specs.Names.{through_last, is_slash}
 use Rattle.site_conf.proofs.NameLaws.{turn_hit, turn_miss, begins, ends, folder_boundary}

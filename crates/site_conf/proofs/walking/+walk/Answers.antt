@@ -1,4 +1,4 @@
-use Rattle.std.proofs.Common.{◌≡◌, ◌<◌, ◌-◌, OnOk, sym, ap, subst, ◌∙◌}
+use Rattle.std.proofs.Common.{◌≡◌, ◌<◌, OnOk, sym, ap, subst, ◌∙◌}
 use Rattle.site_conf.specs.Views.{state_view}
 use Rattle.site_conf.specs.Walks.{WalkState, entered, follows, onward_at}
 use Rattle.site_conf.proofs.WalkLaws.{follow_is}

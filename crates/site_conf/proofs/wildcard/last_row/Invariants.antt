@@ -1,4 +1,4 @@
-use Rattle.std.proofs.Common.{◌≡◌, ◌+◌, ◌<◌, ◌^◌, ℕ, get_or, nat_eq, false}
+use Rattle.std.proofs.Common.{◌≡◌, ℕ, get_or, nat_eq, false}
 use Rattle.site_conf.proofs.wildcard.last_row.Given as goal
 
 abbrev pub invariant-loop : goal.invariant-loop

@@ -1,4 +1,4 @@
-use Rattle.std.proofs.Common.{◌≡◌, ◌<◌, ◌-◌, length, ℕ, List, Bool, arith, get_or, subst, refl}
+use Rattle.std.proofs.Common.{◌-◌, length, ℕ, List, Bool, get_or, subst, refl}
 use Rattle.site_conf.specs.Wildcards.{IsRow, part_then}
 use Rattle.site_conf.proofs.WildLaws.{part_more}
 use Rattle.site_conf.proofs.wildcard.matches.Goals as goal

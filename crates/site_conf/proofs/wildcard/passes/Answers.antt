@@ -1,1 +1,0 @@
-use Rattle.site_conf.proofs.wildcard.passes.Goals as goal

@@ -1,4 +1,4 @@
-use Rattle.std.proofs.Common.{◌≡◌, ◌<◌, ◌≤◌, ℕ, List, Bool, arith, get_or, subst}
+use Rattle.std.proofs.Common.{◌≡◌, ℕ, List, Bool, arith, subst}
 use Rattle.site_conf.specs.Wildcards.{IsRow, any_behind, part_then}
 use Rattle.site_conf.proofs.WildLaws.{one_more}
 use Rattle.site_conf.proofs.wildcard.row_before.Goals as goal

@@ -1,5 +1,3 @@
-use Rattle.std.proofs.Common.{◌≡◌, ◌≤◌, ◌<◌, ◌-◌, ℕ, List, Bool, get_or, false, length, drop}
-use Rattle.site_conf.specs.Wildcards.{IsRow, part_then}
 use Rattle.site_conf.proofs.WildLaws.{IsBegun}
 use Rattle.site_conf.proofs.wildcard.row_before.Given as goal
 

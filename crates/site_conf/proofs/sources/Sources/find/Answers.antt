@@ -1,4 +1,4 @@
-use Rattle.std.proofs.Common.{sym, ap, ◌∙◌, map}
+use Rattle.std.proofs.Common.{ap, ◌∙◌, map}
 use Rattle.site_conf.specs.Sources.{source_at}
 use Rattle.site_conf.specs.SourceKeys.{source_of}
 use Rattle.site_conf.proofs.KeyLaws.{key_place}
