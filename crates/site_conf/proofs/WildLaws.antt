@@ -1,9 +1,9 @@
 -- Rows of rests.
-use Rattle.std.proofs.Common.{◌≡◌, ◌⊎◌, inl, inr, ℕ, zero, suc, ◌+◌, ◌-◌, ◌<◌, ◌≤◌, ◌==◌, ◌&&◌, ◌||◌, not, Bool, true, false, cond, List, [], ◌∷◌, ◌++◌, length, drop, get_or, nat_eq, refl, sym, ap, ap₂, subst, ◌∙◌, arith, drop-cons, length-drop, length-append}
+use Rattle.std.proofs.Common.{◌≡◌, ◌⊎◌, inl, inr, ℕ, zero, suc, ◌+◌, ◌-◌, ◌<◌, ◌≤◌, ◌==◌, ◌&&◌, ◌||◌, Bool, true, false, cond, List, [], ◌∷◌, ◌++◌, length, drop, get_or, nat_eq, refl, sym, ap, ap₂, subst, ◌∙◌, arith, drop-cons, length-drop, length-append}
 use Rattle.std.proofs.lemmas.List.{drop-drop, get_or_append_left}
 use Rattle.std.proofs.Math.Seq.{get_or-append_seam}
 use Rattle.std.proofs.lemmas.Bool.Decides.{nat_tests}
-use Rattle.site_conf.specs.Wildcards.{is_inner, next_character, one_then, any_then, byte_then, part_then, matches, is_nothing, any_behind, IsRow}
+use Rattle.site_conf.specs.Wildcards.{one_then, any_then, char_then, part_then, describes, is_nothing, any_behind, IsRow}
 
 -- the rest of this length
 abbrev pub rest : List ℕ → ℕ → List ℕ
@@ -35,46 +35,20 @@ row_behind more b bs row k h l = h k (omega arith) ∙ ap more (rest_shorter b b
 rest_whole : (text : List ℕ) → rest text (length text) ≡ text
 rest_whole text = let e : length text - length text ≡ 0 = omega arith in ap (λ n. drop n text) e
 
-next_within : (bs : List ℕ) → length (next_character bs) ≤ length bs
-next_within [] = omega arith
-next_within (b ∷ bs) = by (is_inner b) (next_within bs)
-  where
-    by : (c : Bool) → length (next_character bs) ≤ length bs → length (cond c (next_character bs) (b ∷ bs)) ≤ suc (length bs)
-    by true h = omega (arith, h)
-    by false h = omega arith
+one_row : (more : List ℕ → Bool) (c : ℕ) (cs : List ℕ) (row : List Bool) → IsRow more (c ∷ cs) row → get_or row (length cs) false ≡ one_then more (c ∷ cs)
+one_row more c cs row h = row_behind more c cs row (length cs) h (omega arith) ∙ ap more (rest_whole cs)
 
-next_rest : (bs : List ℕ) → rest bs (length (next_character bs)) ≡ next_character bs
-next_rest [] = refl
-next_rest (b ∷ bs) = by (is_inner b) (next_rest bs)
-  where
-    by : (c : Bool) → rest bs (length (next_character bs)) ≡ next_character bs → rest (b ∷ bs) (length (cond c (next_character bs) (b ∷ bs))) ≡ cond c (next_character bs) (b ∷ bs)
-    by true e = rest_shorter b bs (length (next_character bs)) (next_within bs) ∙ e
-    by false e = rest_whole (b ∷ bs)
+char_by : (c t m : Bool) → t ≡ m → (c && t) ≡ cond c m false
+char_by true t m e = e
+char_by false t m e = refl
 
-one_by : (c t m : Bool) → t ≡ m → (not c && t) ≡ cond c false m
-one_by true t m e = refl
-one_by false t m e = e
-
-one_row : (more : List ℕ → Bool) (b : ℕ) (bs : List ℕ) (row : List Bool) → IsRow more (b ∷ bs) row → (not (is_inner b) && get_or row (length (next_character bs)) false) ≡ one_then more (b ∷ bs)
-one_row more b bs row h =
-    one_by (is_inner b) _ _ (row_behind more b bs row (length (next_character bs)) h (next_within bs) ∙ ap more (next_rest bs))
-
--- what a row says of the rest behind a character
-pub one_is : (more : List ℕ → Bool) (text : List ℕ) (row : List Bool) (test : Bool) → 1 ≤ length text → IsRow more text row → is_inner (get_or text 0 0) ≡ false → test ≡ get_or row (length (next_character (drop 1 text))) false → test ≡ one_then more text
-one_is more [] row test l h f e = absurd (omega (arith, l))
-one_is more (b ∷ bs) row test l h f e = e ∙ ap (λ x. not x && get_or row (length (next_character bs)) false) (sym f) ∙ one_row more b bs row h
-
-byte_by : (c t m : Bool) → t ≡ m → (c && t) ≡ cond c m false
-byte_by true t m e = e
-byte_by false t m e = refl
-
-byte_row : (more : List ℕ → Bool) (p b : ℕ) (bs : List ℕ) (row : List Bool) → IsRow more (b ∷ bs) row → ((b == p) && get_or row (length bs) false) ≡ byte_then p more (b ∷ bs)
-byte_row more p b bs row h = byte_by (b == p) _ _ (row_behind more b bs row (length bs) h (omega arith) ∙ ap more (rest_whole bs))
+char_row : (more : List ℕ → Bool) (p b : ℕ) (bs : List ℕ) (row : List Bool) → IsRow more (b ∷ bs) row → ((b == p) && get_or row (length bs) false) ≡ char_then p more (b ∷ bs)
+char_row more p b bs row h = char_by (b == p) _ _ (row_behind more b bs row (length bs) h (omega arith) ∙ ap more (rest_whole bs))
 
 -- what a row says of the rest behind a byte
-pub byte_is : (more : List ℕ → Bool) (p : ℕ) (text : List ℕ) (row : List Bool) (test : Bool) → 1 ≤ length text → IsRow more text row → (get_or text 0 0 == p) ≡ true → test ≡ get_or row (length (drop 1 text)) false → test ≡ byte_then p more text
-byte_is more p [] row test l h f e = absurd (omega (arith, l))
-byte_is more p (b ∷ bs) row test l h f e = e ∙ ap (λ x. x && get_or row (length bs) false) (sym f) ∙ byte_row more p b bs row h
+pub char_is : (more : List ℕ → Bool) (p : ℕ) (text : List ℕ) (row : List Bool) (test : Bool) → 1 ≤ length text → IsRow more text row → (get_or text 0 0 == p) ≡ true → test ≡ get_or row (length (drop 1 text)) false → test ≡ char_then p more text
+char_is more p [] row test l h f e = absurd (omega (arith, l))
+char_is more p (b ∷ bs) row test l h f e = e ∙ ap (λ x. x && get_or row (length bs) false) (sym f) ∙ char_row more p b bs row h
 
 any_by : (t m l a : Bool) → t ≡ m → l ≡ a → (t || l) ≡ cond m true a
 any_by true m l a e f = ap₂ (λ x y. cond x true y) e f
@@ -92,7 +66,7 @@ pub any_row : (more : List ℕ → Bool) (text : List ℕ) (row : List Bool) (la
 any_row more text row later h e = any_by _ _ later _ (h (length text) (omega arith) ∙ ap more (rest_whole text)) e ∙ any_is more text
 
 -- the row behind the last part
-pub nothing_row : (row : List Bool) → ((k : ℕ) → get_or row k false ≡ nat_eq k 0) → (text : List ℕ) → IsRow (matches []) text row
+pub nothing_row : (row : List Bool) → ((k : ℕ) → get_or row k false ≡ nat_eq k 0) → (text : List ℕ) → IsRow (describes []) text row
 nothing_row row h text = λ k l. h k ∙ by k (rest text k) (length_rest text k l)
   where
     by : (k : ℕ) (xs : List ℕ) → length xs ≡ k → nat_eq k 0 ≡ is_nothing xs
@@ -158,16 +132,16 @@ one_more part text behind row next len later now h l en says =
     by more r k (inr e) before last =
         ap (λ n. get_or (row ++ now ∷ []) n false) (e ∙ sym h.is_long) ∙ get_or-append_seam row now [] false ∙ last ∙ ap (λ n. part_then part more (rest text n)) (sym e)
 
-rest_is_all : (xs : List ℕ) (i m : ℕ) → suc i ≤ length xs → drop (length xs - (i + 1)) xs ≡ get_or xs (length xs - 1 - i) 0 ∷ drop (length xs - i) xs
-rest_is_all xs i m h =
+rest_is_all : (xs : List ℕ) (i d : ℕ) → suc i ≤ length xs → drop (length xs - (i + 1)) xs ≡ get_or xs (length xs - 1 - i) d ∷ drop (length xs - i) xs
+rest_is_all xs i d h =
     let a : length xs - (i + 1) ≡ length xs - 1 - i = omega arith in
     let b : suc (length xs - 1 - i) ≡ length xs - i = omega arith in
-    ap (λ n. drop n xs) a ∙ drop-cons xs (length xs - 1 - i) 0 (omega arith) ∙ ap (λ n. get_or xs (length xs - 1 - i) 0 ∷ drop n xs) b
+    ap (λ n. drop n xs) a ∙ drop-cons xs (length xs - 1 - i) d (omega arith) ∙ ap (λ n. get_or xs (length xs - 1 - i) d ∷ drop n xs) b
 
 -- one part more
-pub part_more : (pattern text : List ℕ) (row next : List Bool) (i part : ℕ) → i < length pattern → part ≡ get_or pattern (length pattern - 1 - i) 0 → IsRow (matches (drop (length pattern - i) pattern)) text row
-    → ((more : List ℕ → Bool) → IsRow more text row → IsRow (part_then part more) text next) → IsRow (matches (drop (length pattern - (i + 1)) pattern)) text next
+pub part_more : (pattern text : List ℕ) (row next : List Bool) (i part : ℕ) → i < length pattern → part ≡ get_or pattern (length pattern - 1 - i) part → IsRow (describes (drop (length pattern - i) pattern)) text row
+    → ((more : List ℕ → Bool) → IsRow more text row → IsRow (part_then part more) text next) → IsRow (describes (drop (length pattern - (i + 1)) pattern)) text next
 part_more pattern text row next i part h e r step =
-    let P : ℕ → Type 0 = λ p. IsRow (part_then p (matches (drop (length pattern - i) pattern))) text next in
-    let Q : List ℕ → Type 0 = λ ps. IsRow (matches ps) text next in
-    subst Q (sym (rest_is_all pattern i 0 (omega (arith, h)))) (subst P e (step (matches (drop (length pattern - i) pattern)) r))
+    let P : ℕ → Type 0 = λ p. IsRow (part_then p (describes (drop (length pattern - i) pattern))) text next in
+    let Q : List ℕ → Type 0 = λ ps. IsRow (describes ps) text next in
+    subst Q (sym (rest_is_all pattern i part (omega (arith, h)))) (subst P e (step (describes (drop (length pattern - i) pattern)) r))

@@ -4,7 +4,7 @@ ghost use Rattle.site_edge.specs.Told.{Rose};
 ghost use Rattle.site_conf.specs.Sources.{source_at, content_of, full_name as full_name_of};
 ghost use Rattle.site_conf.specs.Reading.{kept_content};
 ghost use Rattle.site_conf.specs.Views.{state_view, IsEntered};
-ghost use Rattle.site_conf.specs.Walks.{entered, met, settled, follows, with_number, with_fault, with_kept};
+ghost use Rattle.site_conf.specs.Walks.{Told, entered, met, settled, follows, with_number, with_fault, with_kept};
 
 use crate::LoadFault;
 use crate::holding::Holding;
@@ -29,7 +29,8 @@ pub(crate) fn enter<F: Files>(
     at: Place,
     source: &Source,
 ) -> Result<Option<u32>, LoadFault>
-    ensures value { (all : List (List ℕ × List ℕ)) → F.told files.old ≡ Some all → IfOk result (IsEntered (entered all left at source.now (state_view progress.old)) (state_view progress.new)) }
+    ensures value { (all : Told) → F.told files.old ≡ Some all →
+        IfOk result (IsEntered (entered all left at source.now (state_view progress.old)) (state_view progress.new)) }
     ensures left { IfOk result (λ found. IfSome found (λ _. 0 < left)) }
     ensures same { F.told files.new ≡ F.told files.old }
     ensures cause { IsErrOf result LoadFault.Failed → Rose (F.faults files.old) (F.faults files.new) }
@@ -61,7 +62,8 @@ pub(crate) fn meet<F: Files>(
     at: Place,
     source: &Source,
 ) -> Result<Option<u32>, LoadFault>
-    ensures value { (all : List (List ℕ × List ℕ)) → F.told files.old ≡ Some all → IfOk result (IsEntered (met all at source.now (state_view progress.old)) (state_view progress.new)) }
+    ensures value { (all : Told) → F.told files.old ≡ Some all →
+        IfOk result (IsEntered (met all at source.now (state_view progress.old)) (state_view progress.new)) }
     ensures same { F.told files.new ≡ F.told files.old }
     ensures cause { IsErrOf result LoadFault.Failed → Rose (F.faults files.old) (F.faults files.new) }
     ensures counts { F.faults files.old ≤ F.faults files.new }
@@ -83,7 +85,8 @@ fn read<F: Files>(
     source: &Source,
 ) -> Result<usize, LoadFault>
     requires { source_at source.now (state_view progress.old).sources ≡ None }
-    ensures value { (all : List (List ℕ × List ℕ)) → F.told files.old ≡ Some all → OnOk result (state_view progress.new ≡ with_kept source.now (kept_content (length (state_view progress.old).names) (content_of all source.now)) (state_view progress.old)) }
+    ensures value { (all : Told) → F.told files.old ≡ Some all →
+        OnOk result (state_view progress.new ≡ with_kept source.now (kept_content (length (state_view progress.old).names) (content_of all source.now)) (state_view progress.old)) }
     ensures index { IfOk result (λ k. k ≡ length (state_view progress.old).names) }
     ensures same { F.told files.new ≡ F.told files.old }
     ensures cause { IsErrOf result LoadFault.Failed → Rose (F.faults files.old) (F.faults files.new) }

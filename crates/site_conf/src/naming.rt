@@ -1,6 +1,7 @@
 // What inclusions name.
-ghost use Rattle.std.specs.Prelude.{◌≡◌, ◌≤◌, [], ◌∷◌, List, ℕ, Some, IfOk, OnOk, IsErrOf};
+ghost use Rattle.std.specs.Prelude.{◌≡◌, ◌≤◌, [], ◌∷◌, Some, IfOk, IsErrOf};
 ghost use Rattle.site_edge.specs.Told.{Rose};
+ghost use Rattle.site_conf.specs.Walks.{Told};
 ghost use Rattle.site_conf.specs.Sources.{sources_of, named as named_in, in_folder as those_in_folder, below_folder as those_below, is_in_folder as stands_in, ends_so as ends_in};
 
 use crate::LoadFault;
@@ -19,7 +20,8 @@ pub(crate) fn sources<F: Files>(
     file: &str,
     inclusion: &Inclusion,
 ) -> Result<Vec<Source>, LoadFault>
-    ensures value { (all : List (List ℕ × List ℕ)) → F.told files.old ≡ Some all → IfOk result (λ v. v.items ≡ sources_of all file.now inclusion.now) }
+    ensures value { (all : Told) → F.told files.old ≡ Some all →
+        IfOk result (λ v. v.items ≡ sources_of all file.now inclusion.now) }
     ensures same { F.told files.new ≡ F.told files.old }
     ensures cause { IsErrOf result LoadFault.Failed → Rose (F.faults files.old) (F.faults files.new) }
     ensures counts { F.faults files.old ≤ F.faults files.new }
@@ -41,7 +43,8 @@ pub(crate) fn sources<F: Files>(
 /// What a name names: with a wildcard in its last part the files of that one folder that match it, in
 /// byte order; else itself.
 fn named<F: Files>(alloc: Global, files: &mut F, name: Text) -> Result<Vec<Source>, LoadFault>
-    ensures value { (all : List (List ℕ × List ℕ)) → F.told files.old ≡ Some all → IfOk result (λ v. v.items ≡ named_in all name) }
+    ensures value { (all : Told) → F.told files.old ≡ Some all →
+        IfOk result (λ v. v.items ≡ named_in all name) }
     ensures same { F.told files.new ≡ F.told files.old }
     ensures cause { IsErrOf result LoadFault.Failed → Rose (F.faults files.old) (F.faults files.new) }
     ensures counts { F.faults files.old ≤ F.faults files.new }
@@ -88,7 +91,7 @@ fn is_in_folder(alloc: Global, folder: &str, pattern: &str, name: &str) -> Resul
 {
     let (in_folder, last) = split_name(name);
     if in_folder == folder {
-        matches(alloc, pattern.as_bytes(), last.as_bytes())
+        matches(alloc, pattern, last)
     } else {
         Ok(false)
     }
@@ -112,5 +115,5 @@ fn ends_so(alloc: Global, pattern: &str, name: &str) -> Result<bool, OutOfMemory
     ensures { IfOk result (λ b. b ≡ ends_in pattern.now name.now) }
 {
     let (_, last) = split_name(name);
-    matches(alloc, pattern.as_bytes(), last.as_bytes())
+    matches(alloc, pattern, last)
 }

@@ -6,6 +6,7 @@ ghost use Rattle.dsl_parser.specs.Files.{file_outcome};
 ghost use Rattle.site_edge.specs.Told.{Rose};
 ghost use Rattle.site_conf.specs.Reading.{kept_none, kept_fault, kept_tree, kept_outcome, kept_bytes, kept_content, diag_at};
 ghost use Rattle.site_conf.specs.Library.{library_text as library_text_of};
+ghost use Rattle.site_conf.specs.Walks.{Told};
 ghost use Rattle.site_conf.specs.Sources.{content_of};
 ghost use Rattle.site_conf.specs.Views.{kept_view};
 
@@ -53,7 +54,8 @@ pub(crate) fn content<F: Files>(
     files: &mut F,
     source: &Source,
 ) -> Result<Option<Blob>, LoadFault>
-    ensures value { (all : List (List ℕ × List ℕ)) → F.told files.old ≡ Some all → IfOk result (λ c. c ≡ content_of all source.now) }
+    ensures value { (all : Told) → F.told files.old ≡ Some all →
+        IfOk result (λ c. c ≡ content_of all source.now) }
     ensures same { F.told files.new ≡ F.told files.old }
     ensures cause { IsErrOf result LoadFault.Failed → Rose (F.faults files.old) (F.faults files.new) }
     ensures counts { F.faults files.old ≤ F.faults files.new }

@@ -3,7 +3,7 @@ ghost use Rattle.std.specs.Prelude.{◌≡◌, ◌≤◌, List, ℕ, Some, IfOk,
 ghost use Rattle.dsl_lexer.specs.Places.{start_of};
 ghost use Rattle.site_edge.specs.Told.{Rose};
 ghost use Rattle.site_conf.specs.Views.{state_view, answer_view};
-ghost use Rattle.site_conf.specs.Walks.{part, each_inclusion, one_inclusion, each_source, onward_at, entered, with_number, walk_outcome, outcome_of};
+ghost use Rattle.site_conf.specs.Walks.{Told, part, each_inclusion, one_inclusion, each_source, onward_at, entered, with_number, walk_outcome, outcome_of};
 
 use crate::entering::{enter, meet};
 use crate::inclusion::{Inclusion, place};
@@ -27,7 +27,8 @@ const START: Place = Place {
 
 /// Walks over the files of a site, from its root, in the order of their inclusions, depth first.
 pub fn walk<F: Files>(alloc: Global, files: &mut F, root: &str) -> Result<WalkAnswer, LoadFault>
-    ensures value { (all : List (List ℕ × List ℕ)) → F.told files.old ≡ Some all → IfOk result (λ a. answer_view a ≡ walk_outcome all root.now) }
+    ensures value { (all : Told) → F.told files.old ≡ Some all →
+        IfOk result (λ a. answer_view a ≡ walk_outcome all root.now) }
     ensures same { F.told files.new ≡ F.told files.old }
     ensures cause { IsErrOf result LoadFault.Failed → Rose (F.faults files.old) (F.faults files.new) }
     ensures counts { F.faults files.old ≤ F.faults files.new }
@@ -68,7 +69,8 @@ fn walk_part<F: Files>(
     left: u32,
     index: u32,
 ) -> Result<(), LoadFault>
-    ensures value { (all : List (List ℕ × List ℕ)) → F.told files.old ≡ Some all → OnOk result (state_view progress.new ≡ part all left index (state_view progress.old)) }
+    ensures value { (all : Told) → F.told files.old ≡ Some all →
+        OnOk result (state_view progress.new ≡ part all left index (state_view progress.old)) }
     ensures same { F.told files.new ≡ F.told files.old }
     ensures cause { IsErrOf result LoadFault.Failed → Rose (F.faults files.old) (F.faults files.new) }
     ensures counts { F.faults files.old ≤ F.faults files.new }
@@ -95,7 +97,8 @@ fn walk_inclusions<F: Files>(
     file: &str,
     inclusions: &[Inclusion],
 ) -> Result<(), LoadFault>
-    ensures value { (all : List (List ℕ × List ℕ)) → F.told files.old ≡ Some all → OnOk result (state_view progress.new ≡ each_inclusion all (onward_at all left) left file.now inclusions.now (state_view progress.old)) }
+    ensures value { (all : Told) → F.told files.old ≡ Some all →
+        OnOk result (state_view progress.new ≡ each_inclusion all (onward_at all left) left file.now inclusions.now (state_view progress.old)) }
     ensures same { F.told files.new ≡ F.told files.old }
     ensures cause { IsErrOf result LoadFault.Failed → Rose (F.faults files.old) (F.faults files.new) }
     ensures counts { F.faults files.old ≤ F.faults files.new }
@@ -116,7 +119,8 @@ fn walk_inclusion<F: Files>(
     file: &str,
     inclusion: &Inclusion,
 ) -> Result<(), LoadFault>
-    ensures value { (all : List (List ℕ × List ℕ)) → F.told files.old ≡ Some all → OnOk result (state_view progress.new ≡ one_inclusion all (onward_at all left) left file.now inclusion.now (state_view progress.old)) }
+    ensures value { (all : Told) → F.told files.old ≡ Some all →
+        OnOk result (state_view progress.new ≡ one_inclusion all (onward_at all left) left file.now inclusion.now (state_view progress.old)) }
     ensures same { F.told files.new ≡ F.told files.old }
     ensures cause { IsErrOf result LoadFault.Failed → Rose (F.faults files.old) (F.faults files.new) }
     ensures counts { F.faults files.old ≤ F.faults files.new }
@@ -146,7 +150,8 @@ fn walk_sources<F: Files>(
     at: Place,
     named: &[Source],
 ) -> Result<(), LoadFault>
-    ensures value { (all : List (List ℕ × List ℕ)) → F.told files.old ≡ Some all → OnOk result (state_view progress.new ≡ each_source all (onward_at all left) left at named.now (state_view progress.old)) }
+    ensures value { (all : Told) → F.told files.old ≡ Some all →
+        OnOk result (state_view progress.new ≡ each_source all (onward_at all left) left at named.now (state_view progress.old)) }
     ensures same { F.told files.new ≡ F.told files.old }
     ensures cause { IsErrOf result LoadFault.Failed → Rose (F.faults files.old) (F.faults files.new) }
     ensures counts { F.faults files.old ≤ F.faults files.new }
@@ -167,7 +172,8 @@ fn walk_source<F: Files>(
     at: Place,
     source: &Source,
 ) -> Result<(), LoadFault>
-    ensures value { (all : List (List ℕ × List ℕ)) → F.told files.old ≡ Some all → OnOk result (state_view progress.new ≡ onward_at all left (entered all left at source.now (state_view progress.old))) }
+    ensures value { (all : Told) → F.told files.old ≡ Some all →
+        OnOk result (state_view progress.new ≡ onward_at all left (entered all left at source.now (state_view progress.old))) }
     ensures same { F.told files.new ≡ F.told files.old }
     ensures cause { IsErrOf result LoadFault.Failed → Rose (F.faults files.old) (F.faults files.new) }
     ensures counts { F.faults files.old ≤ F.faults files.new }
