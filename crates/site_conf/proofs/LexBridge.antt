@@ -34,11 +34,11 @@ has_fault file bytes place (inr h) =
     ∙ ap bad (sym h.1)
 
 -- a file with these tokens comes to what the grammar makes of them
-pub bytes_with : (file : ℕ) (bytes : List ℕ) (ts : List Token) → HasTokens file bytes ts → kept_bytes file bytes ≡ kept_outcome (file_outcome ts)
+pub bytes_with : (file : ℕ) (bytes : List ℕ) (ts : List Token) → HasTokens file bytes ts → kept_bytes file bytes ≡ kept_outcome file (file_outcome ts)
 unfolding kept_bytes
-bytes_with file bytes ts h = ap kept_tokens (has_tokens file bytes ts h)
+bytes_with file bytes ts h = ap (kept_tokens file) (has_tokens file bytes ts h)
 
 -- a file that goes wrong here comes to that fault
-pub bytes_without : (file : ℕ) (bytes : List ℕ) (place : Place) → HasFault file bytes place → kept_bytes file bytes ≡ kept_fault kind.Lexical place
+pub bytes_without : (file : ℕ) (bytes : List ℕ) (place : Place) → HasFault file bytes place → kept_bytes file bytes ≡ kept_fault file kind.Lexical place
 unfolding kept_bytes
-bytes_without file bytes place h = ap kept_tokens (has_fault file bytes place h)
+bytes_without file bytes place h = ap (kept_tokens file) (has_fault file bytes place h)

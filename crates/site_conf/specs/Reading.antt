@@ -30,28 +30,32 @@ pub record Kept : Type 0 where
 abbrev pub kept_none : Holding → Kept
 kept_none h = record { holding = h; tree = no_statements; inclusions = []; faults = [] }
 
-abbrev pub kept_fault : DiagKind → Place → Kept
-kept_fault k p = record { holding = Broken; tree = no_statements; inclusions = []; faults = diag_at p k [] ∷ [] }
+-- this line and column of a file
+abbrev pub in_file : ℕ → Place → Place
+in_file file p = record p { file = file }
+
+abbrev pub kept_fault : ℕ → DiagKind → Place → Kept
+kept_fault file k p = record { holding = Broken; tree = no_statements; inclusions = []; faults = diag_at (in_file file p) k [] ∷ [] }
 
 abbrev pub kept_tree : Statements → Kept
 kept_tree tree = record { holding = Whole; tree = tree; inclusions = inclusions tree; faults = [] }
 
 -- by what the grammar makes of its tokens
-abbrev pub kept_outcome : Outcome → Kept
-kept_outcome (tree_found tree) = kept_tree tree
-kept_outcome (fault_at p) = kept_fault kind.Syntax p
-kept_outcome (deep_at_place p) = kept_fault kind.TooDeep p
+abbrev pub kept_outcome : ℕ → Outcome → Kept
+kept_outcome file (tree_found tree) = kept_tree tree
+kept_outcome file (fault_at p) = kept_fault file kind.Syntax p
+kept_outcome file (deep_at_place p) = kept_fault file kind.TooDeep p
 
-abbrev pub kept_tokens : Lexed → Kept
-kept_tokens (all tokens) = kept_outcome (file_outcome tokens)
-kept_tokens (bad p) = kept_fault kind.Lexical p
+abbrev pub kept_tokens : ℕ → Lexed → Kept
+kept_tokens file (all tokens) = kept_outcome file (file_outcome tokens)
+kept_tokens file (bad p) = kept_fault file kind.Lexical p
 
 -- the tokens of the bytes of a file, or the place of what begins none; bytes that aren't UTF-8 go wrong where they stop to be
 abbrev pub tokens_of : ℕ → List ℕ → Lexed
 tokens_of file bytes = if is_utf8 bytes then lexed (start_of file) bytes else bad (place_behind (take (utf8_valid_len bytes) bytes) (start_of file))
 
 unfoldable pub kept_bytes : ℕ → List ℕ → Kept
-kept_bytes file bytes = kept_tokens (tokens_of file bytes)
+kept_bytes file bytes = kept_tokens file (tokens_of file bytes)
 
 -- a file is read up to 4 MiB
 abbrev pub kept_content : ℕ → Option (List ℕ) → Kept

@@ -9,7 +9,7 @@ use Rattle.site_base.specs.declared.place.Place.{Place}
 use Rattle.dsl_lexer.specs.Places.{start_of}
 use Rattle.site_conf.specs.Inclusions.{place_of}
 use Rattle.site_conf.specs.Sources.{full_name, source_at, content_of, sources_of}
-use Rattle.site_conf.specs.Reading.{Kept, diag_at, kept_content}
+use Rattle.site_conf.specs.Reading.{Kept, diag_at, in_file, kept_content}
 use Rattle.site_conf.specs.declared.holding.Holding.{Holding}
 use Rattle.site_conf.specs.declared.holding.Holding.TheVariants.{Missing, TooLong, Broken, Whole}
 use Rattle.site_conf.specs.declared.inclusion.Inclusion.{Inclusion}
@@ -104,17 +104,17 @@ abbrev pub each_source : Told → (Entered → WalkState) → ℕ → Place → 
 each_source files onward left at [] s = s
 each_source files onward left at (x ∷ xs) s = each_source files onward left at xs (onward (entered files left at x s))
 
-abbrev pub one_inclusion : Told → (Entered → WalkState) → ℕ → List ℕ → Inclusion → WalkState → WalkState
-one_inclusion files onward left file i s =
+abbrev pub one_inclusion : Told → (Entered → WalkState) → ℕ → ℕ → List ℕ → Inclusion → WalkState → WalkState
+one_inclusion files onward left index file i s =
     if s.ended then s
-    else each_source files onward left (place_of i) (sources_of files file i) (with_number (length (sources_of files file i)) s)
+    else each_source files onward left (in_file index (place_of i)) (sources_of files file i) (with_number (length (sources_of files file i)) s)
 
-abbrev pub each_inclusion : Told → (Entered → WalkState) → ℕ → List ℕ → List Inclusion → WalkState → WalkState
-each_inclusion files onward left file [] s = s
-each_inclusion files onward left file (i ∷ more) s = each_inclusion files onward left file more (one_inclusion files onward left file i s)
+abbrev pub each_inclusion : Told → (Entered → WalkState) → ℕ → ℕ → List ℕ → List Inclusion → WalkState → WalkState
+each_inclusion files onward left index file [] s = s
+each_inclusion files onward left index file (i ∷ more) s = each_inclusion files onward left index file more (one_inclusion files onward left index file i s)
 
 unfoldable pub part_with : Told → (Entered → WalkState) → ℕ → ℕ → WalkState → WalkState
-part_with files onward left index s = each_inclusion files onward left (or_nothing (slice_get s.names index)) (or_nothing (slice_get s.inclusions index)) s
+part_with files onward left index s = each_inclusion files onward left index (or_nothing (slice_get s.names index)) (or_nothing (slice_get s.inclusions index)) s
 
 -- nothing is followed, or what is to be followed is
 abbrev pub stopped : Entered → WalkState

@@ -4,7 +4,7 @@ ghost use Rattle.site_base.specs.SyntaxView.{file_view};
 ghost use Rattle.dsl_lexer.specs.Lists.{IsWhole};
 ghost use Rattle.dsl_parser.specs.Files.{file_outcome};
 ghost use Rattle.site_edge.specs.Told.{Rose};
-ghost use Rattle.site_conf.specs.Reading.{kept_none, kept_fault, kept_tree, kept_outcome, kept_bytes, kept_content, diag_at};
+ghost use Rattle.site_conf.specs.Reading.{kept_none, kept_fault, kept_tree, kept_outcome, kept_bytes, kept_content, diag_at, in_file as place_in_file};
 ghost use Rattle.site_conf.specs.Library.{library_text as library_text_of};
 ghost use Rattle.site_conf.specs.Walks.{Told};
 ghost use Rattle.site_conf.specs.Sources.{content_of};
@@ -45,6 +45,17 @@ pub(crate) fn diag(place: Place, kind: DiagKind, text: Text) -> Diag
         place,
         kind,
         text,
+    }
+}
+
+/// This line and column of a file.
+pub(crate) fn in_file(file: u32, place: Place) -> Place
+    ensures { result ≡ place_in_file file place }
+{
+    Place {
+        file,
+        line: place.line,
+        col: place.col,
     }
 }
 
@@ -93,21 +104,21 @@ fn text(alloc: Global, index: u32, bytes: &[u8]) -> Result<Kept, OutOfMemory>
     ensures { IfOk result (λ k. kept_view k ≡ kept_bytes index bytes.now) }
 {
     match lex(alloc, bytes, index) {
-        Ok(tokens) => parsed(alloc, tokens.as_slice()),
-        Err(LexError::Fault(fault)) => broken(alloc, DiagKind::Lexical, fault.place),
+        Ok(tokens) => parsed(alloc, index, tokens.as_slice()),
+        Err(LexError::Fault(fault)) => broken(alloc, index, DiagKind::Lexical, fault.place),
         Err(LexError::OutOfMemory) => Err(OutOfMemory),
     }
 }
 
 /// What the tokens of a file come to.
-fn parsed(alloc: Global, tokens: &[Token]) -> Result<Kept, OutOfMemory>
+fn parsed(alloc: Global, index: u32, tokens: &[Token]) -> Result<Kept, OutOfMemory>
     requires { IsWhole tokens.now }
-    ensures { IfOk result (λ k. kept_view k ≡ kept_outcome (file_outcome tokens.now)) }
+    ensures { IfOk result (λ k. kept_view k ≡ kept_outcome index (file_outcome tokens.now)) }
 {
     match parse(alloc, tokens) {
         Ok(tree) => whole(alloc, tree),
-        Err(ParseError::SyntaxFault { place }) => broken(alloc, DiagKind::Syntax, place),
-        Err(ParseError::TooDeep { place }) => broken(alloc, DiagKind::TooDeep, place),
+        Err(ParseError::SyntaxFault { place }) => broken(alloc, index, DiagKind::Syntax, place),
+        Err(ParseError::TooDeep { place }) => broken(alloc, index, DiagKind::TooDeep, place),
         Err(ParseError::OutOfMemory) => Err(OutOfMemory),
     }
 }
@@ -126,11 +137,12 @@ fn whole(alloc: Global, tree: File) -> Result<Kept, OutOfMemory>
 }
 
 /// A file with a fault of its own.
-fn broken(alloc: Global, kind: DiagKind, place: Place) -> Result<Kept, OutOfMemory>
-    ensures { IfOk result (λ k. kept_view k ≡ kept_fault kind place) }
+fn broken(alloc: Global, index: u32, kind: DiagKind, place: Place) -> Result<Kept, OutOfMemory>
+    ensures { IfOk result (λ k. kept_view k ≡ kept_fault index kind place) }
 {
     let mut kept = nothing(alloc, Holding::Broken);
-    kept.faults.push(diag(place, kind, Text::new(alloc)))?;
+    let at = in_file(index, place);
+    kept.faults.push(diag(at, kind, Text::new(alloc)))?;
     Ok(kept)
 }
 

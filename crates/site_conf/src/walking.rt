@@ -9,6 +9,7 @@ use crate::entering::{enter, meet};
 use crate::inclusion::{Inclusion, place};
 use crate::naming::sources;
 use crate::progress::Progress;
+use crate::reading::in_file;
 use crate::source::Source;
 use crate::{LoadFault, Walk, WalkAnswer};
 use site_base::{OutOfMemory, Place, Text};
@@ -82,6 +83,7 @@ fn walk_part<F: Files>(
         files,
         progress,
         left,
+        index,
         name.as_str(),
         inclusions.as_slice(),
     )
@@ -94,17 +96,18 @@ fn walk_inclusions<F: Files>(
     files: &mut F,
     progress: &mut Progress,
     left: u32,
+    index: u32,
     file: &str,
     inclusions: &[Inclusion],
 ) -> Result<(), LoadFault>
     ensures value { (all : Told) → F.told files.old ≡ Some all →
-        OnOk result (state_view progress.new ≡ each_inclusion all (onward_at all left) left file.now inclusions.now (state_view progress.old)) }
+        OnOk result (state_view progress.new ≡ each_inclusion all (onward_at all left) left index file.now inclusions.now (state_view progress.old)) }
     ensures same { F.told files.new ≡ F.told files.old }
     ensures cause { IsErrOf result LoadFault.Failed → Rose (F.faults files.old) (F.faults files.new) }
     ensures counts { F.faults files.old ≤ F.faults files.new }
 {
     for inclusion in inclusions {
-        walk_inclusion(alloc, files, progress, left, file, inclusion)?;
+        walk_inclusion(alloc, files, progress, left, index, file, inclusion)?;
     }
     Ok(())
 }
@@ -116,11 +119,12 @@ fn walk_inclusion<F: Files>(
     files: &mut F,
     progress: &mut Progress,
     left: u32,
+    index: u32,
     file: &str,
     inclusion: &Inclusion,
 ) -> Result<(), LoadFault>
     ensures value { (all : Told) → F.told files.old ≡ Some all →
-        OnOk result (state_view progress.new ≡ one_inclusion all (onward_at all left) left file.now inclusion.now (state_view progress.old)) }
+        OnOk result (state_view progress.new ≡ one_inclusion all (onward_at all left) left index file.now inclusion.now (state_view progress.old)) }
     ensures same { F.told files.new ≡ F.told files.old }
     ensures cause { IsErrOf result LoadFault.Failed → Rose (F.faults files.old) (F.faults files.new) }
     ensures counts { F.faults files.old ≤ F.faults files.new }
@@ -135,7 +139,7 @@ fn walk_inclusion<F: Files>(
         files,
         progress,
         left,
-        place(inclusion),
+        in_file(index, place(inclusion)),
         named.as_slice(),
     )
 }

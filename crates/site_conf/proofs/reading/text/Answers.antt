@@ -9,7 +9,7 @@ use Rattle.site_conf.proofs.reading.text.Goals as goal
 pub returns-in-Ok : goal.returns-in-Ok
 returns-in-Ok c =
     let P : Kept → Type 0 = λ o. IfOk c.parsed.result (λ k. kept_view k ≡ o) in
-    let Q : List Token → Type 0 = λ ts. IfOk c.parsed.result (λ k. kept_view k ≡ kept_outcome (file_outcome ts)) in
+    let Q : List Token → Type 0 = λ ts. IfOk c.parsed.result (λ k. kept_view k ≡ kept_outcome c.args.index (file_outcome ts)) in
     subst P (sym (bytes_with c.args.index c.args.bytes.now c.in-Ok.tokens c.in-Ok.ensures.tokens)) (subst Q c.as_slice.ensures c.parsed.ensures)
 
 pub returns-in-Err-Fault : goal.returns-in-Err-Fault

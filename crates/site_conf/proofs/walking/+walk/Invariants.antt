@@ -23,7 +23,7 @@ invariant-walk_inclusions-loop-inclusion g l = record {
   same : g.F.Files.told l.files ≡ g.F.Files.told l.fn.files;
   counts : g.F.Files.faults l.fn.files ≤ g.F.Files.faults l.files;
   walks : (all : List (List ℕ × List ℕ)) → g.F.Files.told l.fn.files ≡ Some all
-      → each_inclusion all (onward_at all l.left) l.left l.file (drop l.inclusion-index l.inclusions) (state_view l.progress) ≡ each_inclusion all (onward_at all l.left) l.left l.file l.inclusions (state_view l.fn.progress);
+      → each_inclusion all (onward_at all l.left) l.left l.index l.file (drop l.inclusion-index l.inclusions) (state_view l.progress) ≡ each_inclusion all (onward_at all l.left) l.left l.index l.file l.inclusions (state_view l.fn.progress);
 }
 
 abbrev pub invariant-walk_sources-loop-source : goal.invariant-walk_sources-loop-source
