@@ -6,3 +6,4 @@ pub mod LexBridge
 pub mod KeyLaws
 pub mod NamingLaws
 pub mod WalkLaws
+pub mod SoundLaws

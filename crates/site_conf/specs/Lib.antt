@@ -9,3 +9,4 @@ pub mod Sources
 pub mod Reading
 pub mod Walks
 pub mod Views
+pub mod Sound

@@ -3,6 +3,7 @@ ghost use Rattle.std.specs.Prelude.{◌≡◌, ◌≤◌, ◌<◌, List, ℕ, So
 ghost use Rattle.site_edge.specs.Told.{Rose};
 ghost use Rattle.site_conf.specs.Sources.{source_at, content_of, full_name as full_name_of};
 ghost use Rattle.site_conf.specs.Reading.{kept_content};
+ghost use Rattle.site_conf.specs.Sound.{IsSound, IsFound, IsOneMore, MayStand};
 ghost use Rattle.site_conf.specs.Views.{state_view, IsEntered};
 ghost use Rattle.site_conf.specs.Walks.{Told, entered, met, settled, follows, with_number, with_fault, with_kept};
 
@@ -11,7 +12,7 @@ use crate::holding::Holding;
 use crate::progress::Progress;
 use crate::reading::{content, kept};
 use crate::source::{Source, full_name};
-use site_base::{DiagKind, OutOfMemory, Place};
+use site_base::{Blob, DiagKind, OutOfMemory, Place};
 use site_edge::Files;
 use std::alloc::Global;
 
@@ -32,6 +33,8 @@ pub(crate) fn enter<F: Files>(
     ensures value { (all : Told) → F.told files.old ≡ Some all →
         IfOk result (IsEntered (entered all left at source.now (state_view progress.old)) (state_view progress.new)) }
     ensures left { IfOk result (λ found. IfSome found (λ _. 0 < left)) }
+    ensures sound { IsSound (state_view progress.old) → at.file < length (state_view progress.old).names →
+        IfOk result (IsFound (state_view progress.old) (state_view progress.new)) }
     ensures same { F.told files.new ≡ F.told files.old }
     ensures cause { IsErrOf result LoadFault.Failed → Rose (F.faults files.old) (F.faults files.new) }
     ensures counts { F.faults files.old ≤ F.faults files.new }
@@ -64,6 +67,8 @@ pub(crate) fn meet<F: Files>(
 ) -> Result<Option<u32>, LoadFault>
     ensures value { (all : Told) → F.told files.old ≡ Some all →
         IfOk result (IsEntered (met all at source.now (state_view progress.old)) (state_view progress.new)) }
+    ensures sound { IsSound (state_view progress.old) → MayStand at source.now (state_view progress.old) →
+        IfOk result (IsFound (state_view progress.old) (state_view progress.new)) }
     ensures same { F.told files.new ≡ F.told files.old }
     ensures cause { IsErrOf result LoadFault.Failed → Rose (F.faults files.old) (F.faults files.new) }
     ensures counts { F.faults files.old ≤ F.faults files.new }
@@ -88,15 +93,31 @@ fn read<F: Files>(
     ensures value { (all : Told) → F.told files.old ≡ Some all →
         OnOk result (state_view progress.new ≡ with_kept source.now (kept_content (length (state_view progress.old).names) (content_of all source.now)) (state_view progress.old)) }
     ensures index { IfOk result (λ k. k ≡ length (state_view progress.old).names) }
+    ensures sound { IsSound (state_view progress.old) → OnOk result (IsOneMore (state_view progress.old) (state_view progress.new)) }
     ensures same { F.told files.new ≡ F.told files.old }
     ensures cause { IsErrOf result LoadFault.Failed → Rose (F.faults files.old) (F.faults files.new) }
     ensures counts { F.faults files.old ≤ F.faults files.new }
 {
+    let content = content(alloc, files, source)?;
+    let index = keep_content(alloc, progress, source, content)?;
+    Ok(index)
+}
+
+/// Keeps a file that wasn't met before, which holds this, and gives its index.
+fn keep_content(
+    alloc: Global,
+    progress: &mut Progress,
+    source: &Source,
+    content: Option<Blob>,
+) -> Result<usize, OutOfMemory>
+    requires { source_at source.now (state_view progress.old).sources ≡ None }
+    ensures value { OnOk result (state_view progress.new ≡ with_kept source.now (kept_content (length (state_view progress.old).names) content) (state_view progress.old)) }
+    ensures index { IfOk result (λ k. k ≡ length (state_view progress.old).names) }
+{
     let index = progress.names.len();
     let Ok(number) = u32::try_from(index) else {
-        return Err(LoadFault::OutOfMemory);
+        return Err(OutOfMemory);
     };
-    let content = content(alloc, files, source)?;
     progress.keep(source, kept(alloc, number, content)?)?;
     Ok(index)
 }
