@@ -1,7 +1,5 @@
 -- Each step of the walk leaves what is sound sound.
-use Rattle.std.proofs.Common.{◌≡◌, ℕ, zero, suc, ◌+◌, ◌<◌, ◌≤◌, Bool, true, false, cond, nat_lt, List, [], ◌∷◌, ◌++◌, All, length, get_or, slice_get, map, Option, Some, None, refl, sym, ap, subst, ◌∙◌, arith, length-append}
-use Rattle.std.specs.Prelude.{IfSome}
-use Rattle.std.specs.Str.{is_utf8}
+use Rattle.std.proofs.Common.{◌≡◌, ℕ, zero, suc, ◌+◌, ◌<◌, ◌≤◌, Bool, true, false, cond, nat_lt, List, [], ◌∷◌, ◌++◌, length, get_or, slice_get, Option, Some, None, refl, sym, ap, subst, ◌∙◌, arith, length-append}
 use Rattle.std.proofs.lemmas.List.Elements.{All-append}
 use Rattle.std.proofs.lemmas.Option.{slice_get_within}
 use Rattle.site_base.specs.declared.diag.Diag.{Diag}
@@ -10,12 +8,12 @@ use Rattle.site_base.specs.declared.diag_kind.DiagKind.TheVariants as kind
 use Rattle.site_base.specs.declared.place.Place.{Place}
 use Rattle.dsl_lexer.specs.Lexing.{Lexed, all, bad}
 use Rattle.dsl_parser.specs.Files.{Outcome, tree_found, fault_at, deep_at_place, file_outcome}
-use Rattle.site_conf.specs.Reading.{Kept, diag_at, in_file, kept_none, kept_fault, kept_tree, kept_outcome, kept_tokens, tokens_of, kept_bytes, kept_content}
+use Rattle.site_conf.specs.Reading.{Kept, diag_at, in_file, kept_none, kept_outcome, kept_tokens, tokens_of, kept_bytes, kept_content}
 use Rattle.site_conf.specs.Sources.{full_name}
 use Rattle.site_base.specs.Quoted.{quoted}
-use Rattle.site_conf.specs.Sound.{AreIn, IsSound, IsLater, IsOneMore, IsFound}
+use Rattle.site_conf.specs.Sound.{AreIn, IsSound, IsLater, IsOneMore, IsFound, MayStand}
 use Rattle.site_conf.specs.Views.{IsEntered}
-use Rattle.site_conf.specs.Walks.{WalkState, Entered, follows, stays, with_number, with_fault, with_count, with_end, with_kept, settled}
+use Rattle.site_conf.specs.Walks.{WalkState, empty_state, Entered, follows, stays, with_number, with_fault, with_count, with_end, with_kept, settled}
 use Rattle.site_conf.specs.declared.holding.Holding.{Holding}
 use Rattle.site_conf.specs.declared.holding.Holding.TheVariants.{Missing, TooLong, Broken, Whole}
 use Rattle.site_conf.specs.declared.source.Source.{Source}
@@ -120,6 +118,7 @@ stays_is s t None e = (refl, stayed e)
     state_of : Entered → WalkState
     state_of (follows k x) = x
     state_of (stays x) = x
+
     stayed : stays s ≡ stays t → t ≡ s
     stayed e = sym (ap state_of e)
 stays_is s t (Some k) e = absurd (cc)
@@ -131,6 +130,7 @@ follows_is s t i (Some k) e = (ap Some (sym (ap index_of e)), sym (ap state_of e
     state_of : Entered → WalkState
     state_of (follows k x) = x
     state_of (stays x) = x
+
     index_of : Entered → ℕ
     index_of (follows k x) = k
     index_of (stays x) = 0
@@ -151,3 +151,9 @@ settled_found at name index (Some Whole) s t found eo h l e =
     let later : IsLater s t = number_later index s t r.1 h in
     let inside : index < length s.holdings = slice_get_within s.holdings index Whole (sym eo) in
     subst (λ f. IsFound s t f) (sym r.0) (record { later = later; met = omega (arith, inside, h.holdings, later.more) })
+
+pub begins_sound : (s : WalkState) → s ≡ empty_state → IsSound s
+begins_sound s e = subst (λ x. IsSound x) (sym e) (record { holdings = refl; trees = refl; places = none_in 0 })
+
+pub may_begin : (at : Place) (source : Source) (s : WalkState) → s ≡ empty_state → at.file ≡ 0 → MayStand at source s
+may_begin at source s e z = subst (λ x. MayStand at source x) (sym e) (record { old = λ k f. absurd (cc); new = omega (arith, z) })

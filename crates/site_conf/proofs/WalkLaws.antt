@@ -1,5 +1,5 @@
 -- Parts of the walk.
-use Rattle.std.proofs.Common.{◌≡◌, ℕ, zero, suc, ◌+◌, ◌-◌, ◌<◌, ◌≤◌, List, [], ◌∷◌, length, drop, get_or, refl, sym, ap, ◌∙◌, arith, drop-cons, add-one}
+use Rattle.std.proofs.Common.{◌≡◌, ℕ, zero, suc, ◌-◌, ◌<◌, refl, ap, arith}
 use Rattle.site_conf.specs.Walks.{Told, WalkState, follows, part, part_with, onward_at}
 
 -- the part of a file, by what follows its inclusions

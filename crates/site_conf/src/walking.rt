@@ -1,9 +1,10 @@
 // The walk over the files of a site.
-ghost use Rattle.std.specs.Prelude.{◌≡◌, ◌≤◌, List, ℕ, Some, IfOk, OnOk, IsErrOf, length};
+ghost use Rattle.std.specs.Prelude.{◌≡◌, ◌≤◌, ◌<◌, Some, IfOk, OnOk, IsErrOf, length};
 ghost use Rattle.dsl_lexer.specs.Places.{start_of};
 ghost use Rattle.site_edge.specs.Told.{Rose};
+ghost use Rattle.site_conf.specs.Sound.{IsSound, IsLater, IsWhole};
 ghost use Rattle.site_conf.specs.Views.{state_view, answer_view};
-ghost use Rattle.site_conf.specs.Walks.{Told, part, each_inclusion, one_inclusion, each_source, onward_at, entered, with_number, walk_outcome, outcome_of};
+ghost use Rattle.site_conf.specs.Walks.{Told, part, each_inclusion, one_inclusion, each_source, onward_at, entered, with_number, empty_state, walked, walk_outcome, outcome_of};
 
 use crate::entering::{enter, meet};
 use crate::inclusion::{Inclusion, place};
@@ -30,21 +31,41 @@ const START: Place = Place {
 pub fn walk<F: Files>(alloc: Global, files: &mut F, root: &str) -> Result<WalkAnswer, LoadFault>
     ensures value { (all : Told) → F.told files.old ≡ Some all →
         IfOk result (λ a. answer_view a ≡ walk_outcome all root.now) }
+    ensures whole { IfOk result IsWhole }
     ensures same { F.told files.new ≡ F.told files.old }
     ensures cause { IsErrOf result LoadFault.Failed → Rose (F.faults files.old) (F.faults files.new) }
     ensures counts { F.faults files.old ≤ F.faults files.new }
 {
     let mut progress = Progress::new(alloc);
-    let source = Source::File(Text::copy_of(alloc, root)?);
-    if let Some(index) = meet(alloc, files, &mut progress, START, &source)? {
-        walk_part(alloc, files, &mut progress, MAX_DEPTH, index)?;
-    }
+    walk_root(alloc, files, &mut progress, root)?;
     Ok(answer(progress))
+}
+
+/// Meets the root and goes through the inclusions in it.
+fn walk_root<F: Files>(
+    alloc: Global,
+    files: &mut F,
+    progress: &mut Progress,
+    root: &str,
+) -> Result<(), LoadFault>
+    requires { state_view progress.old ≡ empty_state }
+    ensures value { (all : Told) → F.told files.old ≡ Some all → OnOk result (state_view progress.new ≡ walked all root.now) }
+    ensures sound { OnOk result (IsSound (state_view progress.new)) }
+    ensures same { F.told files.new ≡ F.told files.old }
+    ensures cause { IsErrOf result LoadFault.Failed → Rose (F.faults files.old) (F.faults files.new) }
+    ensures counts { F.faults files.old ≤ F.faults files.new }
+{
+    let source = Source::File(Text::copy_of(alloc, root)?);
+    match meet(alloc, files, progress, START, &source)? {
+        Some(index) => walk_part(alloc, files, progress, MAX_DEPTH, index),
+        None => Ok(()),
+    }
 }
 
 /// The answer at the end of a walk.
 fn answer(progress: Progress) -> WalkAnswer
-    ensures { answer_view result ≡ outcome_of (state_view progress) }
+    ensures value { answer_view result ≡ outcome_of (state_view progress) }
+    ensures whole { IsSound (state_view progress) → IsWhole result }
 {
     if progress.diags.is_empty() {
         WalkAnswer::Walked(Walk {
@@ -72,6 +93,8 @@ fn walk_part<F: Files>(
 ) -> Result<(), LoadFault>
     ensures value { (all : Told) → F.told files.old ≡ Some all →
         OnOk result (state_view progress.new ≡ part all left index (state_view progress.old)) }
+    ensures sound { IsSound (state_view progress.old) → index < length (state_view progress.old).names →
+        OnOk result (IsLater (state_view progress.old) (state_view progress.new)) }
     ensures same { F.told files.new ≡ F.told files.old }
     ensures cause { IsErrOf result LoadFault.Failed → Rose (F.faults files.old) (F.faults files.new) }
     ensures counts { F.faults files.old ≤ F.faults files.new }
@@ -102,6 +125,8 @@ fn walk_inclusions<F: Files>(
 ) -> Result<(), LoadFault>
     ensures value { (all : Told) → F.told files.old ≡ Some all →
         OnOk result (state_view progress.new ≡ each_inclusion all (onward_at all left) left index file.now inclusions.now (state_view progress.old)) }
+    ensures sound { IsSound (state_view progress.old) → index < length (state_view progress.old).names →
+        OnOk result (IsLater (state_view progress.old) (state_view progress.new)) }
     ensures same { F.told files.new ≡ F.told files.old }
     ensures cause { IsErrOf result LoadFault.Failed → Rose (F.faults files.old) (F.faults files.new) }
     ensures counts { F.faults files.old ≤ F.faults files.new }
@@ -125,6 +150,8 @@ fn walk_inclusion<F: Files>(
 ) -> Result<(), LoadFault>
     ensures value { (all : Told) → F.told files.old ≡ Some all →
         OnOk result (state_view progress.new ≡ one_inclusion all (onward_at all left) left index file.now inclusion.now (state_view progress.old)) }
+    ensures sound { IsSound (state_view progress.old) → index < length (state_view progress.old).names →
+        OnOk result (IsLater (state_view progress.old) (state_view progress.new)) }
     ensures same { F.told files.new ≡ F.told files.old }
     ensures cause { IsErrOf result LoadFault.Failed → Rose (F.faults files.old) (F.faults files.new) }
     ensures counts { F.faults files.old ≤ F.faults files.new }
@@ -156,6 +183,8 @@ fn walk_sources<F: Files>(
 ) -> Result<(), LoadFault>
     ensures value { (all : Told) → F.told files.old ≡ Some all →
         OnOk result (state_view progress.new ≡ each_source all (onward_at all left) left at named.now (state_view progress.old)) }
+    ensures sound { IsSound (state_view progress.old) → at.file < length (state_view progress.old).names →
+        OnOk result (IsLater (state_view progress.old) (state_view progress.new)) }
     ensures same { F.told files.new ≡ F.told files.old }
     ensures cause { IsErrOf result LoadFault.Failed → Rose (F.faults files.old) (F.faults files.new) }
     ensures counts { F.faults files.old ≤ F.faults files.new }
@@ -178,6 +207,8 @@ fn walk_source<F: Files>(
 ) -> Result<(), LoadFault>
     ensures value { (all : Told) → F.told files.old ≡ Some all →
         OnOk result (state_view progress.new ≡ onward_at all left (entered all left at source.now (state_view progress.old))) }
+    ensures sound { IsSound (state_view progress.old) → at.file < length (state_view progress.old).names →
+        OnOk result (IsLater (state_view progress.old) (state_view progress.new)) }
     ensures same { F.told files.new ≡ F.told files.old }
     ensures cause { IsErrOf result LoadFault.Failed → Rose (F.faults files.old) (F.faults files.new) }
     ensures counts { F.faults files.old ≤ F.faults files.new }
