@@ -1,0 +1,12 @@
+pub mod SourceKeys
+pub mod Faults
+pub mod Names
+pub mod Wildcards
+pub mod Listings
+pub mod Library
+pub mod Inclusions
+pub mod Sources
+pub mod Reading
+pub mod Walks
+pub mod Views
+pub mod Sound

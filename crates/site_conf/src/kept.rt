@@ -1,0 +1,16 @@
+// What is kept of a file that was met.
+use crate::holding::Holding;
+use crate::inclusion::Inclusion;
+use site_base::{Diag, File};
+
+/// What is kept of a file that was met.
+#[derive(Drop)]
+pub(crate) struct Kept {
+    pub(crate) holding: Holding,
+    /// The file's tree; without statements where it has none.
+    pub(crate) tree: File,
+    /// The inclusions in it.
+    pub(crate) inclusions: Vec<Inclusion>,
+    /// The fault of its own text, if there is one.
+    pub(crate) faults: Vec<Diag>,
+}

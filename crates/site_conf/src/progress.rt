@@ -1,0 +1,117 @@
+// What stands at a moment of the walk.
+ghost use Rattle.std.specs.Prelude.{◌≡◌, None, IfOk, OnOk, slice_get};
+ghost use Rattle.site_conf.specs.Sources.{source_at};
+ghost use Rattle.site_conf.specs.Views.{state_view, kept_view};
+ghost use Rattle.site_conf.specs.Walks.{empty_state, with_number, with_fault, with_kept, or_nothing};
+
+use crate::holding::Holding;
+use crate::inclusion::Inclusion;
+use crate::kept::Kept;
+use crate::reading::diag;
+use crate::source::{Source, full_name};
+use crate::sources::Sources;
+use site_base::{Diag, DiagKind, File, OutOfMemory, Place, Row, Text, Texts, quote};
+use std::alloc::Global;
+
+/// What stands at a moment of the walk: for each file that was met what it holds, the order so far, the
+/// diagnostics, the number of inclusions, and whether the walk has ended.
+#[derive(Drop)]
+pub(crate) struct Progress {
+    pub(crate) alloc: Global,
+    pub(crate) sources: Sources,
+    pub(crate) names: Texts,
+    pub(crate) holdings: Vec<Holding>,
+    pub(crate) trees: Vec<File>,
+    pub(crate) inclusions: Vec<Vec<Inclusion>>,
+    pub(crate) order: Vec<u32>,
+    pub(crate) diags: Vec<Diag>,
+    pub(crate) count: u32,
+    pub(crate) ended: bool,
+}
+
+impl Progress {
+    /// No file was met.
+    pub(crate) fn new(alloc: Global) -> Progress
+        ensures { state_view result ≡ empty_state }
+    {
+        Progress {
+            alloc,
+            sources: Sources::new(alloc),
+            names: Row::new(alloc),
+            holdings: Vec::new(alloc),
+            trees: Vec::new(alloc),
+            inclusions: Vec::new(alloc),
+            order: Vec::new(alloc),
+            diags: Vec::new(alloc),
+            count: 0,
+            ended: false,
+        }
+    }
+
+    /// Adds a number to the order.
+    pub(crate) fn number(&mut self, number: u32) -> Result<(), OutOfMemory>
+        ensures { OnOk result (state_view self.new ≡ with_number number (state_view self.old)) }
+    {
+        self.order.push(number)?;
+        Ok(())
+    }
+
+    /// Tells a fault of an inclusion that names this.
+    pub(crate) fn tell(&mut self, at: Place, kind: DiagKind, name: &str) -> Result<(), OutOfMemory>
+        ensures { OnOk result (state_view self.new ≡ with_fault at kind name.now (state_view self.old)) }
+    {
+        let text = quote(self.alloc, name)?;
+        self.diags.push(diag(at, kind, text))?;
+        Ok(())
+    }
+
+    /// Adds a file that wasn't met before, and tells the fault of its own text.
+    pub(crate) fn keep(&mut self, source: &Source, kept: Kept) -> Result<(), OutOfMemory>
+        requires { source_at source.now (state_view self.old).sources ≡ None }
+        ensures { OnOk result (state_view self.new ≡ with_kept source.now (kept_view kept) (state_view self.old)) }
+    {
+        let Kept {
+            holding,
+            tree,
+            inclusions,
+            mut faults,
+        } = kept;
+        self.sources.add(source)?;
+        self.names.push(full_name(self.alloc, source)?)?;
+        self.holdings.push(holding)?;
+        self.trees.push(tree)?;
+        self.inclusions.push(inclusions)?;
+        self.diags.append(&mut faults)?;
+        Ok(())
+    }
+
+    /// A copy of the name of a file; the empty name for one that wasn't met.
+    pub(crate) fn name_at(&self, index: u32) -> Result<Text, OutOfMemory>
+        ensures { IfOk result (λ t. t ≡ or_nothing (slice_get (state_view self.now).names index)) }
+    {
+        match self.names.as_slice().get(index as usize) {
+            Some(name) => Ok(name.clone()?),
+            None => Ok(Text::new(self.alloc)),
+        }
+    }
+
+    /// A copy of the inclusions in a file; none for one that wasn't met.
+    pub(crate) fn inclusions_at(&self, index: u32) -> Result<Vec<Inclusion>, OutOfMemory>
+        ensures { IfOk result (λ v. v.items ≡ or_nothing (slice_get (state_view self.now).inclusions index)) }
+    {
+        match self.inclusions.get(index as usize) {
+            Some(list) => Ok(list.clone()?),
+            None => Ok(Vec::new(self.alloc)),
+        }
+    }
+
+    /// What a file holds, if it was met.
+    pub(crate) fn holding_at(&self, index: usize) -> Option<Holding>
+        ensures { result ≡ slice_get (state_view self.now).holdings index }
+    {
+        match self.holdings.get(index) {
+            Some(holding) => Some(*holding),
+            None => None,
+        }
+    }
+}

@@ -1,0 +1,14 @@
+// What a walk without a fault gives.
+use site_base::{File, Texts};
+
+/// The files of a site in the order in which they were met, each with its tree, and the order of the walk.
+///
+/// The order is the root's index and then the root's part. The part of a file goes through the inclusions
+/// in it: for each it has the number of files that the inclusion names, and for each of these its index and
+/// then its own part.
+#[derive(Debug, Drop)]
+pub struct Walk {
+    pub names: Texts,
+    pub trees: Vec<File>,
+    pub order: Vec<u32>,
+}

@@ -1,0 +1,230 @@
+// The walk over the files of a site.
+ghost use Rattle.std.specs.Prelude.{◌≡◌, ◌≤◌, ◌<◌, Some, IfOk, OnOk, IsErrOf, length};
+ghost use Rattle.dsl_lexer.specs.Places.{start_of};
+ghost use Rattle.site_edge.specs.Told.{Rose};
+ghost use Rattle.site_conf.specs.Sound.{IsSound, IsLater, IsWhole};
+ghost use Rattle.site_conf.specs.Views.{state_view, answer_view};
+ghost use Rattle.site_conf.specs.Walks.{Told, part, each_inclusion, one_inclusion, each_source, onward_at, entered, with_number, empty_state, walked, walk_outcome, outcome_of};
+
+use crate::entering::{enter, meet};
+use crate::inclusion::{Inclusion, place};
+use crate::naming::sources;
+use crate::progress::Progress;
+use crate::reading::in_file;
+use crate::source::Source;
+use crate::{LoadFault, Walk, WalkAnswer};
+use site_base::{OutOfMemory, Place, Text};
+use site_edge::Files;
+use std::alloc::Global;
+
+/// No more inclusions stand in one another.
+const MAX_DEPTH: u32 = 50;
+
+/// The head of the root.
+const START: Place = Place {
+    file: 0,
+    line: 1,
+    col: 1,
+};
+
+/// Walks over the files of a site, from its root, in the order of their inclusions, depth first.
+pub fn walk<F: Files>(alloc: Global, files: &mut F, root: &str) -> Result<WalkAnswer, LoadFault>
+    ensures value { (all : Told) → F.told files.old ≡ Some all →
+        IfOk result (λ a. answer_view a ≡ walk_outcome all root.now) }
+    ensures whole { IfOk result IsWhole }
+    ensures same { F.told files.new ≡ F.told files.old }
+    ensures cause { IsErrOf result LoadFault.Failed → Rose (F.faults files.old) (F.faults files.new) }
+    ensures counts { F.faults files.old ≤ F.faults files.new }
+{
+    let mut progress = Progress::new(alloc);
+    walk_root(alloc, files, &mut progress, root)?;
+    Ok(answer(progress))
+}
+
+/// Meets the root and goes through the inclusions in it.
+fn walk_root<F: Files>(
+    alloc: Global,
+    files: &mut F,
+    progress: &mut Progress,
+    root: &str,
+) -> Result<(), LoadFault>
+    requires { state_view progress.old ≡ empty_state }
+    ensures value { (all : Told) → F.told files.old ≡ Some all → OnOk result (state_view progress.new ≡ walked all root.now) }
+    ensures sound { OnOk result (IsSound (state_view progress.new)) }
+    ensures same { F.told files.new ≡ F.told files.old }
+    ensures cause { IsErrOf result LoadFault.Failed → Rose (F.faults files.old) (F.faults files.new) }
+    ensures counts { F.faults files.old ≤ F.faults files.new }
+{
+    let source = Source::File(Text::copy_of(alloc, root)?);
+    match meet(alloc, files, progress, START, &source)? {
+        Some(index) => walk_part(alloc, files, progress, MAX_DEPTH, index),
+        None => Ok(()),
+    }
+}
+
+/// The answer at the end of a walk.
+fn answer(progress: Progress) -> WalkAnswer
+    ensures value { answer_view result ≡ outcome_of (state_view progress) }
+    ensures whole { IsSound (state_view progress) → IsWhole result }
+{
+    if progress.diags.is_empty() {
+        WalkAnswer::Walked(Walk {
+            names: progress.names,
+            trees: progress.trees,
+            order: progress.order,
+        })
+    } else {
+        WalkAnswer::Diags {
+            files: progress.names,
+            list: progress.diags,
+        }
+    }
+}
+
+/// Goes through the inclusions of a file that was met, where so many may still stand in one another.
+#[cycle(walk)]
+#[tactic(auto, using(crate::proofs::WalkLaws::part_is), unfolding(crate::specs::Walks::part_with))]
+fn walk_part<F: Files>(
+    alloc: Global,
+    files: &mut F,
+    progress: &mut Progress,
+    left: u32,
+    index: u32,
+) -> Result<(), LoadFault>
+    ensures value { (all : Told) → F.told files.old ≡ Some all →
+        OnOk result (state_view progress.new ≡ part all left index (state_view progress.old)) }
+    ensures sound { IsSound (state_view progress.old) → index < length (state_view progress.old).names →
+        OnOk result (IsLater (state_view progress.old) (state_view progress.new)) }
+    ensures same { F.told files.new ≡ F.told files.old }
+    ensures cause { IsErrOf result LoadFault.Failed → Rose (F.faults files.old) (F.faults files.new) }
+    ensures counts { F.faults files.old ≤ F.faults files.new }
+{
+    let name = progress.name_at(index)?;
+    let inclusions = progress.inclusions_at(index)?;
+    walk_inclusions(
+        alloc,
+        files,
+        progress,
+        left,
+        index,
+        name.as_str(),
+        inclusions.as_slice(),
+    )
+}
+
+/// Goes through inclusions in the file of this name.
+#[cycle(walk)]
+fn walk_inclusions<F: Files>(
+    alloc: Global,
+    files: &mut F,
+    progress: &mut Progress,
+    left: u32,
+    index: u32,
+    file: &str,
+    inclusions: &[Inclusion],
+) -> Result<(), LoadFault>
+    ensures value { (all : Told) → F.told files.old ≡ Some all →
+        OnOk result (state_view progress.new ≡ each_inclusion all (onward_at all left) left index file.now inclusions.now (state_view progress.old)) }
+    ensures sound { IsSound (state_view progress.old) → index < length (state_view progress.old).names →
+        OnOk result (IsLater (state_view progress.old) (state_view progress.new)) }
+    ensures same { F.told files.new ≡ F.told files.old }
+    ensures cause { IsErrOf result LoadFault.Failed → Rose (F.faults files.old) (F.faults files.new) }
+    ensures counts { F.faults files.old ≤ F.faults files.new }
+{
+    for inclusion in inclusions {
+        walk_inclusion(alloc, files, progress, left, index, file, inclusion)?;
+    }
+    Ok(())
+}
+
+/// Goes through what one inclusion names.
+#[cycle(walk)]
+fn walk_inclusion<F: Files>(
+    alloc: Global,
+    files: &mut F,
+    progress: &mut Progress,
+    left: u32,
+    index: u32,
+    file: &str,
+    inclusion: &Inclusion,
+) -> Result<(), LoadFault>
+    ensures value { (all : Told) → F.told files.old ≡ Some all →
+        OnOk result (state_view progress.new ≡ one_inclusion all (onward_at all left) left index file.now inclusion.now (state_view progress.old)) }
+    ensures sound { IsSound (state_view progress.old) → index < length (state_view progress.old).names →
+        OnOk result (IsLater (state_view progress.old) (state_view progress.new)) }
+    ensures same { F.told files.new ≡ F.told files.old }
+    ensures cause { IsErrOf result LoadFault.Failed → Rose (F.faults files.old) (F.faults files.new) }
+    ensures counts { F.faults files.old ≤ F.faults files.new }
+{
+    if progress.ended {
+        return Ok(());
+    }
+    let named = sources(alloc, files, file, inclusion)?;
+    number_of(progress, named.as_slice())?;
+    walk_sources(
+        alloc,
+        files,
+        progress,
+        left,
+        in_file(index, place(inclusion)),
+        named.as_slice(),
+    )
+}
+
+/// Takes inclusions at one place, one after another.
+#[cycle(walk)]
+fn walk_sources<F: Files>(
+    alloc: Global,
+    files: &mut F,
+    progress: &mut Progress,
+    left: u32,
+    at: Place,
+    named: &[Source],
+) -> Result<(), LoadFault>
+    ensures value { (all : Told) → F.told files.old ≡ Some all →
+        OnOk result (state_view progress.new ≡ each_source all (onward_at all left) left at named.now (state_view progress.old)) }
+    ensures sound { IsSound (state_view progress.old) → at.file < length (state_view progress.old).names →
+        OnOk result (IsLater (state_view progress.old) (state_view progress.new)) }
+    ensures same { F.told files.new ≡ F.told files.old }
+    ensures cause { IsErrOf result LoadFault.Failed → Rose (F.faults files.old) (F.faults files.new) }
+    ensures counts { F.faults files.old ≤ F.faults files.new }
+{
+    for source in named {
+        walk_source(alloc, files, progress, left, at, source)?;
+    }
+    Ok(())
+}
+
+/// Takes one inclusion, and follows it.
+#[cycle(walk)]
+fn walk_source<F: Files>(
+    alloc: Global,
+    files: &mut F,
+    progress: &mut Progress,
+    left: u32,
+    at: Place,
+    source: &Source,
+) -> Result<(), LoadFault>
+    ensures value { (all : Told) → F.told files.old ≡ Some all →
+        OnOk result (state_view progress.new ≡ onward_at all left (entered all left at source.now (state_view progress.old))) }
+    ensures sound { IsSound (state_view progress.old) → at.file < length (state_view progress.old).names →
+        OnOk result (IsLater (state_view progress.old) (state_view progress.new)) }
+    ensures same { F.told files.new ≡ F.told files.old }
+    ensures cause { IsErrOf result LoadFault.Failed → Rose (F.faults files.old) (F.faults files.new) }
+    ensures counts { F.faults files.old ≤ F.faults files.new }
+{
+    match enter(alloc, files, progress, left, at, source)? {
+        Some(index) => walk_part(alloc, files, progress, left - 1, index),
+        None => Ok(()),
+    }
+}
+
+/// The number of files that an inclusion names stands in the order.
+fn number_of(progress: &mut Progress, named: &[Source]) -> Result<(), OutOfMemory>
+    ensures { OnOk result (state_view progress.new ≡ with_number (length named.now) (state_view progress.old)) }
+{
+    let Ok(number) = u32::try_from(named.len()) else {
+        return Err(OutOfMemory);
+    };
+    progress.number(number)
+}
