@@ -187,7 +187,7 @@ fn fifty_inclusions_stand_in_one_another(rt: HostRuntime) -> Result<(), Fail> {
 #[test]
 fn too_many_comes_before_too_deep(rt: HostRuntime) -> Result<(), Fail> {
     let alloc = rt.alloc();
-    let mut text = lines(alloc, "include <nscp>", 9_950)?;
+    let mut text = lines(alloc, "include <nscp>;", 9_950)?;
     text.push_str("include \"f1\"")?;
     let mut files = chain(alloc, text.as_str(), 50)?;
     let answer = walk(alloc, &mut files, "r")?;
