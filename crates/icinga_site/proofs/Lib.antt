@@ -1,5 +1,9 @@
 pub mod AnswerLaws
 pub mod PairLaws
+pub mod ReadingForms
+pub mod Resting
+pub mod StandingLaws
 pub mod Stepping
 pub mod TokenLaws
+pub mod TurnLaws
 pub mod Writing

@@ -1,0 +1,19 @@
+//! The replay of a script: from a site and the turns of a script to the log, with one worker.
+//!
+//! In reading order: what stands of a checkable between its events (`standing`), which events and refusals a turn
+//! gives (`dealing`), what the events make of all checkables (`round`), the lines of a turn (`turn_text`), and turn
+//! after turn (`log`). `needs` tells which scripts can't be taken yet.
+
+mod asked;
+mod dealing;
+mod dealt;
+mod log;
+mod log_fault;
+mod needs;
+mod refusal;
+mod round;
+mod standing;
+#[cfg(test)]
+mod tests;
+mod turn_text;
+mod writing;
