@@ -1,4 +1,5 @@
 pub mod AnswerLaws
+pub mod DealingLaws
 pub mod PairLaws
 pub mod ReadingForms
 pub mod Resting

@@ -20,24 +20,7 @@ rest_more g made n m xs i x done more all e h is step grown so_far =
     ∙ ap (λ ys. done ++ g n ys) (sym (next_of xs i x h is))
     ∙ so_far
 
--- all was made
-pub rest_none : {A B : Type 0} (g : ℕ → List A → List B) (n : ℕ) (xs : List A) (i : ℕ) (done all : List B)
-    → g n [] ≡ [] → length xs ≤ i → done ++ g n (drop i xs) ≡ all → done ≡ all
-rest_none g n xs i done all none h so_far =
-    sym (append-nil done) ∙ ap (λ ys. done ++ ys) (sym none) ∙ ap (λ ys. done ++ g n ys) (sym (drop_all i xs h)) ∙ so_far
-
 -- Whether some one passes a test.
-
-pub any_more : {A : Type 0} (f : A → Bool) (xs : List A) (i : ℕ) (x : A) (b : Bool) → i < length xs → x ≡ get_or xs i x → f x ≡ false → list_any f (drop i xs) ≡ b → list_any f (drop (i + 1) xs) ≡ b
-any_more f xs i x b h is no so_far =
-    sym (ap (λ t. t || list_any f (drop (i + 1) xs)) no) ∙ sym (ap (list_any f) (next_of xs i x h is)) ∙ so_far
-
-pub any_here : {A : Type 0} (f : A → Bool) (xs : List A) (i : ℕ) (x : A) (b : Bool) → i < length xs → x ≡ get_or xs i x → f x ≡ true → list_any f (drop i xs) ≡ b → true ≡ b
-any_here f xs i x b h is yes so_far =
-    sym (ap (λ t. t || list_any f (drop (i + 1) xs)) yes) ∙ sym (ap (list_any f) (next_of xs i x h is)) ∙ so_far
-
-pub any_none : {A : Type 0} (f : A → Bool) (xs : List A) (i : ℕ) (b : Bool) → length xs ≤ i → list_any f (drop i xs) ≡ b → false ≡ b
-any_none f xs i b h so_far = sym (ap (list_any f) (drop_all i xs h)) ∙ so_far
 
 first_false : (a b : Bool) → (a || b) ≡ false → a ≡ false
 first_false false b e = refl
@@ -49,7 +32,7 @@ second_false true b e = absurd cc
 
 -- none of what is left passes, nor does the next one
 pub next_fails : {A : Type 0} (f : A → Bool) (xs : List A) (i : ℕ) (x : A) → i < length xs → x ≡ get_or xs i x → list_any f (drop i xs) ≡ false → f x ≡ false
-next_fails f xs i x h is no = first_false (f x) (list_any f (drop (i + 1) xs)) (sym (ap (list_any f) (next_of xs i x h is)) ∙ no)
+next_fails f xs i x h is fails = first_false (f x) (list_any f (drop (i + 1) xs)) (sym (ap (list_any f) (next_of xs i x h is)) ∙ fails)
 
 pub later_fail : {A : Type 0} (f : A → Bool) (xs : List A) (i : ℕ) (x : A) → i < length xs → x ≡ get_or xs i x → list_any f (drop i xs) ≡ false → list_any f (drop (i + 1) xs) ≡ false
-later_fail f xs i x h is no = second_false (f x) (list_any f (drop (i + 1) xs)) (sym (ap (list_any f) (next_of xs i x h is)) ∙ no)
+later_fail f xs i x h is fails = second_false (f x) (list_any f (drop (i + 1) xs)) (sym (ap (list_any f) (next_of xs i x h is)) ∙ fails)
