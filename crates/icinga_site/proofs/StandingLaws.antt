@@ -216,3 +216,30 @@ all_behind P x xs ys is all k d h = subst (λ zs. All P zs) is all (suc k) d (om
 pub none_left : {A : Type 0} (xs : List A) → length xs ≡ 0 → xs ≡ []
 none_left [] h = refl
 none_left (x ∷ xs) h = absurd (omega (arith, h))
+
+pub length_push : {A : Type 0} (xs ys : List A) (x : A) (i : ℕ) → length xs ≡ i → ys ≡ xs ++ x ∷ [] → length ys ≡ i + 1
+length_push xs ys x i h is = let n : length (xs ++ x ∷ []) ≡ length xs + 1 = by xs in ap length is ∙ omega (arith, n, h)
+  where
+    by : (xs : List _) → length (xs ++ x ∷ []) ≡ length xs + 1
+    by [] = omega arith
+    by (y ∷ ys) = let n : length (ys ++ x ∷ []) ≡ length ys + 1 = by ys in omega (arith, n)
+
+-- those of the first checkables, and of the next one
+pub begin_more : (site xs : List CheckSpec) (rs more : List Standing) (i : ℕ) (spec : CheckSpec) (r : Standing) → xs ≡ site → length rs ≡ i → i < length xs → spec ≡ get_or xs i spec → more ≡ rs ++ r ∷ [] → StandsAt r (check_view spec) []
+    → ((k : ℕ) (c : PlainCheck) (q : Standing) → slice_get (map check_view site) k ≡ Some c → slice_get rs k ≡ Some q → StandsAt q c [])
+    → (k : ℕ) (c : PlainCheck) (q : Standing) → slice_get (map check_view site) k ≡ Some c → slice_get more k ≡ Some q → StandsAt q c []
+begin_more site xs rs more i spec r own n h is grown new all k c q at there = by (tell k i)
+  where
+    here : slice_get (rs ++ r ∷ []) k ≡ Some q
+    here = sym (ap (λ ys. slice_get ys k) grown) ∙ there
+
+    by : Same k i → StandsAt q c []
+    by (same e) =
+        let r_is : r ≡ q = one_of r q (sym (get_at rs [] r) ∙ sym (ap (slice_get (rs ++ r ∷ [])) (e ∙ sym n)) ∙ here) in
+        let c_is : check_view spec ≡ c = one_of (check_view spec) c (sym (check_here site xs i spec own h is) ∙ sym (ap (slice_get (map check_view site)) e) ∙ at) in
+        subst (λ x. StandsAt q x []) c_is (subst (λ x. StandsAt x (check_view spec) []) r_is new)
+    by (other e) =
+        let all_of : length (rs ++ r ∷ []) ≡ i + 1 = length_push rs (rs ++ r ∷ []) r i n refl in
+        let within : k < length (rs ++ r ∷ []) = slice_get_within (rs ++ r ∷ []) k q here in
+        let before : k < length rs = grind (arith, within, all_of, n, e) in
+        all k c q at (sym (get_front rs (r ∷ []) k before) ∙ here)

@@ -20,9 +20,9 @@ use Rattle.icinga_site.proofs.StandingLaws.{stand_joined}
 use Rattle.icinga_site.proofs.Writing.{adds_more, adds_part}
 
 -- nothing is ordered: no order is outstanding, and none is due
-record IsCalm (st : Stage) : Type 0 where
-  outstanding : st.outstanding ≡ []
-  due : st.due ≡ []
+pub record IsCalm (st : Stage) : Type 0 where
+  pub outstanding : st.outstanding ≡ []
+  pub due : st.due ≡ []
 
 -- the log of a turn at this stage
 pub record IsSoFar (s : PlainSite) (turns moment : ℕ) (standings : List Standing) (rest : List Turn) (all : List ℕ) (old now : Option (List ℕ)) : Type 0 where
@@ -30,7 +30,7 @@ pub record IsSoFar (s : PlainSite) (turns moment : ℕ) (standings : List Standi
   pub stage : Stage
   pub calm : IsCalm stage
   pub number : stage.turns ≡ turns
-  pub moment : stage.moment ≡ moment
+  pub when : stage.moment ≡ moment
   pub stand : AllStand standings s (λ k. of_index k stage.histories)
   pub done : List ℕ
   pub whole : done ++ log_text s (run_alone_from first_rules no_orders missing_macro s logs stage (map (turn_told s) rest)) ≡ all
@@ -64,7 +64,7 @@ turn_is s logs st t c = ap (λ x. turn_alone first_rules no_orders s logs x (tur
 
 still_calm : (s : PlainSite) (st : Stage) (t : Turn) (n m : ℕ) → IsCalm st → IsCalm (stage_behind missing_macro st (turn_told s t) (turn_made s n m st.histories t))
 still_calm s st t n m c = record {
-  outstanding = append-nil _ ∙ ap (λ os. still (st.due ++ map report_told t.reports) os) c.outstanding ∙ none_still _;
+  outstanding = append-nil (still (st.due ++ map report_told t.reports) st.outstanding) ∙ ap (λ os. still (st.due ++ map report_told t.reports) os) c.outstanding ∙ none_still (st.due ++ map report_told t.reports);
   due = refl;
 }
 
@@ -79,7 +79,7 @@ begins s standings turns old stand = record {
   stage = start;
   calm = record { outstanding = refl; due = refl };
   number = refl;
-  moment = refl;
+  when = refl;
   stand = stand;
   done = [];
   whole = refl;
@@ -114,14 +114,14 @@ turn_more s n i j m k t turns before after lines all old mid new next number h i
     let st = so_far.stage in
     let l = turn_made s n k st.histories t in
     let at : n ≡ st.turns + 1 = number ∙ ap (λ x. x + 1) (sym so_far.number) in
-    let at_moment : k ≡ max st.moment t.moment = when ∙ ap (λ x. max x t.moment) (sym so_far.moment) in
+    let at_moment : k ≡ max st.moment t.moment = when ∙ ap (λ x. max x t.moment) (sym so_far.when) in
     let behind_it = stage_behind missing_macro st (turn_told s t) l in
     record {
       logs = so_far.logs ++ l ∷ [];
       stage = behind_it;
       calm = still_calm s st t n k so_far.calm;
       number = number ∙ sym next;
-      moment = refl;
+      when = refl;
       stand = stand_joined after s st.histories l.round stand;
       done = so_far.done ++ concat lines;
       whole = append_assoc so_far.done (concat lines) _
@@ -143,7 +143,7 @@ turn_part s n i m k t turns before lines all old mid new number h is when so_far
     let st = so_far.stage in
     let l = turn_made s n k st.histories t in
     let at : n ≡ st.turns + 1 = number ∙ ap (λ x. x + 1) (sym so_far.number) in
-    let at_moment : k ≡ max st.moment t.moment = when ∙ ap (λ x. max x t.moment) (sym so_far.moment) in
+    let at_moment : k ≡ max st.moment t.moment = when ∙ ap (λ x. max x t.moment) (sym so_far.when) in
     let left = log_text s (run_alone_from first_rules no_orders missing_macro s (so_far.logs ++ l ∷ []) (stage_behind missing_macro st (turn_told s t) l) (map (turn_told s) (drop (i + 1) turns))) in
     let whole : so_far.done ++ (concat lines ++ left) ≡ all =
     ap (λ ls. so_far.done ++ (concat ls ++ left)) text
