@@ -1,5 +1,5 @@
 -- A line tells no event but one that can be printed.
-use Rattle.std.proofs.Common.{◌≡◌, ◌≤◌, ℕ, ◌==◌, Bool, true, false, cond, List, [], ◌∷◌, Option, Some, None, min, slice_get, refl, sym, ap, ◌∙◌, subst, arith, option_map}
+use Rattle.std.proofs.Common.{◌≡◌, ◌≤◌, ℕ, ◌==◌, Bool, true, false, cond, List, [], ◌∷◌, Option, Some, None, min, slice_get, subst, arith, option_map}
 use Rattle.std.specs.Str.{is_utf8}
 use Rattle.site_model.specs.PlainSite.{PlainSite}
 use Rattle.site_model.specs.declared.event.Event.{Event}
@@ -8,7 +8,7 @@ use Rattle.event_text.specs.Checkables.{host_named, service_named, takes_passive
 use Rattle.event_text.specs.Commands.{command_named, is_result}
 use Rattle.event_text.specs.Cuts.{Cut, cut, uncut, cut_at}
 use Rattle.event_text.specs.Fields.{Fields, too_few, fields, host_fields, service_fields, semicolon}
-use Rattle.event_text.specs.Lines.{Answer, told, later, faulty, bracket, passive_event}
+use Rattle.event_text.specs.Lines.{Answer, told, later, faulty, bracket}
 use Rattle.event_text.specs.Numbers.{is_number, status_in, host_status}
 use Rattle.event_text.specs.Reading.{line_read, text_read, head_read, command_read, cut_read, command_alone, command_with, fields_read, passive_read}
 use Rattle.event_text.specs.declared.command.Command.{Command}

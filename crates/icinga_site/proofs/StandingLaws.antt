@@ -1,6 +1,6 @@
 -- What stands of checkables, from event to event.
-use Rattle.std.proofs.Common.{◌≡◌, ◌≢◌, ℕ, zero, suc, ◌+◌, ◌<◌, ◌≤◌, List, [], ◌∷◌, ◌++◌, length, map, slice_get, get_or, set, take, Option, Some, None, All, refl, sym, ap, ◌∙◌, subst, arith, append_assoc}
-use Rattle.std.proofs.lemmas.List.{append-nil, get_or-set_same, get_or-set_other}
+use Rattle.std.proofs.Common.{◌≡◌, ℕ, zero, suc, ◌+◌, ◌<◌, ◌≤◌, List, [], ◌∷◌, ◌++◌, length, map, slice_get, get_or, set, take, Option, Some, None, All, refl, sym, ap, ◌∙◌, subst, arith, append_assoc}
+use Rattle.std.proofs.lemmas.List.{append-nil}
 use Rattle.std.proofs.lemmas.Option.{slice_get_past, slice_get_within, slice_get-get_or}
 use Rattle.site_model.specs.PlainSite.{PlainSite, PlainCheck, check_view}
 use Rattle.site_model.specs.declared.entry.Entry.{Entry}

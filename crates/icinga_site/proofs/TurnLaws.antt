@@ -1,16 +1,15 @@
 -- A run of a script, turn after turn.
-use Rattle.std.proofs.Common.{◌≡◌, ℕ, ◌+◌, ◌<◌, ◌≤◌, List, [], ◌∷◌, ◌++◌, length, map, max, drop, get_or, Option, Some, None, refl, sym, ap, ◌∙◌, subst, arith, append_assoc}
+use Rattle.std.proofs.Common.{◌≡◌, ℕ, ◌+◌, ◌<◌, ◌≤◌, List, [], ◌∷◌, ◌++◌, length, map, max, drop, get_or, Option, Some, None, refl, sym, ap, ◌∙◌, subst, append_assoc}
 use Rattle.std.specs.List.{concat, flat_map}
 use Rattle.std.proofs.lemmas.List.{append-nil, drop_all}
 use Rattle.std.proofs.lemmas.List.Folds.{concat-append}
 use Rattle.site_edge.specs.Lists.{Adds, AddsPart}
 use Rattle.site_edge.specs.declared.turn.Turn.{Turn}
 use Rattle.site_model.specs.PlainSite.{PlainSite}
-use Rattle.run_meaning.specs.Acts.{Rules}
-use Rattle.run_meaning.specs.Alone.{run_alone_from, turn_alone, all_events, alone}
-use Rattle.run_meaning.specs.Dealing.{Reported, Taken, taken_reports, line_events, line_refusals, report_refusals, still, without, ticks}
+use Rattle.run_meaning.specs.Alone.{run_alone_from, turn_alone, alone}
+use Rattle.run_meaning.specs.Dealing.{Reported, Taken, taken_reports, line_events, line_refusals, report_refusals, still, ticks}
 use Rattle.run_meaning.specs.Rounds.{Histories, of_index, behind}
-use Rattle.run_meaning.specs.Runs.{Stage, Told, TurnLog, stage_behind, start, joined}
+use Rattle.run_meaning.specs.Runs.{Stage, TurnLog, stage_behind, start}
 use Rattle.icinga_site.specs.LogText.{log_text, turn_lines, replay_text}
 use Rattle.icinga_site.specs.Replay.{first_rules, no_orders, missing_macro, turn_told, report_told}
 use Rattle.icinga_site.specs.Standings.{AllStand, turn_made}

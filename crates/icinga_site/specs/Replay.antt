@@ -1,6 +1,6 @@
 -- What the turns of a script tell, and the run of them before anything is checked, ended or notified: what depends on
 -- nothing else is replayed from passive results alone.
-use Rattle.std.specs.Prelude.{ℕ, ◌==◌, List, [], ◌∷◌, ◌++◌, map, codes, Bool, true, false}
+use Rattle.std.specs.Prelude.{ℕ, List, [], ◌++◌, map, codes, Bool, true, false}
 use Rattle.std.specs.List.{list_any}
 use Rattle.plugin_line.specs.Output.{plugin_result}
 use Rattle.site_edge.specs.declared.report.Report.{Report}
@@ -14,7 +14,6 @@ use Rattle.event_text.specs.Reading.{line_read}
 use Rattle.run_meaning.specs.Acts.{Rules}
 use Rattle.run_meaning.specs.Dealing as dealing
 use Rattle.run_meaning.specs.Dealing.{Line, Reported}
-use Rattle.run_meaning.specs.Rounds.{Asked}
 use Rattle.run_meaning.specs.Runs.{Told, TurnLog, Schedule}
 use Rattle.run_meaning.specs.Alone.{run_alone}
 

@@ -1,6 +1,5 @@
-use Rattle.std.proofs.Common.{◌≡◌, ◌≤◌, ◌++◌, ℕ, List, [], length, map, drop, false}
+use Rattle.std.proofs.Common.{◌≡◌, ◌≤◌, length, drop, false}
 use Rattle.std.specs.List.{list_any}
-use Rattle.site_edge.specs.Lists.{Adds}
 use Rattle.site_model.specs.PlainSite.{site_view}
 use Rattle.icinga_site.specs.LogText.{replay_text}
 use Rattle.icinga_site.specs.Replay.{turn_needs_more}

@@ -1,6 +1,4 @@
 -- The event goes to the checkable at its place, where one stands there.
-use Rattle.std.proofs.Common.{sym, ap, ◌∙◌, get_or}
-use Rattle.std.proofs.lemmas.Option.{slice_get_read}
 use Rattle.std.proofs.lemmas.Result.{on_ok_weaker}
 use Rattle.site_model.specs.PlainSite.{site_view}
 use Rattle.icinga_site.specs.Standings.{asked_of}
@@ -26,5 +24,5 @@ returns c before round stands =
     let stand = standing_at c.args.standings.now c.args.lines.now s before round k _ c.index-standings-place.result within at c.index-standings-place.is stands in
     on_ok_weaker c.push.result
     (λ written. event_taken c.args.standings.now c.args.lines.now s c.args.moment before round (asked_of c.args.asked) _ c.take.new.self c.in_ok-entry.entry c.index-lines-place.result c.in_ok-line.line c.push.new.self
-        within at stands (c.in_ok-entry.ensures.entry _ stand) (c.in_ok-entry.ensures.stands _ stand) c.in_ok-line.ensures written)
+    within at stands (c.in_ok-entry.ensures.entry _ stand) (c.in_ok-entry.ensures.stands _ stand) c.in_ok-line.ensures written)
     c.push.ensures.ok

@@ -1,5 +1,5 @@
 -- What is left of the events is taken from what was made so far.
-use Rattle.std.proofs.Common.{◌≡◌, ℕ, All, length, map, take, drop, slice_get, ◌++◌, ◌∷◌, sym, ap, ◌∙◌, refl, arith, rules, subst}
+use Rattle.std.proofs.Common.{◌≡◌, All, length, map, take, drop, slice_get, ◌++◌, sym, ap, ◌∙◌, refl, rules, subst}
 use Rattle.std.specs.Vec.Iter.{into_iter_items}
 use Rattle.site_model.specs.PlainSite.{site_view}
 use Rattle.site_text.specs.Entries.{IsInForm}
@@ -19,9 +19,9 @@ loop-asked-init c =
       lines = lines_begin c.args.site.now.checkables c.as_slice.result.now c.in_ok-lines.lines.items c.as_slice.ensures c.in_ok-lines.ensures;
       in_form = subst (λ xs. All (λ (a : Asked). IsInForm a.event) xs) (sym items) c.requires.in_form;
       so_far = λ before all. (
-          nothing_yet s,
-          ap (λ xs. alone_from first_rules s c.args.moment before (map asked_of xs) (nothing_yet s)) items,
-          round_begins c.args.site.now.checkables c.as_slice.result.now _ _ s before refl c.as_slice.ensures all c.in_ok-lines.ensures,
+        nothing_yet s,
+        ap (λ xs. alone_from first_rules s c.args.moment before (map asked_of xs) (nothing_yet s)) items,
+        round_begins c.args.site.now.checkables c.as_slice.result.now _ _ s before refl c.as_slice.ensures all c.in_ok-lines.ensures,
       );
     }
 
