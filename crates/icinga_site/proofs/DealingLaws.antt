@@ -6,7 +6,9 @@ use Rattle.site_model.specs.PlainSite.{PlainSite, PlainCheck}
 use Rattle.site_model.specs.declared.entry.Entry.{Entry}
 use Rattle.site_model.specs.declared.event.Event.TheVariants as event
 use Rattle.run_meaning.proofs.Lists.{get_within}
-use Rattle.run_meaning.specs.Dealing.{ticks_from, wants_tick}
+use Rattle.event_text.specs.Reading.{line_read}
+use Rattle.run_meaning.specs.Dealing.{Line, asking, faulty, Refusal, refused_line, line_events, line_refusals, ticks_from, wants_tick}
+use Rattle.icinga_site.specs.Replay.{line_told, lines_told}
 use Rattle.run_meaning.specs.Rounds.{Asked, Histories, of_index}
 use Rattle.icinga_site.specs.Standings.{StandsAt, AllStand}
 use Rattle.icinga_site.specs.declared.replay.standing.Standing.{Standing}
@@ -56,3 +58,27 @@ tick_asked rs s before moment k r w done more all stands h is wants grown so_far
 -- nothing was added
 pub same_map : {A B : Type 0} (f : A → B) (xs ys : List A) → ys ≡ xs → map f ys ≡ map f xs ++ []
 same_map f xs ys e = ap (map f) e ∙ sym (append-nil (map f xs))
+
+-- Line after line.
+
+events_step : (l : Line) (ls : List Line) → line_events (l ∷ ls) ≡ line_events (l ∷ []) ++ line_events ls
+events_step (asking a) ls = refl
+events_step (faulty f) ls = refl
+
+refusals_step : (n : ℕ) (l : Line) (ls : List Line) → line_refusals n (l ∷ ls) ≡ line_refusals n (l ∷ []) ++ line_refusals (suc n) ls
+refusals_step n (asking a) ls = let e : n + 1 ≡ suc n = omega arith in ap (λ k. line_refusals k ls) e
+refusals_step n (faulty f) ls = let e : n + 1 ≡ suc n = omega arith in ap (λ k. refused_line n f ∷ line_refusals k ls) e
+
+-- the events of one more line
+pub events_more : (s : PlainSite) (xs : List (List ℕ)) (i : ℕ) (x line : List ℕ) (done more all : List Asked) → i < length xs → x ≡ get_or xs i x → line ≡ x
+    → more ≡ done ++ line_events (line_told (line_read s line) ∷ []) → done ++ line_events (lines_told s (drop i xs)) ≡ all → more ++ line_events (lines_told s (drop (i + 1) xs)) ≡ all
+events_more s xs i x line done more all h is at grown so_far =
+    rest_more (λ n ls. line_events (lines_told s ls)) (line_events (line_told (line_read s x) ∷ [])) 0 1 xs i x done more all (omega arith) h is
+    (events_step (line_told (line_read s x)) (lines_told s (drop (i + 1) xs))) (grown ∙ ap (λ l. done ++ line_events (line_told (line_read s l) ∷ [])) at) so_far
+
+-- what is refused of one more line
+pub refusals_more : (s : PlainSite) (n : ℕ) (xs : List (List ℕ)) (i : ℕ) (x line : List ℕ) (done more all : List Refusal) → i < length xs → x ≡ get_or xs i x → line ≡ x
+    → more ≡ done ++ line_refusals n (line_told (line_read s line) ∷ []) → done ++ line_refusals n (lines_told s (drop i xs)) ≡ all → more ++ line_refusals (n + 1) (lines_told s (drop (i + 1) xs)) ≡ all
+refusals_more s n xs i x line done more all h is at grown so_far =
+    rest_more (λ k ls. line_refusals k (lines_told s ls)) (line_refusals n (line_told (line_read s x) ∷ [])) n (n + 1) xs i x done more all refl h is
+    (refusals_step n (line_told (line_read s x)) (lines_told s (drop (i + 1) xs))) (grown ∙ ap (λ l. done ++ line_refusals n (line_told (line_read s l) ∷ [])) at) so_far

@@ -52,12 +52,10 @@ fn deal_lines(
     lines: &[Blob],
     dealt: &mut Dealt,
 ) -> Result<(), OutOfMemory>
-    requires readable { list_any (λ line. is_later (line_read (site_view site.now) line)) lines.now ≡ false }
-    requires events { dealt.old.events.items ≡ [] }
-    requires refusals { dealt.old.refusals.items ≡ [] }
-    ensures events { OnOk result (map asked_of dealt.new.events.items ≡ line_events (lines_told (site_view site.now) lines.now)) }
-    ensures refusals { OnOk result (map refusal_of dealt.new.refusals.items ≡ line_refusals 1 (lines_told (site_view site.now) lines.now)) }
-    ensures in_form { OnOk result (All (λ a. IsInForm a.event) dealt.new.events.items) }
+    requires { list_any (λ line. is_later (line_read (site_view site.now) line)) lines.now ≡ false }
+    ensures events { OnOk result (map asked_of dealt.new.events.items ≡ map asked_of dealt.old.events.items ++ line_events (lines_told (site_view site.now) lines.now)) }
+    ensures refusals { OnOk result (map refusal_of dealt.new.refusals.items ≡ map refusal_of dealt.old.refusals.items ++ line_refusals 1 (lines_told (site_view site.now) lines.now)) }
+    ensures in_form { All (λ a. IsInForm a.event) dealt.old.events.items → OnOk result (All (λ a. IsInForm a.event) dealt.new.events.items) }
 {
     for (i, line) in lines.iter().enumerate() {
         deal_line(alloc, site, i as u64 + 1, line.as_slice(), dealt)?;

@@ -13,7 +13,7 @@ invariant-loop-i l =
     let s = site_view l.site in
     record {
       readable : list_any (λ line. is_later (line_read s line)) (drop l.i l.lines) ≡ false;
-      events : map asked_of l.dealt.events.items ++ line_events (lines_told s (drop l.i l.lines)) ≡ line_events (lines_told s l.fn.lines);
-      refusals : map refusal_of l.dealt.refusals.items ++ line_refusals (l.i + 1) (lines_told s (drop l.i l.lines)) ≡ line_refusals 1 (lines_told s l.fn.lines);
-      in_form : All (λ a. IsInForm a.event) l.dealt.events.items;
+      events : map asked_of l.dealt.events.items ++ line_events (lines_told s (drop l.i l.lines)) ≡ map asked_of l.initial.dealt.events.items ++ line_events (lines_told s l.fn.lines);
+      refusals : map refusal_of l.dealt.refusals.items ++ line_refusals (l.i + 1) (lines_told s (drop l.i l.lines)) ≡ map refusal_of l.initial.dealt.refusals.items ++ line_refusals 1 (lines_told s l.fn.lines);
+      in_form : All (λ a. IsInForm a.event) l.initial.dealt.events.items → All (λ a. IsInForm a.event) l.dealt.events.items;
     }
