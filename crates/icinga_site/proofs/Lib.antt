@@ -4,6 +4,7 @@ pub mod PairLaws
 pub mod ReadingForms
 pub mod Resting
 pub mod StandingLaws
+pub mod RunLaws
 pub mod Stepping
 pub mod TokenLaws
 pub mod TurnLaws

@@ -35,11 +35,11 @@ pub record IsSoFar (s : PlainSite) (turns moment : ℕ) (standings : List Standi
   pub whole : done ++ log_text s (run_alone_from first_rules no_orders missing_macro s logs stage (map (turn_told s) rest)) ≡ all
   pub written : Adds done old now
 
-none_taken : (rs : List Reported) → taken_reports [] rs ≡ []
+pub none_taken : (rs : List Reported) → taken_reports [] rs ≡ []
 none_taken [] = refl
 none_taken (r ∷ rs) = none_taken rs
 
-none_still : (rs : List Reported) → still rs [] ≡ []
+pub none_still : (rs : List Reported) → still rs [] ≡ []
 none_still [] = refl
 none_still (r ∷ rs) = none_still rs
 

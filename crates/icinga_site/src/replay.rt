@@ -7,6 +7,7 @@
 mod asked;
 mod dealing;
 mod dealt;
+mod laws;
 mod log;
 mod log_fault;
 mod needs;
