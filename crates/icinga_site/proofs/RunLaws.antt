@@ -1,5 +1,5 @@
 -- A replay is a run with one caller.
-use Rattle.std.proofs.Common.{◌≡◌, ℕ, zero, suc, ◌+◌, ◌<◌, ◌≤◌, max, Bool, true, false, cond, List, [], ◌∷◌, ◌++◌, length, map, slice_get, Option, Some, None, refl, sym, ap, ◌∙◌, subst, arith}
+use Rattle.std.proofs.Common.{◌≡◌, ℕ, zero, suc, ◌+◌, ◌<◌, max, Bool, true, false, cond, List, [], ◌∷◌, ◌++◌, length, map, Some, refl, sym, ap, ◌∙◌, subst, arith}
 use Rattle.std.proofs.lemmas.List.{append-nil}
 use Rattle.site_edge.specs.declared.turn.Turn.{Turn}
 use Rattle.site_model.specs.PlainSite.{PlainSite, PlainCheck}
@@ -8,7 +8,7 @@ use Rattle.event_text.specs.Reading.{line_read}
 use Rattle.run_meaning.specs.Alone.{AreOnSite, AreTurnsOnSite, IsOnSite, all_events, turn_alone}
 use Rattle.run_meaning.specs.Dealing.{Taken, still, line_events, taken_reports, ticks, ticks_from, wants_tick}
 use Rattle.run_meaning.specs.Rounds.{Asked, Histories, of_index}
-use Rattle.run_meaning.specs.Runs.{Stage, Told, TurnLog, reports_of, stage_behind, start}
+use Rattle.run_meaning.specs.Runs.{Stage, TurnLog, reports_of, stage_behind, start}
 use Rattle.icinga_site.specs.Replay.{first_rules, no_orders, missing_macro, line_told, lines_told, turn_told}
 use Rattle.icinga_site.proofs.DealingLaws.{tick_of}
 use Rattle.icinga_site.proofs.ReadingForms.{line_on_site}
@@ -55,8 +55,7 @@ turn_on_site s st t moment calm =
 turns_on_site : (s : PlainSite) (logs : List TurnLog) (st : Stage) (ts : List Turn) → IsCalm st → AreTurnsOnSite first_rules no_orders missing_macro s logs st (map (turn_told s) ts)
 turns_on_site s logs st [] calm = tt
 turns_on_site s logs st (t ∷ ts) calm =
-    let l = turn_alone first_rules no_orders s logs st (turn_told s t) in
-    (
+    let l = turn_alone first_rules no_orders s logs st (turn_told s t) in (
       turn_on_site s st t (max st.moment t.moment) calm,
       turns_on_site s (logs ++ l ∷ []) (stage_behind missing_macro st (turn_told s t) l) ts (record {
         outstanding = append-nil (still (reports_of st (turn_told s t)) st.outstanding) ∙ ap (still (reports_of st (turn_told s t))) calm.outstanding ∙ none_still (reports_of st (turn_told s t));
