@@ -1,5 +1,4 @@
--- What the turns of a script tell, and the run of them before anything is checked, ended or notified: what depends on
--- nothing else is replayed from passive results alone.
+-- What the turns of a script tell, and the run of them where nothing depends on anything, is ordered or is notified.
 use Rattle.std.specs.Prelude.{ℕ, List, [], ◌++◌, map, codes, Bool, true, false}
 use Rattle.std.specs.List.{list_any}
 use Rattle.plugin_line.specs.Output.{plugin_result}
