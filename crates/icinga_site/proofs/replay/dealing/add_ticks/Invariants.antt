@@ -1,3 +1,4 @@
+-- The ticks so far, followed by those of the rest, are all.
 use Rattle.std.proofs.Common.{◌≡◌, ◌++◌, map, drop, All}
 use Rattle.site_model.specs.PlainSite.{PlainSite}
 use Rattle.site_text.specs.Entries.{IsInForm}

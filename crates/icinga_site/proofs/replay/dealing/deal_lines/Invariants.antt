@@ -1,3 +1,4 @@
+-- What was dealt so far, followed by what the rest gives, is all.
 use Rattle.std.proofs.Common.{◌≡◌, ◌+◌, ◌++◌, map, drop, All, false}
 use Rattle.std.specs.List.{list_any}
 use Rattle.site_model.specs.PlainSite.{site_view}

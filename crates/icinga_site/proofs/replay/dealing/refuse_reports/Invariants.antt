@@ -1,3 +1,4 @@
+-- What was refused so far, followed by what is refused of the rest, is all.
 use Rattle.std.proofs.Common.{◌≡◌, ◌++◌, [], map, drop}
 use Rattle.run_meaning.specs.Dealing.{report_refusals}
 use Rattle.icinga_site.specs.Replay.{report_told}

@@ -1,3 +1,4 @@
+-- Each checkable so far stands as before its first entry.
 use Rattle.std.proofs.Common.{◌≡◌, ℕ, [], length, map, slice_get, Some}
 use Rattle.site_model.specs.PlainSite.{PlainCheck, check_view}
 use Rattle.icinga_site.specs.Standings.{StandsAt}

@@ -1,3 +1,4 @@
+-- What was written, followed by the log of the turns that are left, is all.
 use Rattle.std.proofs.Common.{◌≡◌, ◌≤◌, length, drop, false}
 use Rattle.std.specs.List.{list_any}
 use Rattle.site_model.specs.PlainSite.{site_view}

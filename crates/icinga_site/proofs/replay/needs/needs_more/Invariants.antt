@@ -1,3 +1,4 @@
+-- Whether more is needed is still to be told by what is left of the turns.
 use Rattle.std.proofs.Common.{◌≡◌, drop}
 use Rattle.std.specs.List.{list_any}
 use Rattle.site_model.specs.PlainSite.{site_view}

@@ -1,3 +1,4 @@
+-- Whether a line can't be read yet is still to be told by what is left of them.
 use Rattle.std.proofs.Common.{◌≡◌, drop}
 use Rattle.std.specs.List.{list_any}
 use Rattle.site_model.specs.PlainSite.{site_view}

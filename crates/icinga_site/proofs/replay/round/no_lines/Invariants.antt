@@ -1,3 +1,4 @@
+-- Each checkable so far has no lines.
 use Rattle.std.proofs.Common.{◌≡◌, [], map, take}
 use Rattle.icinga_site.proofs.replay.round.no_lines.Given as goal
 

@@ -1,3 +1,4 @@
+-- What is left of the events makes the whole round of what they made so far.
 use Rattle.std.proofs.Common.{◌≡◌, length, map, All}
 use Rattle.std.specs.Vec.Iter.{into_iter_items}
 use Rattle.site_model.specs.PlainSite.{site_view}

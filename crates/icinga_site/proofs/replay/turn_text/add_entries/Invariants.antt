@@ -1,3 +1,4 @@
+-- The lines so far, followed by those of the rest, are all.
 use Rattle.std.proofs.Common.{◌≡◌, ◌++◌}
 use Rattle.std.specs.List.{flat_map}
 use Rattle.std.specs.Vec.Iter.{into_iter_items}

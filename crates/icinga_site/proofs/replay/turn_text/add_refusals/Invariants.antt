@@ -1,3 +1,4 @@
+-- The lines so far, followed by those of the rest, are all.
 use Rattle.std.proofs.Common.{◌≡◌, ◌++◌, map, drop}
 use Rattle.icinga_site.specs.LogText.{refusal_line}
 use Rattle.icinga_site.specs.Standings.{refusal_of}

@@ -1,3 +1,4 @@
+-- One line more was written, or a part of one.
 use Rattle.std.proofs.Common.{arith, rules}
 use Rattle.icinga_site.proofs.Writing.{line_written, line_part}
 use Rattle.icinga_site.proofs.replay.writing.write_lines.Goals as goal

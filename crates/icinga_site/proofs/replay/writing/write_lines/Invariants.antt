@@ -1,3 +1,4 @@
+-- The lines so far were written.
 use Rattle.std.proofs.Common.{◌≤◌, take}
 use Rattle.std.specs.List.{concat}
 use Rattle.site_edge.specs.Lists.{Adds}
