@@ -1,5 +1,11 @@
 pub mod AnswerLaws
+pub mod DealingLaws
 pub mod PairLaws
+pub mod ReadingForms
+pub mod Resting
+pub mod StandingLaws
+pub mod RunLaws
 pub mod Stepping
 pub mod TokenLaws
+pub mod TurnLaws
 pub mod Writing

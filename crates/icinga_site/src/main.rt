@@ -6,6 +6,7 @@ mod answering;
 mod level;
 mod object_reading;
 mod parsed;
+mod replay;
 mod run_one;
 mod status;
 #[cfg(test)]

@@ -1,0 +1,16 @@
+// What a replay is.
+ghost use Rattle.std.specs.Prelude.{◌≡◌, List, map};
+ghost use Rattle.site_edge.specs.declared.turn.Turn.{Turn};
+ghost use Rattle.site_model.specs.PlainSite.{PlainSite};
+ghost use Rattle.run_meaning.specs.Runs.{TurnLog, IsRun};
+ghost use Rattle.icinga_site.specs.Replay.{first_rules, no_orders, missing_macro, replayed, turn_told};
+
+use run_meaning::a_log_is_one_function;
+
+/// The logs of a script's turns are those of a run with one caller, and there are no others.
+pub fn a_replay_is_a_run()
+    ensures is { (s : PlainSite) (ts : List Turn) → IsRun first_rules no_orders missing_macro s 1 (map (turn_told s) ts) (replayed s ts) }
+    ensures only { (s : PlainSite) (ts : List Turn) (ls : List TurnLog) → IsRun first_rules no_orders missing_macro s 1 (map (turn_told s) ts) ls → ls ≡ replayed s ts }
+{
+    a_log_is_one_function();
+}

@@ -1,0 +1,5 @@
+// Tests of replays over small sites and a sink in memory.
+mod faults;
+mod lines;
+mod site;
+mod ticks;
