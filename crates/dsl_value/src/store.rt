@@ -1,5 +1,5 @@
 // The store.
-ghost use Rattle.std.specs.Prelude.{◌≡◌, ◌<◌, ◌+◌, ◌^◌, ◌++◌, [], ◌∷◌, ◌↔◌, IfOk, OnOk, OnErr, IsErrOf, IsTrue, IfSome, IfNone, Some, None, length};
+ghost use Rattle.std.specs.Prelude.{◌≡◌, ◌<◌, ◌≤◌, ◌+◌, false, ◌^◌, ◌++◌, [], ◌∷◌, ◌↔◌, IfOk, OnOk, OnErr, IsErrOf, IsTrue, IfSome, IfNone, Some, None, length};
 ghost use Rattle.std.specs.List.{AllByRecursion};
 ghost use Rattle.std.specs.Arc.{arc_value};
 ghost use Rattle.dsl_value.specs.Contents.{Contents, PlainCell, array, dict, plain, function, function_at, cell_at, with_cell, with_cells, pushed, is_array, is_dict, values_of, pairs_of, with_value, with_pair, without_pair, IsInOrder};
@@ -176,7 +176,7 @@ impl Store {
         ensures ok { OnOk result (self.new ≡ with_cells self.old (with_cell self.old.cells cell (with_pair (cell_at self.old.cells cell) key value))) }
         ensures err { OnErr result (self.new ≡ self.old) }
     {
-        if cell < self.base {
+        if is_frozen(cell, self.base) {
             return Err(SetFault::Frozen { cell });
         }
         let place = cell as usize - self.frozen.len();
@@ -194,7 +194,7 @@ impl Store {
         ensures ok { OnOk result (self.new ≡ with_cells self.old (with_cell self.old.cells cell (with_value (cell_at self.old.cells cell) place value))) }
         ensures err { OnErr result (self.new ≡ self.old) }
     {
-        if cell < self.base {
+        if is_frozen(cell, self.base) {
             return Err(SetFault::Frozen { cell });
         }
         let at = cell as usize - self.frozen.len();
@@ -211,7 +211,7 @@ impl Store {
         ensures ok { OnOk result (self.new ≡ with_cells self.old (with_cell self.old.cells cell (pushed (cell_at self.old.cells cell) value))) }
         ensures err { OnErr result (self.new ≡ self.old) }
     {
-        if cell < self.base {
+        if is_frozen(cell, self.base) {
             return Err(SetFault::Frozen { cell });
         }
         let at = cell as usize - self.frozen.len();
@@ -228,13 +228,21 @@ impl Store {
         ensures ok { OnOk result (self.new ≡ with_cells self.old (with_cell self.old.cells cell (without_pair (cell_at self.old.cells cell) key.now))) }
         ensures err { OnErr result (self.new ≡ self.old) }
     {
-        if cell < self.base {
+        if is_frozen(cell, self.base) {
             return Err(SetFault::Frozen { cell });
         }
         let at = cell as usize - self.frozen.len();
         self.live.remove(at, key)?;
         Ok(())
     }
+}
+
+/// Whether a cell lies below the base.
+fn is_frozen(cell: u32, base: u32) -> bool
+    ensures frozen { IsTrue result → cell < base }
+    ensures live { result ≡ false → base ≤ cell }
+{
+    base > cell
 }
 
 /// The value of a key in a dictionary's cell.

@@ -1,4 +1,7 @@
 //! The store's answers by example, and the time that forks and dictionaries take.
-mod cells;
 mod equality;
+mod keys;
+mod made;
+mod nesting;
+mod refusals;
 mod speed;
