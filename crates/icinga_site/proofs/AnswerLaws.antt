@@ -2,7 +2,7 @@
 use Rattle.std.proofs.Common.{◌≡◌, ℕ, List, Option, Some, None, inl, inr, refl, sym, ap, ◌∙◌, subst}
 use Rattle.site_edge.specs.Told.{find_file}
 use Rattle.icinga_site.specs.Answers.{Reply, AnswersBytes, AnswersContent, Answers, reply_to, reply_to_objects}
-use Rattle.icinga_site.specs.FirstForm.{Named}
+use Rattle.icinga_site.specs.PairForm.{Named}
 use Rattle.icinga_site.specs.ObjectReading.{objects_of}
 use Rattle.icinga_site.proofs.PairLaws.{form_was, form_read}
 

@@ -7,7 +7,7 @@ use Rattle.icinga_site.specs.declared.level.Level.{Level}
 use Rattle.icinga_site.specs.declared.level.Level.TheVariants as level
 use Rattle.icinga_site.specs.declared.token.Token.{Token}
 use Rattle.icinga_site.specs.declared.token.Token.TheVariants as token
-use Rattle.icinga_site.specs.FirstForm.{Named, is_separator, are_separators, object_tokens, IsObject, fit, ArePair, IsFirstForm}
+use Rattle.icinga_site.specs.PairForm.{Named, is_separator, are_separators, object_tokens, IsObject, fit, ArePair, IsFirstForm}
 use Rattle.icinga_site.specs.ObjectReading.{Found, ◌>>=◌, after_word, after_open, after_close, after_equals, quoted_first, skip_separators, after_separators, one_object, pair_of, objects_of}
 use Rattle.icinga_site.specs.TokenReading.{tokens_of}
 use Rattle.icinga_site.proofs.TokenLaws.{both, first_of_both, second_of_both, reading_splits, splitting_reads}

@@ -6,7 +6,7 @@ use Rattle.site_edge.specs.Told.{ReadsFile}
 use Rattle.site_text.specs.Diags.{diag_text}
 use Rattle.site_text.specs.Listing.{listing_line}
 use Rattle.icinga_site.specs.declared.answer.Answer.{Answer}
-use Rattle.icinga_site.specs.FirstForm.{Named, IsFirstForm}
+use Rattle.icinga_site.specs.PairForm.{Named, IsFirstForm}
 use Rattle.icinga_site.specs.ObjectReading.{objects_of}
 
 -- the lines with which a run answers, and whether they are diagnostics

@@ -6,7 +6,7 @@ use Rattle.icinga_site.specs.declared.level.Level.TheVariants as level
 use Rattle.icinga_site.specs.declared.parsed.Parsed.{Parsed}
 use Rattle.icinga_site.specs.declared.token.Token.{Token}
 use Rattle.icinga_site.specs.declared.token.Token.TheVariants as token
-use Rattle.icinga_site.specs.FirstForm.{Named, fit, is_separator}
+use Rattle.icinga_site.specs.PairForm.{Named, fit, is_separator}
 use Rattle.icinga_site.specs.TokenReading.{tokens_of}
 
 infixl 10 ◌>>=◌

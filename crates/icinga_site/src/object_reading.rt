@@ -1,7 +1,7 @@
 // A text of the first form: a check command and a host that is checked by it.
 ghost use Rattle.std.specs.Prelude.{◌≡◌, option_map};
 ghost use Rattle.std.specs.Option.{option_copied};
-ghost use Rattle.icinga_site.specs.FirstForm.{fit, is_name as is_lawful_name, is_separator as separates};
+ghost use Rattle.icinga_site.specs.PairForm.{fit, is_name as is_lawful_name, is_separator as separates};
 ghost use Rattle.icinga_site.specs.ObjectReading.{found_of, named_of, one_object as object_at, pair_of, after_word as word_at, after_open as open_at, after_close as close_at, after_equals as equals_at, quoted_first as quoted_at, skip_separators as skipped, after_separators as behind_separators};
 
 use crate::level::Level;
