@@ -2,8 +2,5 @@ pub mod AnswerLaws
 pub mod CheckLaws
 pub mod GatheringLaws
 pub mod OrderLaws
-pub mod PairLaws
 pub mod SettingLaws
-pub mod Stepping
-pub mod TokenLaws
 pub mod Writing

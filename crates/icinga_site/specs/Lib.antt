@@ -2,10 +2,6 @@ pub mod Answers
 pub mod FirstForm
 pub mod FirstSites
 pub mod Gathering
-pub mod ObjectReading
 pub mod Orders
-pub mod PairForm
 pub mod Runs
 pub mod Statuses
-pub mod TokenReading
-pub mod Tokens

@@ -11,16 +11,11 @@ mod gathering;
 mod group;
 mod head;
 mod kind;
-mod level;
-mod object_reading;
-mod parsed;
 mod run_one;
 mod settings;
 mod status;
 #[cfg(test)]
 mod tests;
-mod token;
-mod token_reading;
 mod values;
 mod walked;
 mod words;
