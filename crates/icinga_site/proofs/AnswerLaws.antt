@@ -1,5 +1,5 @@
 -- Answers to walks.
-use Rattle.std.proofs.Common.{◌≡◌, ℕ, List, [], ◌∷◌, ◌++◌, map, Bool, false, Option, Some, None, refl, sym, ap, ◌∙◌}
+use Rattle.std.proofs.Common.{◌≡◌, ℕ, List, [], ◌∷◌, ◌++◌, map, false, Option, Some, None, refl, ap, ◌∙◌}
 use Rattle.site_model.specs.PlainSite.{object_view}
 use Rattle.site_model.specs.declared.object.Object.{Object}
 use Rattle.site_text.specs.Listing.{object_line}

@@ -1,9 +1,8 @@
 -- Names among names.
-use Rattle.std.proofs.Common.{◌≡◌, ◌<◌, ◌||◌, not, ℕ, List, [], ◌∷◌, length, nat_lt, Bool, true, false, cond, Option, Some, None, refl, sym, ap, ◌∙◌, rules, arith}
-use Rattle.std.specs.List.{list_any, position, position_or_len}
+use Rattle.std.proofs.Common.{◌≡◌, ℕ, List, [], ◌∷◌, length, nat_lt, Bool, true, false, cond, Some, None, refl, ◌∙◌, arith}
+use Rattle.std.specs.List.{list_any, position_or_len}
 use Rattle.std.specs.Option.{is_some}
 use Rattle.std.proofs.lemmas.Bool.Decides.{nat_tests}
-use Rattle.std.proofs.lemmas.Grind.{common_steps}
 use Rattle.std.specs.Str.{bytes_eq}
 use Rattle.site_model.specs.Names.{place_of}
 

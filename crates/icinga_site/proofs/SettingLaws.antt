@@ -1,14 +1,14 @@
 -- Targets and settings as the code reads them.
-use Rattle.std.proofs.Common.{◌≡◌, ◌==◌, ◌+◌, ◌<◌, ℕ, zero, suc, List, [], ◌∷◌, ◌++◌, length, drop, take, get_or, map, Bool, true, false, cond, Option, Some, None, option_map, refl, sym, ap, ◌∙◌, rules, arith}
+use Rattle.std.proofs.Common.{◌≡◌, ◌==◌, ◌+◌, ◌<◌, ℕ, zero, suc, List, [], ◌∷◌, length, drop, get_or, map, Bool, false, cond, Option, Some, None, option_map, refl, sym, ap, ◌∙◌, rules, arith}
 use Rattle.std.specs.List.{list_any, insert}
 use Rattle.std.specs.Str.{bytes_eq}
 use Rattle.std.specs.Cmp.Lexicographic.{slice_cmp}
 use Rattle.std.specs.Ordering.{nat_cmp}
 use Rattle.std.specs.declared.cmp.Ordering.{Ordering}
-use Rattle.std.specs.declared.cmp.Ordering.TheVariants.{Less, Equal, Greater}
-use Rattle.std.proofs.lemmas.List.{drop_more, map-append}
+use Rattle.std.specs.declared.cmp.Ordering.TheVariants.{Greater}
+use Rattle.std.proofs.lemmas.List.{drop_more}
 use Rattle.site_base.specs.Syntax.{Root, at_name, at_this, at_globals, no_steps, no_uses, Expression, Statements}
-use Rattle.site_base.specs.SyntaxView.{steps_view, step_then, uses_view}
+use Rattle.site_base.specs.SyntaxView.{steps_view, uses_view}
 use Rattle.site_base.specs.View.{pair_view}
 use Rattle.site_base.specs.declared.syntax.expr_kind.ExprKind.TheBlock.{Step::Member, Step::Index'}
 use Rattle.site_base.specs.declared.syntax.set_op.SetOp.{SetOp}

@@ -1,5 +1,5 @@
 -- Sites of the first form, gathered object by object.
-use Rattle.std.specs.Prelude.{ℕ, ◌≡◌, ◌+◌, List, [], ◌∷◌, ◌++◌, Option, Some, None, Result, Ok, Err, MatchResult, map, option_map, option_and_then, if◌then◌else◌}
+use Rattle.std.specs.Prelude.{ℕ, ◌≡◌, ◌+◌, List, [], ◌∷◌, ◌++◌, Option, Some, None, Result, MatchResult, map, option_map, option_and_then, if◌then◌else◌}
 use Rattle.std.specs.Borrow.{Bor}
 use Rattle.std.specs.List.{list_any}
 use Rattle.std.specs.Str.{bytes_eq}
@@ -7,7 +7,6 @@ use Rattle.site_base.specs.Syntax.{Statement, Statements}
 use Rattle.site_base.specs.SyntaxView.{expr_view, block_view}
 use Rattle.site_base.specs.View.{pair_view}
 use Rattle.site_model.specs.PlainSite.{PlainObject, object_view}
-use Rattle.site_model.specs.declared.object.Object.{Object}
 use Rattle.icinga_site.specs.declared.first_site.FirstSite.{FirstSite}
 use Rattle.icinga_site.specs.declared.form_error.FormError.{FormError}
 use Rattle.icinga_site.specs.declared.form_error.FormError.TheVariants.{OtherForm}
