@@ -4,7 +4,7 @@ use std::test::Fail;
 
 #[test]
 fn faults_of_files_are_told(rt: HostRuntime) -> Result<(), Fail> {
-    let rows: [(&[(&str, &str)], &str); 12] = [
+    let rows: [(&[(&str, &str)], &str); 9] = [
         (&[], "r:1:1: NoFile \"r\"\n"),
         (&[("s", PAIR)], "r:1:1: NoFile \"r\"\n"),
         (&[("r", "object Host \"a\" {")], "r:1:18: Syntax\n"),
@@ -23,6 +23,16 @@ fn faults_of_files_are_told(rt: HostRuntime) -> Result<(), Fail> {
             &[("r", "include \"d/a\"\n"), ("d/a", "include \"b\"\n")],
             "d/a:1:9: NoFile \"d/b\"\n",
         ),
+    ];
+    for (files, text) in rows {
+        faults_are(&rt, rt.alloc(), files, text)?;
+    }
+    Ok(())
+}
+
+#[test]
+fn faults_of_several_files_are_told_in_walking_order(rt: HostRuntime) -> Result<(), Fail> {
+    let rows: [(&[(&str, &str)], &str); 3] = [
         (
             &[
                 ("r", "include \"a\"\ninclude \"b\"\nvar x = 1\n"),

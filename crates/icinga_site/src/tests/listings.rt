@@ -2,6 +2,8 @@
 use super::{COMMAND, LISTING, PAIR, lists};
 use std::test::Fail;
 
+const HOST: &str = "object Host \"a\" { check_command = \"c\" }\n";
+
 #[test]
 fn a_pair_is_listed(rt: HostRuntime) -> Result<(), Fail> {
     for root in [
@@ -90,39 +92,21 @@ fn commands_stand_before_hosts(rt: HostRuntime) -> Result<(), Fail> {
 
 #[test]
 fn included_files_stand_at_their_inclusions(rt: HostRuntime) -> Result<(), Fail> {
-    let host = "object Host \"a\" { check_command = \"c\" }\n";
-    let rows: [&[(&str, &str)]; 9] = [
+    let rows: [&[(&str, &str)]; 5] = [
         &[
             ("r", "include \"c\"\ninclude \"h\"\n"),
             ("c", COMMAND),
-            ("h", host),
+            ("h", HOST),
         ],
         &[
             ("r", "include \"h\"\ninclude \"c\"\n"),
             ("c", COMMAND),
-            ("h", host),
-        ],
-        &[
-            ("r", "include \"conf.d/*.conf\"\n"),
-            ("conf.d/1.conf", host),
-            ("conf.d/2.conf", COMMAND),
-            ("conf.d/3", "x"),
-        ],
-        &[
-            ("r", "include_recursive \"conf.d\"\n"),
-            ("conf.d/a/1.conf", host),
-            ("conf.d/2.conf", COMMAND),
-            ("conf.d/3", "x"),
-        ],
-        &[
-            ("r", "include_recursive \"conf.d\", \"*.x\"\n"),
-            ("conf.d/a/1.x", host),
-            ("conf.d/2.x", COMMAND),
+            ("h", HOST),
         ],
         &[
             ("r", "include \"d/1\"\n"),
             ("d/1", "include \"2\"\ninclude \"/e/3\"\n"),
-            ("d/2", host),
+            ("d/2", HOST),
             ("/e/3", COMMAND),
         ],
         &[
@@ -131,15 +115,42 @@ fn included_files_stand_at_their_inclusions(rt: HostRuntime) -> Result<(), Fail>
             ("p", PAIR),
         ],
         &[
-            ("r", "include \"*.none\"\ninclude <nscp>\ninclude \"p\"\n"),
-            ("p", PAIR),
-        ],
-        &[
             ("r", "include \"1\"\n"),
             ("1", "include \"2\"\n"),
             ("2", "include \"3\"\ninclude \"h\"\n"),
             ("3", COMMAND),
-            ("h", host),
+            ("h", HOST),
+        ],
+    ];
+    for files in rows {
+        lists(&rt, rt.alloc(), files, LISTING)?;
+    }
+    Ok(())
+}
+
+#[test]
+fn files_of_folders_stand_at_their_inclusions(rt: HostRuntime) -> Result<(), Fail> {
+    let rows: [&[(&str, &str)]; 4] = [
+        &[
+            ("r", "include \"conf.d/*.conf\"\n"),
+            ("conf.d/1.conf", HOST),
+            ("conf.d/2.conf", COMMAND),
+            ("conf.d/3", "x"),
+        ],
+        &[
+            ("r", "include_recursive \"conf.d\"\n"),
+            ("conf.d/a/1.conf", HOST),
+            ("conf.d/2.conf", COMMAND),
+            ("conf.d/3", "x"),
+        ],
+        &[
+            ("r", "include_recursive \"conf.d\", \"*.x\"\n"),
+            ("conf.d/a/1.x", HOST),
+            ("conf.d/2.x", COMMAND),
+        ],
+        &[
+            ("r", "include \"*.none\"\ninclude <nscp>\ninclude \"p\"\n"),
+            ("p", PAIR),
         ],
     ];
     for files in rows {

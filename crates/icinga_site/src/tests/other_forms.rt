@@ -34,7 +34,7 @@ fn other_statements_are_not_yet(rt: HostRuntime) -> Result<(), Fail> {
 }
 
 #[test]
-fn other_hosts_are_not_yet(rt: HostRuntime) -> Result<(), Fail> {
+fn other_bodies_of_hosts_are_not_yet(rt: HostRuntime) -> Result<(), Fail> {
     for host in [
         "\"a\" { }",
         "\"a\" { address = \"1\" }",
@@ -58,6 +58,18 @@ fn other_hosts_are_not_yet(rt: HostRuntime) -> Result<(), Fail> {
         "\"a\" { check_command = \"c\"; address = \"a\\\"b\" }",
         "\"a\" { check_command = \"c\"; address = {{{a\\b}}} }",
         "\"a\" { check_command = \"c\"; display_name = \"\u{e9}\" }",
+        "\"a\" { check_command = \"c\"; if (true) { } }",
+        "\"a\" { check_command = \"c\"; import \"t\" }",
+    ] {
+        let root = format!(in rt.alloc(); "{COMMAND}object Host {host}\n")?;
+        faults_are(&rt, rt.alloc(), &[("r", root.as_str())], NOT_YET)?;
+    }
+    Ok(())
+}
+
+#[test]
+fn other_values_of_hosts_are_not_yet(rt: HostRuntime) -> Result<(), Fail> {
+    for host in [
         "\"a\" { check_command = \"c\"; enable_active_checks = true }",
         "\"a\" { check_command = \"c\"; enable_active_checks = 0 }",
         "\"a\" { check_command = \"c\"; enable_active_checks = \"false\" }",
@@ -67,8 +79,16 @@ fn other_hosts_are_not_yet(rt: HostRuntime) -> Result<(), Fail> {
         "\"a\" { check_command = \"c\"; max_check_attempts = -1 }",
         "\"a\" { check_command = \"c\"; max_check_attempts = \"3\" }",
         "\"a\" { check_command = \"c\"; max_check_attempts = 3; max_check_attempts = 3 }",
-        "\"a\" { check_command = \"c\"; if (true) { } }",
-        "\"a\" { check_command = \"c\"; import \"t\" }",
+    ] {
+        let root = format!(in rt.alloc(); "{COMMAND}object Host {host}\n")?;
+        faults_are(&rt, rt.alloc(), &[("r", root.as_str())], NOT_YET)?;
+    }
+    Ok(())
+}
+
+#[test]
+fn other_names_of_hosts_are_not_yet(rt: HostRuntime) -> Result<(), Fail> {
+    for host in [
         "\"\" { check_command = \"c\" }",
         "\"a!b\" { check_command = \"c\" }",
         "\"a\\tb\" { check_command = \"c\" }",
