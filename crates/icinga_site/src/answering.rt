@@ -1,8 +1,9 @@
 // What answers to `objects ROOT`.
-ghost use Rattle.std.specs.Prelude.{◌≡◌, ◌++◌, [], ◌∷◌, map, IfOk, OnOk};
+ghost use Rattle.std.specs.Prelude.{◌≡◌, ◌++◌, map, length, IfOk, OnOk};
 ghost use Rattle.site_base.specs.SyntaxView.{file_view};
 ghost use Rattle.site_text.specs.Diags.{diag_line};
 ghost use Rattle.site_text.specs.Listing.{object_line};
+ghost use Rattle.site_conf.specs.Sound.{AreIn, IsWhole};
 ghost use Rattle.site_conf.specs.Views.{answer_view};
 ghost use Rattle.icinga_site.specs.Answers.{reply_of, reply_to, reply_to_site, diagnoses as diagnoses_of, listing as listing_of, not_yet as not_yet_of};
 ghost use Rattle.icinga_site.specs.FirstSites.{first_site as first_site_of};
@@ -20,6 +21,7 @@ use std::alloc::Global;
 
 /// What answers to a walk from the root.
 pub fn answer_to(alloc: Global, root: &str, walked: WalkAnswer) -> Result<Answer, OutOfMemory>
+    requires { IsWhole walked }
     ensures { IfOk result (λ a. reply_of a ≡ reply_to root.now (answer_view walked)) }
 {
     match walked {
@@ -68,30 +70,19 @@ fn push_objects(alloc: Global, lines: &mut Texts, objects: &[Object]) -> Result<
     Ok(())
 }
 
-/// The diagnostics of a walk.
+/// The diagnostics of a walk over these files.
 fn diagnoses(alloc: Global, files: &Texts, list: &[Diag]) -> Result<Answer, OutOfMemory>
+    requires { AreIn (length files.now) list.now }
     ensures { IfOk result (λ a. reply_of a ≡ diagnoses_of files.now list.now) }
 {
     let mut lines = Row::new(alloc);
     for diag in list {
-        lines.push(line_of(alloc, diag, files)?)?;
+        lines.push(print_diag(alloc, diag, files)?)?;
     }
     Ok(Answer {
         lines,
         diagnosed: true,
     })
-}
-
-/// The line of a diagnostic; the file that its place is in has no name where it is none of these.
-fn line_of(alloc: Global, diag: &Diag, files: &Texts) -> Result<Text, OutOfMemory>
-    ensures { IfOk result (λ t. t ≡ diag_line files.now diag.now) }
-{
-    if (diag.place.file as usize) < files.len() {
-        return print_diag(alloc, diag, files);
-    }
-    let mut diag = diag.clone()?;
-    diag.place.file = 0;
-    print_diag(alloc, &diag, &one_file(alloc, "")?)
 }
 
 /// The diagnostic that the program can't take the root yet.
@@ -116,19 +107,12 @@ fn not_yet(alloc: Global, root: &str) -> Result<Answer, OutOfMemory>
         kind: DiagKind::NotYet,
         text: Text::new(alloc),
     };
+    let mut files = Row::new(alloc);
+    files.push(Text::copy_of(alloc, root)?)?;
     let mut lines = Row::new(alloc);
-    lines.push(print_diag(alloc, &diag, &one_file(alloc, root)?)?)?;
+    lines.push(print_diag(alloc, &diag, &files)?)?;
     Ok(Answer {
         lines,
         diagnosed: true,
     })
-}
-
-/// A list of one file.
-fn one_file(alloc: Global, name: &str) -> Result<Texts, OutOfMemory>
-    ensures { IfOk result (λ files. files ≡ name.now ∷ []) }
-{
-    let mut files = Row::new(alloc);
-    files.push(Text::copy_of(alloc, name)?)?;
-    Ok(files)
 }

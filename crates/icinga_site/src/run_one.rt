@@ -3,6 +3,7 @@ ghost use Rattle.std.specs.Prelude.{◌≡◌, ◌≢◌, ◌≤◌, ◌↔◌, 
 ghost use Rattle.std.specs.List.{concat};
 ghost use Rattle.site_edge.specs.Lists.{Adds, AddsPart};
 ghost use Rattle.site_edge.specs.Told.{Rose};
+ghost use Rattle.site_conf.specs.Sound.{IsWhole};
 ghost use Rattle.site_conf.specs.Views.{answer_view};
 ghost use Rattle.icinga_site.specs.Answers.{Reply, Answers, reply_to, reply_of};
 ghost use Rattle.icinga_site.specs.Runs.{root_of as root_in, Ends, EndsRun};
@@ -64,6 +65,7 @@ fn list_objects<F: Files, S: Sink>(alloc: Global, root: &str, files: &mut F, out
 
 /// Writes what answers to a walk from the root.
 fn write_answer<S: Sink>(alloc: Global, root: &str, walked: WalkAnswer, out: &mut S) -> Status
+    requires { IsWhole walked }
     ensures no_read_fault { result ≢ Status.ReadFault }
     ensures written { Ends result (reply_to root.now (answer_view walked)) (S.written out.old) (S.written out.new) }
     ensures write_fault { result ≡ Status.WriteFault → Rose (S.faults out.old) (S.faults out.new) }
