@@ -1,11 +1,12 @@
 pub mod AnswerLaws
+pub mod CheckLaws
 pub mod DealingLaws
-pub mod PairLaws
+pub mod GatheringLaws
+pub mod OrderLaws
 pub mod ReadingForms
 pub mod Resting
-pub mod StandingLaws
 pub mod RunLaws
-pub mod Stepping
-pub mod TokenLaws
+pub mod SettingLaws
+pub mod StandingLaws
 pub mod TurnLaws
 pub mod Writing

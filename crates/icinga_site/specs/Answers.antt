@@ -1,13 +1,12 @@
 -- With which lines the program answers.
-use Rattle.std.specs.Prelude.{ℕ, ◌≡◌, ◌⊎◌, Bool, true, false, List, [], ◌∷◌, Option, Some, None, codes}
-use Rattle.site_base.specs.Data.{Data, string, dict, no_pairs, pair}
-use Rattle.site_base.specs.Quoted.{quoted}
-use Rattle.site_edge.specs.Told.{ReadsFile}
-use Rattle.site_text.specs.Diags.{diag_text}
+use Rattle.std.specs.Prelude.{ℕ, ◌≡◌, Bool, true, false, List, [], ◌∷◌, ◌++◌, map, Option, Some, None, IfSome, codes}
+use Rattle.site_base.specs.declared.diag.Diag.{Diag}
+use Rattle.site_model.specs.PlainSite.{PlainObject}
+use Rattle.site_text.specs.Diags.{diag_text, diag_line}
 use Rattle.site_text.specs.Listing.{listing_line}
+use Rattle.site_conf.specs.Walks.{WalkOutcome, site, faults, walk_outcome}
 use Rattle.icinga_site.specs.declared.answer.Answer.{Answer}
-use Rattle.icinga_site.specs.FirstForm.{Named, IsFirstForm}
-use Rattle.icinga_site.specs.ObjectReading.{objects_of}
+use Rattle.icinga_site.specs.FirstSites.{FirstObjects, first_site}
 
 -- the lines with which a run answers, and whether they are diagnostics
 pub record Reply : Type 0 where
@@ -17,48 +16,29 @@ pub record Reply : Type 0 where
 abbrev pub reply_of : Answer → Reply
 reply_of a = record { lines = a.lines; diagnosed = a.diagnosed }
 
--- an object's attributes: its one setting and its name, in byte order
-abbrev pub setting_tree : List ℕ → Named → Data
-setting_tree attribute o = dict (pair attribute (string o.value) (pair (codes "name") (string o.name) no_pairs))
+abbrev pub plain_line : PlainObject → List ℕ
+plain_line o = listing_line o.kind o.name o.tree
 
--- an object's line in the listing
-abbrev pub listed : List ℕ → List ℕ → Named → List ℕ
-listed kind attribute o = listing_line kind o.name (setting_tree attribute o)
+-- the check commands and then the hosts
+abbrev pub listing : FirstObjects → Reply
+listing s = record { lines = map plain_line (s.commands ++ s.hosts); diagnosed = false }
 
-abbrev pub listing : Named → Named → Reply
-listing command host =
-    record { lines = listed (codes "CheckCommand") (codes "command") command ∷ listed (codes "Host") (codes "check_command") host ∷ []; diagnosed = false }
-
--- one diagnostic at the head of the root
-abbrev pub diagnosis : List ℕ → List ℕ → List ℕ → Reply
-diagnosis root kind detail = record { lines = diag_text root 1 1 kind detail ∷ []; diagnosed = true }
-
-abbrev pub no_file : List ℕ → Reply
-no_file root = diagnosis root (codes "NoFile") (quoted root)
-
+-- the root can't be taken yet
 abbrev pub not_yet : List ℕ → Reply
-not_yet root = diagnosis root (codes "NotYet") []
+not_yet root = record { lines = diag_text root 1 1 (codes "NotYet") [] ∷ []; diagnosed = true }
 
--- what answers to the bytes of the root: the listing of a text of the first form, and of every other text that it can't be taken yet
-abbrev pub AnswersBytes : List ℕ → List ℕ → Reply → Type 0
-AnswersBytes root bytes reply =
-    ((command host : Named) × IsFirstForm bytes command host × (reply ≡ listing command host))
-    ⊎ (((command host : Named) → IsFirstForm bytes command host → ⊥) × (reply ≡ not_yet root))
+abbrev pub diagnoses : List (List ℕ) → List Diag → Reply
+diagnoses files list = record { lines = map (diag_line files) list; diagnosed = true }
 
--- what answers to what the root holds, where it is there
-abbrev pub AnswersContent : List ℕ → Option (List ℕ) → Reply → Type 0
-AnswersContent root None reply = reply ≡ no_file root
-AnswersContent root (Some bytes) reply = AnswersBytes root bytes reply
+abbrev pub reply_to_site : List ℕ → Option FirstObjects → Reply
+reply_to_site root None = not_yet root
+reply_to_site root (Some s) = listing s
 
--- what answers to `objects ROOT`: the root holds what is told of it, or, where nothing is told, anything
+-- what answers to a walk from the root: its diagnostics, all of them; else the listing of a site of the first form
+abbrev pub reply_to : List ℕ → WalkOutcome → Reply
+reply_to root (site names trees order) = reply_to_site root (first_site trees order)
+reply_to root (faults names list) = diagnoses names list
+
+-- what answers to `objects ROOT` where the files are told, and else anything
 abbrev pub Answers : List ℕ → Option (List (List ℕ × List ℕ)) → Reply → Type 0
-Answers root told reply = (content : Option (List ℕ)) × ReadsFile root told content × AnswersContent root content reply
-
-abbrev pub reply_to_objects : List ℕ → Option (Named × Named) → Reply
-reply_to_objects root None = not_yet root
-reply_to_objects root (Some o) = listing o.0 o.1
-
--- the answer, computed
-abbrev pub reply_to : List ℕ → Option (List ℕ) → Reply
-reply_to root None = no_file root
-reply_to root (Some bytes) = reply_to_objects root (objects_of bytes)
+Answers root told reply = IfSome told (λ files. reply ≡ reply_to root (walk_outcome files root))

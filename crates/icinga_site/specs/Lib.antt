@@ -1,11 +1,11 @@
 pub mod Answers
 pub mod FirstForm
+pub mod FirstSites
+pub mod Gathering
 pub mod LogFaults
 pub mod LogText
-pub mod ObjectReading
+pub mod Orders
 pub mod Replay
 pub mod Runs
 pub mod Standings
 pub mod Statuses
-pub mod TokenReading
-pub mod Tokens

@@ -27,6 +27,6 @@ Ends WriteFault reply old new = AddsPart (concat reply.lines) old new
 Ends WorldFault reply old new = ⊥
 Ends OutOfMemory reply old new = AddsPart (concat reply.lines) old new
 
--- a run of `objects ROOT` ended so: what was written is, as far as it was written, what answers to what the root holds
+-- a run of `objects ROOT` ended so: what was written is, as far as it was written, what answers to the walk over the files
 abbrev pub EndsRun : Status → List ℕ → Option (List (List ℕ × List ℕ)) → Option (List ℕ) → Option (List ℕ) → Type 0
 EndsRun status root told old new = (reply : Reply) × Answers root told reply × Ends status reply old new

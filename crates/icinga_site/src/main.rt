@@ -3,16 +3,22 @@
 
 mod answer;
 mod answering;
-mod level;
-mod object_reading;
-mod parsed;
+mod checks;
+mod first_site;
+mod form_error;
+mod form_object;
+mod gathering;
+mod group;
+mod head;
+mod kind;
 mod replay;
 mod run_one;
+mod settings;
 mod status;
 #[cfg(test)]
 mod tests;
-mod token;
-mod token_reading;
+mod values;
+mod walked;
 mod words;
 
 use crate::run_one::run_one;

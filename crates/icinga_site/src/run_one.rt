@@ -3,6 +3,8 @@ ghost use Rattle.std.specs.Prelude.{◌≡◌, ◌≢◌, ◌≤◌, ◌↔◌, 
 ghost use Rattle.std.specs.List.{concat};
 ghost use Rattle.site_edge.specs.Lists.{Adds, AddsPart};
 ghost use Rattle.site_edge.specs.Told.{Rose};
+ghost use Rattle.site_conf.specs.Sound.{IsWhole};
+ghost use Rattle.site_conf.specs.Views.{answer_view};
 ghost use Rattle.icinga_site.specs.Answers.{Reply, Answers, reply_to, reply_of};
 ghost use Rattle.icinga_site.specs.Runs.{root_of as root_in, Ends, EndsRun};
 
@@ -10,8 +12,9 @@ use crate::answer::Answer;
 use crate::answering::answer_to;
 use crate::status::Status;
 use crate::words::root_of;
-use site_base::{Blob, Text};
-use site_edge::{FileFault, Files, Sink, SinkFault, World};
+use site_base::Text;
+use site_conf::{LoadFault, WalkAnswer, walk};
+use site_edge::{Files, Sink, SinkFault, World};
 use std::alloc::Global;
 
 /// Does what the words of a command line ask for, with one worker, and waits for nobody.
@@ -29,7 +32,7 @@ pub fn run_one<F: Files, W: World, S: Sink>(
     ensures usage { (result ≡ Some Status.Usage) ↔ (root_in words.now ≡ None) }
     ensures refused { result ≡ Some Status.Usage → (files.new ≡ files.old) × (out.new ≡ out.old) }
 
-    // What was written is the answer to what the root holds, or after a fault a prefix of it.
+    // What was written is the answer to the walk over the files, or after a fault a prefix of it.
     ensures written { IfSome (root_in words.now) (λ root. IfSome result (λ status.
         EndsRun status root (F.told files.old) (S.written out.old) (S.written out.new))) }
 
@@ -45,7 +48,7 @@ pub fn run_one<F: Files, W: World, S: Sink>(
     }
 }
 
-/// Writes the listing of the objects that the root makes, or its diagnostics.
+/// Writes the listing of the objects that the files from the root on make, or their diagnostics.
 fn list_objects<F: Files, S: Sink>(alloc: Global, root: &str, files: &mut F, out: &mut S) -> Status
     ensures never_usage { result ≢ Status.Usage }
     ensures written { EndsRun result root.now (F.told files.old) (S.written out.old) (S.written out.new) }
@@ -53,20 +56,21 @@ fn list_objects<F: Files, S: Sink>(alloc: Global, root: &str, files: &mut F, out
     ensures read_fault { result ≡ Status.ReadFault → Rose (F.faults files.old) (F.faults files.new) }
     ensures write_fault { result ≡ Status.WriteFault → Rose (S.faults out.old) (S.faults out.new) }
 {
-    match files.read(root) {
-        Ok(content) => write_answer(alloc, root, content, out),
-        Err(FileFault::Failed) => Status::ReadFault,
-        Err(FileFault::OutOfMemory) => Status::OutOfMemory,
+    match walk(alloc, files, root) {
+        Ok(walked) => write_answer(alloc, root, walked, out),
+        Err(LoadFault::Failed) => Status::ReadFault,
+        Err(LoadFault::OutOfMemory) => Status::OutOfMemory,
     }
 }
 
-/// Writes what answers to what the root holds.
-fn write_answer<S: Sink>(alloc: Global, root: &str, content: Option<Blob>, out: &mut S) -> Status
+/// Writes what answers to a walk from the root.
+fn write_answer<S: Sink>(alloc: Global, root: &str, walked: WalkAnswer, out: &mut S) -> Status
+    requires { IsWhole walked }
     ensures no_read_fault { result ≢ Status.ReadFault }
-    ensures written { Ends result (reply_to root.now content) (S.written out.old) (S.written out.new) }
+    ensures written { Ends result (reply_to root.now (answer_view walked)) (S.written out.old) (S.written out.new) }
     ensures write_fault { result ≡ Status.WriteFault → Rose (S.faults out.old) (S.faults out.new) }
 {
-    let answer = match answer_to(alloc, root, content) {
+    let answer = match answer_to(alloc, root, walked) {
         Ok(answer) => answer,
         Err(_) => return Status::OutOfMemory,
     };

@@ -1,8 +1,9 @@
 use Rattle.std.proofs.Common.{List, ℕ, [], Some, None, Option, append-nil, refl, sym, ap}
 use Rattle.std.specs.List.{concat}
+use Rattle.site_conf.specs.Views.{answer_view}
 use Rattle.site_edge.specs.Lists.{AddsPart}
 use Rattle.icinga_site.specs.Answers.{reply_to}
-use Rattle.icinga_site.proofs.AnswerLaws.{answers_content, some_answer}
+use Rattle.icinga_site.proofs.AnswerLaws.{answers_walked, some_answer}
 use Rattle.icinga_site.proofs.run_one.list_objects.Goals as goal
 
 -- nothing was added
@@ -12,7 +13,7 @@ adds_none more (Some all) = ([], more, refl, ap Some (sym (append-nil all)))
 
 pub returns-in-Ok-clause-written : goal.returns-in-Ok-clause-written
 returns-in-Ok-clause-written g c =
-    (reply_to c.args.root.now c.in-Ok.content, (c.in-Ok.content, c.in-Ok.ensures.bytes, answers_content c.args.root.now c.in-Ok.content), c.write_answer.ensures.written)
+    (reply_to c.args.root.now (answer_view c.in-Ok.walked), answers_walked c.args.root.now (g.F.Files.told c.args.files.now) (answer_view c.in-Ok.walked) c.in-Ok.ensures.value, c.write_answer.ensures.written)
 
 pub returns-in-Err-Failed-clause-written : goal.returns-in-Err-Failed-clause-written
 returns-in-Err-Failed-clause-written g c =
