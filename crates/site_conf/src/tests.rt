@@ -1,14 +1,16 @@
 // Walks over small sites in memory, and at the limits.
+mod faults;
 mod tables;
 
 use crate::{LoadFault, Walk, WalkAnswer, walk};
+use faults::FAULTS;
 use site_base::{Blob, Diag, Row, Text, Texts};
 use site_edge::MemFiles;
 use std::alloc::Global;
 use std::fmt::Write;
 use std::process::Abort;
 use std::test::Fail;
-use tables::{FAULTS, FOLDERS, LIBRARY, NAMES, SEVERAL, WILDCARDS};
+use tables::{FOLDERS, LIBRARY, NAMES, SEVERAL, WILDCARDS};
 
 /// A file that holds a text.
 fn file(alloc: Global, name: &str, text: &str) -> Result<(Text, Blob), Fail> {
