@@ -7,3 +7,4 @@ pub mod KeyLaws
 pub mod NamingLaws
 pub mod WalkLaws
 pub mod SoundLaws
+pub mod Outcomes
