@@ -1,15 +1,15 @@
 -- What a store keeps of itself, under each change.
-use Rattle.std.proofs.Common.{◌≡◌, ℕ, zero, suc, ◌+◌, ◌-◌, ◌<◌, ◌≤◌, ◌^◌, Bool, true, false, cond, not, T, List, [], ◌∷◌, ◌++◌, length, get_or, set, slice_get, Some, refl, sym, ap, subst, ◌∙◌, arith}
+use Rattle.std.proofs.Common.{◌≡◌, ℕ, ◌+◌, ◌-◌, ◌<◌, ◌≤◌, ◌^◌, Bool, true, false, cond, not, List, [], ◌∷◌, ◌++◌, length, get_or, set, slice_get, Some, refl, sym, ap, subst, ◌∙◌, arith}
 use Rattle.std.specs.List.{AllByRecursion, filter}
 use Rattle.std.specs.Ordering.{eq_by_cmp, match_ordering}
 use Rattle.std.specs.FinMap.Entries as entries
 use Rattle.std.specs.declared.cmp.Ordering.TheVariants.{Less, Equal, Greater}
 use Rattle.std.proofs.lemmas.List.{set-append_right, get_or-append_right, length-set, append-nil}
-use Rattle.std.proofs.lemmas.Option.{get_or_from_slice_get, slice_get-get_or}
+use Rattle.std.proofs.lemmas.Option.{get_or_from_slice_get}
 use Rattle.std.proofs.lemmas.List.Elements.{All-set, All-from_recursion, recursion_from_All}
 use Rattle.dsl_value.specs.declared.value.Value.{Value}
 use Rattle.dsl_value.specs.declared.value.Value.TheVariants as value
-use Rattle.dsl_value.specs.Pairs.{Pairs, key_cmp, is_sorted, put, without, dict_of}
+use Rattle.dsl_value.specs.Pairs.{Pairs, key_cmp, put, dict_of}
 use Rattle.dsl_value.proofs.Places.{sorted_put}
 use Rattle.dsl_value.specs.Contents.{PlainCell, array, dict, PlainFunction, Contained, Contents, with_cells, cell_at, pushed, with_value, with_pair, without_pair, IsInOrder}
 use Rattle.dsl_value.specs.Whole.{Names, NamesAll, Stands, Captures, IsWhole, IsKept}

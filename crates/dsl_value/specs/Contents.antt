@@ -1,11 +1,9 @@
 -- Cells, functions and stores as plain values.
-use Rattle.std.specs.Prelude.{ℕ, ◌+◌, ◌<◌, Bool, List, [], ◌∷◌, ◌++◌, map, length, slice_set, slice_index_or, slice_get, true, false, T, Option}
-use Rattle.std.specs.List.{AllByRecursion}
+use Rattle.std.specs.Prelude.{ℕ, Bool, List, [], ◌∷◌, ◌++◌, slice_set, slice_index_or, slice_get, true, false, T, Option}
 use Rattle.std.specs.Arc.{arc_value}
 use Rattle.site_base.specs.declared.syntax.func.Func.{Func}
 use Rattle.dsl_value.specs.Pairs.{Pairs, is_sorted, put, without}
 use Rattle.dsl_value.specs.declared.value.Value.{Value}
-use Rattle.dsl_value.specs.declared.value.Value.TheVariants as value
 use Rattle.dsl_value.specs.declared.cell.Cell.{Cell}
 use Rattle.dsl_value.specs.declared.cell.Cell.TheVariants as cell
 use Rattle.dsl_value.specs.declared.function.Function.{Function}

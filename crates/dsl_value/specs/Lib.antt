@@ -2,4 +2,6 @@ pub mod Contents
 pub mod Equality
 pub mod Pairs
 pub mod Parts
+pub mod Paths
+pub mod Walks
 pub mod Whole

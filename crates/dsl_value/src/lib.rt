@@ -2,25 +2,33 @@
 //!
 //! In reading order: values (`value`), cells with what changes one (`cell`, `cells`, `pairs`), functions
 //! (`function`), cells and functions that stores share (`part`, `layer`), the store (`store`,
-//! `set_fault`), and when values are equal (`equality`).
+//! `set_fault`), when values are equal (`equality`), and the trees of values (`walking`, with `frame`,
+//! `frames`, `path`, `turn` and `tree_fault`).
 #![tactic(auto)]
 
 mod cell;
 mod cells;
 mod equality;
+mod frame;
+mod frames;
 mod function;
 mod layer;
 mod pairs;
 mod part;
+mod path;
 mod set_fault;
 mod store;
 #[cfg(test)]
 mod tests;
+mod tree_fault;
+mod turn;
 mod value;
+mod walking;
 
 pub use cell::Cell;
 pub use equality::equal;
 pub use function::Function;
 pub use set_fault::SetFault;
 pub use store::Store;
+pub use tree_fault::TreeFault;
 pub use value::Value;

@@ -4,12 +4,15 @@ ghost use Rattle.std.specs.List.{AllByRecursion};
 ghost use Rattle.std.specs.Arc.{arc_value};
 ghost use Rattle.dsl_value.specs.Contents.{Contents, PlainCell, array, dict, plain, function, function_at, cell_at, with_cell, with_cells, pushed, is_array, is_dict, values_of, pairs_of, with_value, with_pair, without_pair, IsInOrder};
 ghost use Rattle.dsl_value.specs.Pairs.{find, dict_of};
+ghost use Rattle.dsl_value.specs.Walks.{Gives, tree_walked};
+ghost use Rattle.site_base.specs.View.{view};
 ghost use Rattle.dsl_value.specs.Whole.{Names, NamesAll, Stands, Captures};
 
 use crate::layer::Layer;
 use crate::pairs::{sorted_pairs, value_of};
-use crate::{Cell, Function, SetFault, Value};
-use site_base::{Func, OutOfMemory, Row, Text};
+use crate::walking::walk_value;
+use crate::{Cell, Function, SetFault, TreeFault, Value};
+use site_base::{Func, OutOfMemory, Row, Text, Tree};
 use std::alloc::Global;
 use std::marker::Model;
 use std::mem;
@@ -165,6 +168,16 @@ impl Store {
         ensures absent { IfNone result (find key.now (pairs_of (cell_at self.now.cells cell)) ≡ None) }
     {
         value_in(self.cell(cell), key)
+    }
+
+    /// The tree that a value stands for. `Cyclic` where a cell lies inside itself, `HasFunction` where
+    /// a function lies in it, `TooLarge` where its cost passes 16,777,216 units: the first of these that
+    /// a walk meets which goes depth first, in element order.
+    pub fn tree_of(&self, value: &Value) -> Result<Tree, TreeFault>
+        requires { Names (length self.now.cells) (length self.now.functions) value.now }
+        ensures { Gives view result (tree_walked self.now.cells value.now) }
+    {
+        walk_value(self.alloc, self, value)
     }
 
     /// Gives a dictionary's key a value. `Frozen` exactly where the cell is frozen.

@@ -5,3 +5,4 @@ mod made;
 mod nesting;
 mod refusals;
 mod speed;
+mod trees;
