@@ -164,7 +164,7 @@ fn chain(alloc: Global, first: &str, len: u32) -> Result<MemFiles, Fail> {
     files.push(file(alloc, "r", first)?)?;
     for i in 1..=len {
         let name = format!(in alloc; "f{i}")?;
-        let next = i + 1;
+        let next = u64::from(i) + 1;
         let text = format!(in alloc; "include \"f{next}\"")?;
         files.push(file(alloc, name.as_str(), text.as_str())?)?;
     }
