@@ -1,10 +1,10 @@
 -- What a store keeps of itself, under each change.
-use Rattle.std.proofs.Common.{◌≡◌, ℕ, ◌+◌, ◌-◌, ◌<◌, ◌≤◌, ◌^◌, Bool, true, false, cond, not, List, [], ◌∷◌, ◌++◌, length, get_or, set, slice_get, Some, refl, sym, ap, subst, ◌∙◌, arith}
+use Rattle.std.proofs.Common.{◌≡◌, ℕ, ◌+◌, ◌-◌, ◌<◌, ◌≤◌, ◌^◌, Bool, true, false, cond, not, List, [], ◌∷◌, ◌++◌, length, get_or, set, slice_get, Some, refl, sym, ap, subst, ◌∙◌, arith, length-append}
 use Rattle.std.specs.List.{AllByRecursion, filter}
 use Rattle.std.specs.Ordering.{eq_by_cmp, match_ordering}
 use Rattle.std.specs.FinMap.Entries as entries
 use Rattle.std.specs.declared.cmp.Ordering.TheVariants.{Less, Equal, Greater}
-use Rattle.std.proofs.lemmas.List.{set-append_right, get_or-append_right, length-set, append-nil}
+use Rattle.std.proofs.lemmas.List.{append_assoc, set-append_right, get_or-append_right, length-set, append-nil}
 use Rattle.std.proofs.lemmas.Option.{get_or_from_slice_get}
 use Rattle.std.proofs.lemmas.List.Elements.{All-set, All-from_recursion, recursion_from_All}
 use Rattle.dsl_value.specs.declared.value.Value.{Value}
@@ -117,27 +117,36 @@ longer : {X : Type 0} (xs : List X) (x : X) → length (xs ++ x ∷ []) ≡ leng
 longer [] x = refl
 longer (y ∷ xs) x = omega (arith, longer xs x)
 
--- a cell is added
-pub kept_added : (frozen live : Contained) (b : ℕ) (c : PlainCell) → IsKept frozen live b → length (frozen.cells ++ live.cells) + 1 < 2 ^ 32 → Stands (length (frozen.cells ++ live.cells)) (length (frozen.functions ++ live.functions)) c
-    → IsKept frozen (record { cells = live.cells ++ c ∷ []; functions = live.functions }) b
-kept_added frozen live b c kept few stands =
+-- cells are added
+pub kept_more : (frozen live : Contained) (b : ℕ) (cs : List PlainCell) → IsKept frozen live b → length (frozen.cells ++ live.cells) + length cs < 2 ^ 32
+    → AllByRecursion (Stands (length (frozen.cells ++ live.cells) + length cs) (length (frozen.functions ++ live.functions))) cs
+    → IsKept frozen (record { cells = live.cells ++ cs; functions = live.functions }) b
+kept_more frozen live b cs kept few stands =
     let n = length (frozen.cells ++ live.cells) in
     let m = length (frozen.functions ++ live.functions) in
-    let same = one_more frozen.cells live.cells c in
-    let long : length (frozen.cells ++ (live.cells ++ c ∷ [])) ≡ n + 1 = ap length (sym same) ∙ longer (frozen.cells ++ live.cells) c in
+    let k = n + length cs in
+    let same = append_assoc frozen.cells live.cells cs in
+    let long : length (frozen.cells ++ (live.cells ++ cs)) ≡ k = ap length (sym same) ∙ length-append (frozen.cells ++ live.cells) cs in
     record {
       shared = kept.shared;
       base = omega (arith, kept.base, long);
       few = omega (arith, few, long);
       few_functions = kept.few_functions;
       whole = record {
-        cells = subst (λ k. AllByRecursion (Stands k m) (frozen.cells ++ (live.cells ++ c ∷ []))) (sym long)
-            (subst (AllByRecursion (Stands (n + 1) m)) same (all_append (Stands (n + 1) m) (frozen.cells ++ live.cells) (c ∷ [])
-            (whole_cells n m (n + 1) m (omega arith) (omega arith) _ kept.whole.cells) (stands_more n m (n + 1) m (omega arith) (omega arith) c stands, tt)));
-        functions = subst (λ k. AllByRecursion (Captures k m) (frozen.functions ++ live.functions)) (sym long)
-            (whole_functions n m (n + 1) m (omega arith) (omega arith) _ kept.whole.functions);
+        cells = subst (λ j. AllByRecursion (Stands j m) (frozen.cells ++ (live.cells ++ cs))) (sym long)
+            (subst (AllByRecursion (Stands k m)) same (all_append (Stands k m) (frozen.cells ++ live.cells) cs (whole_cells n m k m (omega arith) (omega arith) _ kept.whole.cells) stands));
+        functions = subst (λ j. AllByRecursion (Captures j m) (frozen.functions ++ live.functions)) (sym long)
+            (whole_functions n m k m (omega arith) (omega arith) _ kept.whole.functions);
       };
     }
+
+-- a cell is added
+pub kept_added : (frozen live : Contained) (b : ℕ) (c : PlainCell) → IsKept frozen live b → length (frozen.cells ++ live.cells) + 1 < 2 ^ 32 → Stands (length (frozen.cells ++ live.cells)) (length (frozen.functions ++ live.functions)) c
+    → IsKept frozen (record { cells = live.cells ++ c ∷ []; functions = live.functions }) b
+kept_added frozen live b c kept few stands =
+    let n = length (frozen.cells ++ live.cells) in
+    let m = length (frozen.functions ++ live.functions) in
+    kept_more frozen live b (c ∷ []) kept few (stands_more n m (n + 1) m (omega arith) (omega arith) c stands, tt)
 
 -- a function is added
 pub kept_function : (frozen live : Contained) (b : ℕ) (f : PlainFunction) → IsKept frozen live b → length (frozen.functions ++ live.functions) + 1 < 2 ^ 32 → Captures (length (frozen.cells ++ live.cells)) (length (frozen.functions ++ live.functions)) f
@@ -202,6 +211,10 @@ module _ (frozen live : Contained) (b : ℕ) (kept : IsKept frozen live b) (s : 
   pub added : (new : Contained) (c : PlainCell) → length s.cells + 1 < 2 ^ 32 → Stands (length s.cells) (length s.functions) c → new ≡ record { cells = live.cells ++ c ∷ []; functions = live.functions } → IsKept frozen new b
   added new c few stands ok = subst (λ l. IsKept frozen l b) (sym ok)
       (subst (λ t. length t.cells + 1 < 2 ^ 32 → Stands (length t.cells) (length t.functions) c → IsKept frozen (record { cells = live.cells ++ c ∷ []; functions = live.functions }) b) view (kept_added frozen live b c kept) few stands)
+
+  pub added_all : (new : Contained) (cs : List PlainCell) → length s.cells + length cs < 2 ^ 32 → AllByRecursion (Stands (length s.cells + length cs) (length s.functions)) cs → new ≡ record { cells = live.cells ++ cs; functions = live.functions } → IsKept frozen new b
+  added_all new cs few stands ok = subst (λ l. IsKept frozen l b) (sym ok)
+      (subst (λ t. length t.cells + length cs < 2 ^ 32 → AllByRecursion (Stands (length t.cells + length cs) (length t.functions)) cs → IsKept frozen (record { cells = live.cells ++ cs; functions = live.functions }) b) view (kept_more frozen live b cs kept) few stands)
 
   pub added_function : (new : Contained) (f : PlainFunction) → length s.functions + 1 < 2 ^ 32 → Captures (length s.cells) (length s.functions) f → new ≡ record { cells = live.cells; functions = live.functions ++ f ∷ [] } → IsKept frozen new b
   added_function new f few captures ok = subst (λ l. IsKept frozen l b) (sym ok)

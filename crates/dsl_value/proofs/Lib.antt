@@ -5,3 +5,7 @@ pub mod Steps
 pub mod Insides
 pub mod Keyed
 pub mod Seen
+pub mod Rising
+pub mod Named
+pub mod GivenBack
+pub mod Made

@@ -1,5 +1,6 @@
 pub mod Contents
 pub mod Equality
+pub mod Loads
 pub mod Pairs
 pub mod Parts
 pub mod Paths

@@ -1,5 +1,5 @@
 -- Pairs of a key and a value, sorted by the keys' bytes.
-use Rattle.std.specs.Prelude.{◌≡◌, ℕ, ◌<◌, ◌≤◌, Bool, not, List, [], ◌∷◌, length, slice_index_or, Option}
+use Rattle.std.specs.Prelude.{◌≡◌, ℕ, ◌<◌, ◌≤◌, Bool, not, List, [], ◌∷◌, length, slice_index_or, Option, Some, None, if◌then◌else◌}
 use Rattle.std.specs.Cmp.Lexicographic.{slice_cmp}
 use Rattle.std.specs.Ordering.{nat_cmp, eq_by_cmp}
 use Rattle.std.specs.BTreeMap.{insert_entry}
@@ -36,6 +36,16 @@ without key = entries.where_key key_cmp (λ k. not (eq_by_cmp key_cmp key k))
 abbrev pub dict_of : Pairs → Pairs → Pairs
 dict_of [] sorted = sorted
 dict_of (p ∷ ps) sorted = dict_of ps (put p.0 p.1 sorted)
+
+-- the first of two that is there
+abbrev pub or_found : Option Value → Option Value → Option Value
+or_found (Some v) o = Some v
+or_found None o = o
+
+-- the value of the last pair that has a key
+abbrev pub last_of : List ℕ → Pairs → Option Value
+last_of key [] = None
+last_of key (p ∷ ps) = or_found (last_of key ps) (if eq_by_cmp key_cmp key p.0 then Some p.1 else None)
 
 -- the key of the pair at a place
 abbrev pub key_at : Pairs → ℕ → List ℕ

@@ -90,6 +90,20 @@ impl Layer {
         }
     }
 
+    /// Adds cells at the end.
+    pub(crate) fn add_all(&mut self, alloc: Global, cells: Vec<Cell>) -> Result<(), OutOfMemory>
+        ensures ok { OnOk result (self.new ≡ record { cells = self.old.cells ++ map plain cells.items; functions = self.old.functions }) }
+        ensures err { OnErr result (self.new ≡ self.old) }
+    {
+        match &mut self.part {
+            Some(part) => add_all_to(part, cells),
+            None => {
+                self.part = Some(part_of_cells(alloc, cells)?);
+                Ok(())
+            }
+        }
+    }
+
     /// The number of functions.
     pub(crate) fn functions(&self) -> usize
         ensures { result ≡ length self.now.functions }
@@ -209,6 +223,28 @@ fn add_to(part: &mut Arc<Part>, cell: Cell) -> Result<(), OutOfMemory>
     match Arc::get_mut(part) {
         Some(part) => {
             part.cells.push(cell)?;
+            Ok(())
+        }
+        None => Err(OutOfMemory),
+    }
+}
+
+/// A part that contains these cells.
+fn part_of_cells(alloc: Global, cells: Vec<Cell>) -> Result<Arc<Part>, OutOfMemory>
+    ensures { IfOk result (λ p. part_of p ≡ record { cells = map plain cells.items; functions = [] }) }
+{
+    let functions = Vec::new(alloc);
+    Ok(Arc::new(alloc, Part { cells, functions })?)
+}
+
+fn add_all_to(part: &mut Arc<Part>, cells: Vec<Cell>) -> Result<(), OutOfMemory>
+    ensures ok { OnOk result (part_of part.new ≡ record { cells = (part_of part.old).cells ++ map plain cells.items; functions = (part_of part.old).functions }) }
+    ensures err { OnErr result (part_of part.new ≡ part_of part.old) }
+{
+    let mut more = cells;
+    match Arc::get_mut(part) {
+        Some(part) => {
+            part.cells.append(&mut more)?;
             Ok(())
         }
         None => Err(OutOfMemory),

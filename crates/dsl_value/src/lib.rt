@@ -2,8 +2,8 @@
 //!
 //! In reading order: values (`value`), cells with what changes one (`cell`, `cells`, `pairs`), functions
 //! (`function`), cells and functions that stores share (`part`, `layer`), the store (`store`,
-//! `set_fault`), when values are equal (`equality`), and the trees of values (`walking`, with `frame`,
-//! `frames`, `path`, `turn` and `tree_fault`).
+//! `set_fault`), when values are equal (`equality`), trees that are put in (`loading`), and the trees of
+//! values (`walking`, with `frame`, `frames`, `path`, `turn` and `tree_fault`).
 #![tactic(auto)]
 
 mod cell;
@@ -13,6 +13,7 @@ mod frame;
 mod frames;
 mod function;
 mod layer;
+mod loading;
 mod pairs;
 mod part;
 mod path;

@@ -1,14 +1,16 @@
 // The store.
-ghost use Rattle.std.specs.Prelude.{◌≡◌, ◌<◌, ◌≤◌, ◌+◌, false, ◌^◌, ◌++◌, [], ◌∷◌, ◌↔◌, IfOk, OnOk, OnErr, IsErrOf, IsTrue, IfSome, IfNone, Some, None, length};
+ghost use Rattle.std.specs.Prelude.{◌≡◌, ◌<◌, ◌≤◌, ◌+◌, false, ◌^◌, ◌++◌, [], ◌∷◌, ◌↔◌, IfOk, OnOk, OnErr, IsErrOf, IsTrue, IfSome, IfNone, Some, None, Ok, List, ℕ, length};
 ghost use Rattle.std.specs.List.{AllByRecursion};
 ghost use Rattle.std.specs.Arc.{arc_value};
 ghost use Rattle.dsl_value.specs.Contents.{Contents, PlainCell, array, dict, plain, function, function_at, cell_at, with_cell, with_cells, pushed, is_array, is_dict, values_of, pairs_of, with_value, with_pair, without_pair, IsInOrder};
-ghost use Rattle.dsl_value.specs.Pairs.{find, dict_of};
+ghost use Rattle.dsl_value.specs.Pairs.{find, dict_of, last_of};
 ghost use Rattle.dsl_value.specs.Walks.{Gives, tree_walked};
+ghost use Rattle.dsl_value.specs.Loads.{load, grown, given, Fits};
 ghost use Rattle.site_base.specs.View.{view};
 ghost use Rattle.dsl_value.specs.Whole.{Names, NamesAll, Stands, Captures};
 
 use crate::layer::Layer;
+use crate::loading::make_tree;
 use crate::pairs::{sorted_pairs, value_of};
 use crate::walking::walk_value;
 use crate::{Cell, Function, SetFault, TreeFault, Value};
@@ -153,6 +155,7 @@ impl Store {
         ensures value { IfOk result (λ v. v ≡ Value.Ref (length self.old.cells)) }
         ensures ok { OnOk result (self.new ≡ with_cells self.old (self.old.cells ++ dict (dict_of pairs []) ∷ [])) }
         ensures err { OnErr result (self.new ≡ self.old) }
+        ensures last { OnOk result ((key : List ℕ) → find key (pairs_of (cell_at self.new.cells (length self.old.cells))) ≡ last_of key pairs) }
     {
         let number = (self.frozen.len() + self.live.len()) as u32;
         let sorted = sorted_pairs(self.alloc, pairs.into_vec())?;
@@ -168,6 +171,26 @@ impl Store {
         ensures absent { IfNone result (find key.now (pairs_of (cell_at self.now.cells cell)) ≡ None) }
     {
         value_in(self.cell(cell), key)
+    }
+
+    /// Puts a tree into the store, and gives the value that stands for it. An array or dictionary lies
+    /// behind what is inside of it. Of equal keys of a dictionary the last wins. A tree whose keys are
+    /// distinct and in byte order, and which costs no more than 16,777,216 units, is given back by
+    /// [`Store::tree_of`] as it was. A store of 4,294,967,296 cells is want of memory.
+    pub fn load_tree(&mut self, tree: &Tree) -> Result<Value, OutOfMemory>
+        ensures value { IfOk result (λ v. v ≡ given 0 self.old.cells (load (view tree.now))) }
+        ensures ok { OnOk result (self.new ≡ with_cells self.old (grown 0 self.old.cells (load (view tree.now)))) }
+        ensures err { OnErr result (self.new ≡ self.old) }
+        ensures given_back { IfOk result (λ v. Fits (view tree.now) → tree_walked self.new.cells v ≡ Ok (view tree.now)) }
+    {
+        let before = (self.frozen.len() + self.live.len()) as u32;
+        let mut made = Vec::new(self.alloc);
+        let value = make_tree(self.alloc, tree, before, &mut made)?;
+        if made.len() > (u32::MAX - before) as usize {
+            return Err(OutOfMemory);
+        }
+        self.live.add_all(self.alloc, made)?;
+        Ok(value)
     }
 
     /// The tree that a value stands for. `Cyclic` where a cell lies inside itself, `HasFunction` where
