@@ -12,6 +12,7 @@ use Rattle.dsl_value.specs.declared.value.Value.TheVariants as value
 use Rattle.dsl_value.specs.Pairs.{Pairs, key_cmp, put, dict_of}
 use Rattle.dsl_value.proofs.Places.{sorted_put}
 use Rattle.dsl_value.specs.Contents.{PlainCell, array, dict, PlainFunction, Contained, Contents, with_cells, cell_at, pushed, with_value, with_pair, without_pair, IsInOrder}
+use Rattle.dsl_value.specs.Parts.{beside}
 use Rattle.dsl_value.specs.Whole.{Names, NamesAll, Stands, Captures, IsWhole, IsKept}
 
 module _ {X : Type 0} (P : X → Type 0) where
@@ -234,21 +235,21 @@ module _ (frozen live : Contained) (b : ℕ) (kept : IsKept frozen live b) (s : 
 abbrev pub nothing : Contained
 nothing = record { cells = []; functions = [] }
 
-kept_moved : (live : Contained) (b : ℕ) → IsKept nothing live b → IsKept live nothing (length live.cells)
-kept_moved live b kept =
-    let e = append-nil live.cells in
-    let e' = append-nil live.functions in
+kept_moved : (frozen live : Contained) (b : ℕ) → IsKept frozen live b → IsKept (beside frozen live) nothing (length (frozen.cells ++ live.cells))
+kept_moved frozen live b kept =
+    let e = append-nil (frozen.cells ++ live.cells) in
+    let e' = append-nil (frozen.functions ++ live.functions) in
     record {
       shared = omega arith;
-      base = subst (λ cs. length live.cells ≤ length cs) (sym e) (omega arith);
+      base = subst (λ cs. length (frozen.cells ++ live.cells) ≤ length cs) (sym e) (omega arith);
       few = subst (λ cs. length cs < 2 ^ 32) (sym e) kept.few;
       few_functions = subst (λ fs. length fs < 2 ^ 32) (sym e') kept.few_functions;
-      whole = subst (λ cs. IsWhole cs (live.functions ++ [])) (sym e) (subst (λ fs. IsWhole live.cells fs) (sym e') kept.whole);
+      whole = subst (λ cs. IsWhole cs ((frozen.functions ++ live.functions) ++ [])) (sym e) (subst (λ fs. IsWhole (frozen.cells ++ live.cells) fs) (sym e') kept.whole);
     }
 
--- the live layer becomes the frozen one
-pub moved : (frozen live new_frozen new_live : Contained) (b n m : ℕ) → IsKept frozen live b → frozen ≡ nothing → new_frozen ≡ live → new_live ≡ nothing → n ≡ length frozen.cells → m ≡ length live.cells → IsKept new_frozen new_live (n + m)
-moved frozen live new_frozen new_live b n m kept unused same empty long long_live =
-    let sum : n + m ≡ length live.cells = omega (arith, long ∙ ap (λ f. length f.cells) unused, long_live) in
-    subst (λ k. IsKept new_frozen new_live k) (sym sum) (subst (λ l. IsKept new_frozen l (length live.cells)) (sym empty) (subst (λ f. IsKept f nothing (length live.cells)) (sym same)
-    (kept_moved live b (subst (λ f. IsKept f live b) unused kept))))
+-- the live layer becomes a frozen one
+pub moved : (frozen live new_frozen new_live : Contained) (b n m : ℕ) → IsKept frozen live b → new_frozen ≡ beside frozen live → new_live ≡ nothing → n ≡ length frozen.cells → m ≡ length live.cells → IsKept new_frozen new_live (n + m)
+moved frozen live new_frozen new_live b n m kept same empty long long_live =
+    let e = length-append frozen.cells live.cells in
+    let sum : n + m ≡ length (frozen.cells ++ live.cells) = omega (arith, long, long_live, e) in
+    subst (λ k. IsKept new_frozen new_live k) (sym sum) (subst (λ l. IsKept new_frozen l (length (frozen.cells ++ live.cells))) (sym empty) (subst (λ f. IsKept f nothing (length (frozen.cells ++ live.cells))) (sym same) (kept_moved frozen live b kept)))

@@ -2,10 +2,10 @@ pub mod Places
 pub mod Kept
 pub mod Levels
 pub mod Steps
-pub mod Insides
 pub mod Keyed
 pub mod Seen
 pub mod Rising
 pub mod Named
 pub mod GivenBack
 pub mod Made
+pub mod Layered

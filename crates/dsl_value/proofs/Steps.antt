@@ -13,7 +13,8 @@ use Rattle.dsl_value.specs.Pairs.{Pairs}
 use Rattle.dsl_value.specs.Contents.{PlainCell, array, dict, cell_at}
 use Rattle.dsl_value.specs.Whole.{Names, NamesAll, Stands}
 use Rattle.dsl_value.specs.Walks.{most, Walk, walked, stopped, ◌>>=◌, charged, Walker, values_walked, pairs_walked, cell_walked, is_open, value_walked, walk, outcome, tree_walked}
-use Rattle.dsl_value.specs.Paths.{Entered, in_array, in_dict, cell_of, entered, next_value, value_of_pair, key_bytes, bytes_of_pair, keyed, with_child, tree_made, rest_walked, inside_walk, from_here, going_with}
+use Rattle.dsl_value.specs.Paths.{entered, next_value, value_of_pair, key_bytes, bytes_of_pair, keyed, with_child, tree_made, rest_walked, inside_walk, from_here, going_with}
+use Rattle.dsl_value.specs.Entering.{Entered, in_array, in_dict, cell_of}
 use Rattle.dsl_value.specs.declared.value.Value.{Value}
 use Rattle.dsl_value.specs.declared.value.Value.TheVariants as value
 use Rattle.dsl_value.specs.declared.tree_fault.TreeFault.{TreeFault}

@@ -1,6 +1,8 @@
 pub mod Contents
+pub mod Entering
 pub mod Equality
 pub mod Loads
+pub mod Nests
 pub mod Pairs
 pub mod Parts
 pub mod Paths

@@ -1,31 +1,17 @@
 -- Where a walk stands: the arrays and dictionaries that it is inside of.
-use Rattle.std.specs.Prelude.{◌≡◌, ℕ, ◌+◌, ◌-◌, ◌*◌, ◌<◌, ◌≤◌, List, [], ◌∷◌, ◌++◌, map, length, drop, reverse, slice_get, Option, Some, None, Result, Ok, Err}
+use Rattle.std.specs.Prelude.{◌≡◌, ℕ, ◌+◌, ◌-◌, ◌*◌, ◌<◌, ◌≤◌, List, [], ◌∷◌, ◌++◌, map, length, drop, reverse, slice_get, Option, Some, None, Result, Ok, Err, false}
 use Rattle.std.specs.List.{AllByRecursion}
 use Rattle.site_base.specs.Data.{Data}
 use Rattle.site_base.specs.Data as tree
-use Rattle.site_base.specs.View.{view, pair_view, items_of, pairs_of}
+use Rattle.site_base.specs.View.{view, items_of, pairs_of}
 use Rattle.dsl_value.specs.Contents.{PlainCell, array, dict, cell_at, values_of, pairs_of as content}
-use Rattle.dsl_value.specs.Walks.{most, Walk, walked, ◌>>=◌, Walker, values_walked, pairs_walked, walk, outcome, Stops}
+use Rattle.dsl_value.specs.Walks.{most, Walk, walked, ◌>>=◌, Walker, values_walked, pairs_walked, walk, outcome, Stops, is_open}
 use Rattle.dsl_value.specs.declared.value.Value.{Value}
-use Rattle.dsl_value.specs.declared.frame.Frame.{Frame}
-use Rattle.dsl_value.specs.declared.frame.Frame.TheVariants as frames
+use Rattle.dsl_value.specs.Entering.{Entered, in_array, in_dict, frame, cell_of}
 use Rattle.dsl_value.specs.declared.path.Path.{Path}
 use Rattle.dsl_value.specs.declared.turn.Turn.{Turn}
 use Rattle.dsl_value.specs.declared.turn.Turn.TheVariants as turns
 use Rattle.dsl_value.specs.declared.tree_fault.TreeFault.{TreeFault}
-
--- a cell that the walk is inside of, and the trees of the elements or pairs that it has passed
-pub data Entered : Type 0 where
-  in_array : ℕ → List Data → Entered
-  in_dict : ℕ → List (List ℕ × Data) → Entered
-
-abbrev pub frame : Frame → Entered
-frame (frames.Array k v) = in_array k (map view v.items)
-frame (frames.Dict k v) = in_dict k (map pair_view v.items)
-
-abbrev pub cell_of : Entered → ℕ
-cell_of (in_array k made) = k
-cell_of (in_dict k made) = k
 
 -- nothing of the cell is passed yet
 abbrev pub entered : ℕ → PlainCell → Entered
@@ -83,7 +69,7 @@ going_with cells (f ∷ below) w = going_with cells below (w >>= λ d c. from_he
 
 -- the cells around the last one, the nearest first
 abbrev pub below_of : Path → List Entered
-below_of p = reverse (map frame p.below.items)
+below_of p = map frame p.below
 
 -- the walk that is left at a path
 abbrev pub going : List PlainCell → Path → Walk Data
@@ -93,12 +79,13 @@ going cells p = going_with cells (below_of p) (from_here cells (below_of p) (fra
 abbrev pub going_at : List PlainCell → Path → Value → Walk Data
 going_at cells p v = going_with cells (frame p.top ∷ below_of p) (inside_walk cells (below_of p) (frame p.top) v p.cost)
 
--- the cells are there, and each cost a unit
+-- the cells are there, each once, and each cost a unit
 pub record IsPath (count : ℕ) (p : Path) : Type 0 where
   pub top : cell_of (frame p.top) < count
   pub below : AllByRecursion (λ f. cell_of f < count) (below_of p)
   pub within : p.cost ≤ most
   pub levels : length (below_of p) < p.cost
+  pub apart : is_open (cell_of (frame p.top)) (map cell_of (below_of p)) ≡ false
 
 -- falls with each turn
 abbrev pub left_of : Path → ℕ

@@ -2,7 +2,8 @@
 ghost use Rattle.std.specs.Prelude.{◌≡◌, ◌<◌, ◌^◌, IfSome, IfNone, OnOk, Some, None, map, length, slice_get};
 ghost use Rattle.site_base.specs.View.{view, pair_view};
 ghost use Rattle.dsl_value.specs.Contents.{plain, pairs_of};
-ghost use Rattle.dsl_value.specs.Paths.{frame, cell_of, entered, next_value, key_bytes, keyed, with_child, tree_made};
+ghost use Rattle.dsl_value.specs.Paths.{entered, next_value, key_bytes, keyed, with_child, tree_made};
+ghost use Rattle.dsl_value.specs.Entering.{frame, cell_of};
 
 use crate::frame::Frame;
 use crate::{Cell, Value};

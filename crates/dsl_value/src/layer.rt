@@ -37,13 +37,6 @@ impl Layer {
         Layer { part: None }
     }
 
-    /// Whether nothing was ever put in.
-    pub(crate) fn is_unused(&self) -> bool
-        ensures { IsTrue result → self.now ≡ record { cells = []; functions = [] } }
-    {
-        self.part.is_none()
-    }
-
     /// The same cells and functions, without a copy of any.
     pub(crate) fn shared(&self) -> Result<Layer, OutOfMemory>
         ensures { IfOk result (λ l. l ≡ self.now) }

@@ -1,7 +1,7 @@
 //! The values of the configuration language, and the stores of cells that arrays and dictionaries lie in.
 //!
 //! In reading order: values (`value`), cells with what changes one (`cell`, `cells`, `pairs`), functions
-//! (`function`), cells and functions that stores share (`part`, `layer`), the store (`store`,
+//! (`function`), cells and functions that stores share (`part`, `layer`, `frozen`), the store (`store`,
 //! `set_fault`), when values are equal (`equality`), trees that are put in (`loading`), and the trees of
 //! values (`walking`, with `frame`, `frames`, `path`, `turn` and `tree_fault`).
 #![tactic(auto)]
@@ -11,9 +11,11 @@ mod cells;
 mod equality;
 mod frame;
 mod frames;
+mod frozen;
 mod function;
 mod layer;
 mod loading;
+mod nest;
 mod pairs;
 mod part;
 mod path;

@@ -1,11 +1,12 @@
 // Where a walk stands.
 use crate::frame::Frame;
+use crate::nest::Nest;
 
-/// Where a walk stands: the array or dictionary that it is inside of, those around it, the outermost
-/// first, and the cost so far.
-#[derive(Debug, Drop)]
+/// Where a walk stands: the array or dictionary that it is inside of, those around it, and the cost so
+/// far.
+#[derive(Drop)]
 pub(crate) struct Path {
     pub(crate) top: Frame,
-    pub(crate) below: Vec<Frame>,
+    pub(crate) below: Nest,
     pub(crate) cost: usize,
 }

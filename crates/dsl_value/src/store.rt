@@ -9,6 +9,7 @@ ghost use Rattle.dsl_value.specs.Loads.{load, grown, given, Fits};
 ghost use Rattle.site_base.specs.View.{view};
 ghost use Rattle.dsl_value.specs.Whole.{Names, NamesAll, Stands, Captures};
 
+use crate::frozen::Frozen;
 use crate::layer::Layer;
 use crate::loading::make_tree;
 use crate::pairs::{sorted_pairs, value_of};
@@ -23,12 +24,12 @@ use std::sync::Arc;
 /// The cells that arrays and dictionaries lie in, and the functions that values name.
 ///
 /// Cells below the base are frozen: they are read and never changed. Stores that were forked share
-/// those that were there at the first freezing. Clauses see a store as the list of its cells, its
+/// them. Clauses see a store as the list of its cells, its
 /// base and the list of its functions. Each value in them names a cell or function of this store.
 #[derive(Drop)]
 pub struct Store {
     alloc: Global,
-    frozen: Layer,
+    frozen: Frozen,
     live: Layer,
     base: u32,
 }
@@ -56,27 +57,29 @@ impl Store {
     {
         Store {
             alloc,
-            frozen: Layer::new(),
+            frozen: Frozen::new(alloc),
             live: Layer::new(),
             base: 0,
         }
     }
 
-    /// Freezes all cells.
+    /// Freezes all cells. Forks share them, but where there is no memory for one more layer of cells.
     pub fn freeze(&mut self)
         ensures { self.new ≡ record { cells = self.old.cells; base = length self.old.cells; functions = self.old.functions } }
     {
         self.base = (self.frozen.len() + self.live.len()) as u32;
-        if self.frozen.is_unused() {
-            self.frozen = mem::replace(&mut self.live, Layer::new());
+        let live = mem::replace(&mut self.live, Layer::new());
+        if let Err(live) = self.frozen.add(live) {
+            self.live = live;
         }
     }
 
-    /// An equal store. It shares what was frozen first, and copies the rest.
+    /// An equal store. It shares the cells and functions that were there at the last freezing, and copies
+    /// the rest.
     pub fn fork(&self) -> Result<Store, OutOfMemory>
         ensures { IfOk result (λ s. s ≡ self.now) }
     {
-        let frozen = self.frozen.shared()?;
+        let frozen = self.frozen.shared(self.alloc)?;
         let live = self.live.copied(self.alloc)?;
         Ok(Store {
             alloc: self.alloc,

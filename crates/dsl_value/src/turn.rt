@@ -3,7 +3,7 @@ use crate::path::Path;
 use site_base::Tree;
 
 /// What a turn of a walk leads to.
-#[derive(Debug, Drop)]
+#[derive(Drop)]
 pub(crate) enum Turn {
     On(Path),
     Done(Tree),

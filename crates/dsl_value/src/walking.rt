@@ -4,12 +4,14 @@ ghost use Rattle.site_base.specs.View.{view};
 ghost use Rattle.dsl_value.specs.Contents.{cell_at};
 ghost use Rattle.dsl_value.specs.Whole.{Names};
 ghost use Rattle.dsl_value.specs.Walks.{most, walked, tree_walked, Gives, is_open};
-ghost use Rattle.dsl_value.specs.Paths.{IsPath, Turned, Falls, going, going_at, going_with, left_of, frame, below_of, cell_of, tree_made};
+ghost use Rattle.dsl_value.specs.Paths.{IsPath, Turned, Falls, going, going_at, going_with, left_of, below_of, tree_made};
+ghost use Rattle.dsl_value.specs.Entering.{frame, cell_of};
 ghost use Rattle.site_base.specs.Data.{string};
 ghost use Rattle.dsl_value.specs.declared.value.Value.TheVariants as value;
 
 use crate::frame::Frame;
 use crate::frames::{add_tree, cell_of_frame, enter, key_bytes_of, next_of, tree_of_frame};
+use crate::nest::Nest;
 use crate::path::Path;
 use crate::turn::Turn;
 use crate::{Store, TreeFault, Value};
@@ -44,7 +46,7 @@ fn walk_cell(alloc: Global, store: &Store, cell: u32) -> Result<Tree, TreeFault>
 {
     let mut path = Path {
         top: enter(alloc, cell, store.cell(cell)),
-        below: Vec::new(alloc),
+        below: Nest::new(alloc),
         cost: 1,
     };
     loop {
@@ -120,7 +122,7 @@ fn descend(alloc: Global, store: &Store, path: Path, cell: u32) -> Result<Turn, 
         return Err(TreeFault::TooLarge);
     };
     let top = enter(alloc, cell, store.cell(cell));
-    let below = with_frame(path.below, path.top)?;
+    let below = path.below.with(path.top)?;
     Ok(Turn::On(Path { top, below, cost }))
 }
 
@@ -130,15 +132,11 @@ fn leave(store: &Store, path: Path) -> Result<Turn, TreeFault>
     ensures gives { Turned store.now.cells result (going_with store.now.cells (below_of path) (walked (tree_made (frame path.top)) path.cost)) }
     ensures falls { Falls (length store.now.cells) (left_of path) result }
 {
-    let Path {
-        top,
-        mut below,
-        cost,
-    } = path;
+    let Path { top, below, cost } = path;
     let tree = tree_of_frame(top);
-    match below.pop() {
+    match below.split() {
         None => Ok(Turn::Done(tree)),
-        Some(top) => add(store, Path { top, below, cost }, tree),
+        Some((top, below)) => add(store, Path { top, below, cost }, tree),
     }
 }
 
@@ -158,15 +156,6 @@ fn add(store: &Store, path: Path, tree: Tree) -> Result<Turn, TreeFault>
     Ok(Turn::On(Path { top, below, cost }))
 }
 
-/// Cells with one more inside of them.
-fn with_frame(below: Vec<Frame>, top: Frame) -> Result<Vec<Frame>, OutOfMemory>
-    ensures { IfOk result (λ v. reverse (map frame v.items) ≡ frame top ∷ reverse (map frame below.items)) }
-{
-    let mut below = below;
-    below.push(top)?;
-    Ok(below)
-}
-
 /// The tree of a text.
 fn text_tree(text: &Text) -> Result<Tree, OutOfMemory>
     ensures { IfOk result (λ t. view t ≡ string text.now) }
@@ -178,15 +167,7 @@ fn text_tree(text: &Text) -> Result<Tree, OutOfMemory>
 fn is_inside(path: &Path, cell: u32) -> bool
     ensures { result ≡ is_open cell (map cell_of (frame path.now.top ∷ below_of path.now)) }
 {
-    if cell_of_frame(&path.top) == cell {
-        return true;
-    }
-    for around in &path.below {
-        if cell_of_frame(around) == cell {
-            return true;
-        }
-    }
-    false
+    cell_of_frame(&path.top) == cell || path.below.contains(cell)
 }
 
 /// The cost with more units; `None` where it is too much.

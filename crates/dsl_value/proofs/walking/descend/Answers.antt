@@ -1,6 +1,7 @@
-use Rattle.std.proofs.Common.{◌<◌, ◌≤◌, ◌+◌, length, sym, ap, ◌∙◌, arith}
+use Rattle.std.proofs.Common.{◌<◌, ◌≤◌, ◌+◌, length, map, sym, ap, ◌∙◌, arith}
 use Rattle.dsl_value.specs.Walks.{most, outcome}
-use Rattle.dsl_value.specs.Paths.{frame, below_of, entered}
+use Rattle.dsl_value.specs.Paths.{below_of, entered}
+use Rattle.dsl_value.specs.Entering.{frame}
 use Rattle.dsl_value.proofs.Steps.{at_open, cell_over, entered_going}
 use Rattle.dsl_value.proofs.walking.descend.Goals as goal
 
@@ -19,4 +20,4 @@ returns-clause-gives c =
     let few : length (below_of c.args.path) < most = omega (arith, c.requires.path.levels, c.requires.path.within) in
     let within : c.args.path.cost + 1 ≤ most = omega (arith, c.in-Some.ensures.within.0, c.in-Some.ensures.within.1) in
     entered_going c.args.store.now.cells (below_of c.args.path) _ (frame c.args.path.top) (frame c.enter-top.result) c.args.cell c.args.path.cost c.in-Some.cost few (sym c.is_inside.ensures ∙ c.if-is_inside.false) within
-    c.in_ok-below.ensures (c.enter-top.ensures ∙ ap (entered c.args.cell) c.cell.ensures.cell) c.in-Some.ensures.within.0
+    (ap (map frame) c.in_ok-below.ensures) (c.enter-top.ensures ∙ ap (entered c.args.cell) c.cell.ensures.cell) c.in-Some.ensures.within.0

@@ -1,6 +1,7 @@
 use Rattle.std.proofs.Common.{◌<◌, ◌∷◌, length, sym, ap, subst, ◌∙◌, arith}
 use Rattle.dsl_value.specs.Walks.{most, walked, outcome}
-use Rattle.dsl_value.specs.Paths.{frame, below_of, inside_walk, going_with, Turned}
+use Rattle.dsl_value.specs.Paths.{below_of, inside_walk, going_with, Turned}
+use Rattle.dsl_value.specs.Entering.{frame}
 use Rattle.dsl_value.proofs.Seen.{view-Null, view-Bool, view-Number}
 use Rattle.dsl_value.proofs.Steps.{at_null, at_bool, at_number, at_function}
 use Rattle.dsl_value.proofs.walking.pass.Goals as goal

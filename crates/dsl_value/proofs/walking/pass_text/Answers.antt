@@ -1,6 +1,7 @@
 use Rattle.std.proofs.Common.{◌≡◌, ◌<◌, ◌≤◌, ◌+◌, ◌∷◌, length, sym, ap, subst, ◌∙◌, arith}
 use Rattle.dsl_value.specs.Walks.{most, walked, outcome}
-use Rattle.dsl_value.specs.Paths.{frame, below_of, going_with, Turned}
+use Rattle.dsl_value.specs.Paths.{below_of, going_with, Turned}
+use Rattle.dsl_value.specs.Entering.{frame}
 use Rattle.site_base.specs.View.{view}
 use Rattle.dsl_value.proofs.Steps.{text_within, text_over}
 use Rattle.dsl_value.proofs.walking.pass_text.Goals as goal

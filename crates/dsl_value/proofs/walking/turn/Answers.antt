@@ -1,7 +1,8 @@
 use Rattle.std.proofs.Common.{◌≡◌, ◌<◌, ◌≤◌, ◌+◌, ◌∷◌, Some, None, sym, ap, subst, ◌∙◌}
 use Rattle.dsl_value.specs.Contents.{plain, cell_at}
 use Rattle.dsl_value.specs.Walks.{most, outcome}
-use Rattle.dsl_value.specs.Paths.{frame, below_of, cell_of, next_value, key_bytes, inside_walk, going_with, Turned}
+use Rattle.dsl_value.specs.Paths.{below_of, next_value, key_bytes, inside_walk, going_with, Turned}
+use Rattle.dsl_value.specs.Entering.{frame, cell_of}
 use Rattle.dsl_value.proofs.Steps.{element_within, element_over, element_none, next_names}
 use Rattle.dsl_value.proofs.walking.turn.Goals as goal
 
