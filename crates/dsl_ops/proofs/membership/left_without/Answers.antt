@@ -1,0 +1,16 @@
+use Rattle.std.proofs.Common.{◌≡◌, ◌≤◌, ◌++◌, length, sym, ap, subst, ◌∙◌, append-nil, arith}
+use Rattle.std.proofs.Math.ListN.{drop_of_length-le}
+use Rattle.std.specs.List.{AllByRecursion}
+use Rattle.dsl_value.specs.Whole.{Names}
+use Rattle.dsl_ops.specs.Table.{same_in, without}
+use Rattle.dsl_ops.proofs.Lists.{all_kept}
+use Rattle.dsl_ops.proofs.membership.left_without.Goals as goal
+
+pub returns-clause-stands : goal.returns-clause-stands
+returns-clause-stands c =
+    let le : length c.args.left.now ≤ c.loop-item.item-index = omega arith in
+    let made : c.loop-item.items ≡ without (same_in c.args.store.now.cells) c.args.right.now c.args.left.now =
+    sym (append-nil c.loop-item.items)
+    ∙ ap (λ left. c.loop-item.items ++ without (same_in c.args.store.now.cells) c.args.right.now left) (sym (drop_of_length-le c.args.left.now le))
+    ∙ c.loop-item.invariant in
+    subst (AllByRecursion (Names (length c.args.store.now.cells) (length c.args.store.now.functions))) (sym made) (all_kept _ _ _ c.requires.left)

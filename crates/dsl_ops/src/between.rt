@@ -1,0 +1,98 @@
+// The operators between two operands.
+ghost use Rattle.std.specs.Prelude.{◌≡◌, ◌<◌, ◌^◌, ◌+◌, length, IfOk, OnOk, OnErr, ℕ, ℤ, Bool, List, T, if◌then◌else◌};
+ghost use Rattle.dsl_value.specs.Whole.{Names};
+ghost use Rattle.dsl_ops.specs.Operands.{operand, plain, is_true};
+ghost use Rattle.dsl_ops.specs.Outcomes.{Gives, StandsMade, gives, after, answer, HasRoom, IsUnlessMemory};
+ghost use Rattle.dsl_ops.specs.Table.{binary_outcome, merged, without};
+ghost use Rattle.dsl_ops.specs.Laws.{IsMerged, IsWithout, IsRoundedDown};
+ghost use Rattle.std.specs.Int.{int_shr};
+ghost use Rattle.dsl_value.specs.Pairs.{Pairs, is_sorted};
+ghost use Rattle.dsl_value.specs.declared.value.Value.{Value};
+
+use crate::OpFault;
+use crate::arithmetic::{over, rest_of, times};
+use crate::bits::{bits_and, bits_or, bits_xor, shift_left, shift_right};
+use crate::comparison::{greater, greater_equal, less, less_equal};
+use crate::joining::plus;
+use crate::made::{Made, made_number, made_truth, put_in};
+use crate::membership::{is_in, is_not_in, minus_or_without};
+use crate::operand::operand_of;
+use crate::truths::truth;
+use dsl_value::{Store, Value, equal};
+use site_base::BinOp;
+use std::alloc::Global;
+
+/// What an operator between two operands gives. A new array or dictionary is one more cell of the store;
+/// else the store stays as it was. `&&` and `||` give the left operand, or the right one where the left
+/// doesn't decide. `WrongType` where the operands are of other types than the operator's, `Overflow` where
+/// a number is out of range or a shift goes further than 62 places, `DivZero` where the divisor is 0, and
+/// `OutOfMemory`.
+pub fn binary(
+    alloc: Global,
+    op: BinOp,
+    left: &Value,
+    right: &Value,
+    store: &mut Store,
+) -> Result<Value, OpFault>
+    requires left { Names (length store.old.cells) (length store.old.functions) left.now }
+    requires right { Names (length store.old.cells) (length store.old.functions) right.now }
+    requires few { HasRoom (length store.old.cells) (binary_outcome store.old.cells op left.now right.now) }
+    ensures answer { IsUnlessMemory result (answer (length store.old.cells) (binary_outcome store.old.cells op left.now right.now)) }
+    ensures names { IfOk result (Names (length store.new.cells) (length store.new.functions)) }
+    ensures ok { OnOk result (store.new ≡ after store.old (binary_outcome store.old.cells op left.now right.now)) }
+    ensures err { OnErr result (store.new ≡ store.old) }
+    ensures merges { (left right : Pairs) → T (is_sorted left) → T (is_sorted right) → IsMerged left right (merged left right) }
+    ensures differs { (same : Value → Value → Bool) (left right : List Value) → IsWithout same right left (without same right left) }
+    ensures rounds_down { (whole : ℤ) (places : ℕ) → IsRoundedDown whole (2 ^ places) (int_shr whole places) }
+{
+    let made = made_by(alloc, op, left, right, store)?;
+    Ok(put_in(made, store)?)
+}
+
+/// What an operator makes.
+fn made_by(
+    alloc: Global,
+    op: BinOp,
+    left: &Value,
+    right: &Value,
+    store: &Store,
+) -> Result<Made, OpFault>
+    requires left { Names (length store.now.cells) (length store.now.functions) left.now }
+    requires right { Names (length store.now.cells) (length store.now.functions) right.now }
+    ensures gives { Gives result (binary_outcome store.now.cells op left.now right.now) }
+    ensures stands { IfOk result (StandsMade (length store.now.cells) (length store.now.functions)) }
+{
+    let a = operand_of(left, store);
+    let b = operand_of(right, store);
+    match op {
+        BinOp::Mul => made_number(times(&a, &b)),
+        BinOp::Div => made_number(over(&a, &b)),
+        BinOp::Rem => made_number(rest_of(&a, &b)),
+        BinOp::Add => plus(alloc, &a, &b),
+        BinOp::Sub => minus_or_without(alloc, &a, &b, store),
+        BinOp::ShiftLeft => made_number(shift_left(&a, &b)),
+        BinOp::ShiftRight => made_number(shift_right(&a, &b)),
+        BinOp::Less => made_truth(less(&a, &b)),
+        BinOp::Greater => made_truth(greater(&a, &b)),
+        BinOp::LessEqual => made_truth(less_equal(&a, &b)),
+        BinOp::GreaterEqual => made_truth(greater_equal(&a, &b)),
+        BinOp::In => made_truth(is_in(left, &b, store)),
+        BinOp::NotIn => made_truth(is_not_in(left, &b, store)),
+        BinOp::Equal => made_truth(Ok(equal(left, right, store))),
+        BinOp::NotEqual => made_truth(Ok(!equal(left, right, store))),
+        BinOp::BitAnd => made_number(bits_and(&a, &b)),
+        BinOp::BitXor => made_number(bits_xor(&a, &b)),
+        BinOp::BitOr => made_number(bits_or(&a, &b)),
+        BinOp::And => chosen(truth(left, store), right, left),
+        BinOp::Or => chosen(truth(left, store), left, right),
+    }
+}
+
+/// A copy of the first value where the test holds, else of the second.
+fn chosen(test: bool, first: &Value, second: &Value) -> Result<Made, OpFault>
+    ensures gives { Gives result (gives (if test then first.now else second.now)) }
+    ensures stands { (cells functions : ℕ) → Names cells functions first.now → Names cells functions second.now → IfOk result (StandsMade cells functions) }
+{
+    let value = if test { first } else { second };
+    Ok(Made::Value(value.clone()?))
+}
