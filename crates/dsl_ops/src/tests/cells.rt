@@ -12,9 +12,9 @@ use std::process::Abort;
 use std::test::Fail;
 
 /// Two arrays of thousandths, and what an operator gives.
-type Arrays = (&'static [i64], BinOp, &'static [i64], &'static str);
+type Arrays<'a> = (&'a [i64], BinOp, &'a [i64], &'a str);
 
-const ARRAYS: [Arrays; 10] = [
+const ARRAYS: [Arrays<'static>; 10] = [
     (&[1000, 2000], BinOp::Add, &[3000], "[1 2 3]"),
     (&[], BinOp::Add, &[1000], "[1]"),
     (&[1000], BinOp::Add, &[], "[1]"),
@@ -69,8 +69,8 @@ fn between_cells(alloc: Global, op: BinOp, store: &mut Store) -> Result<Text, Ou
 }
 
 /// Arrays give new ones by the table.
-fn expect_arrays(rt: &impl Abort, alloc: Global) -> Result<(), Fail> {
-    for row in &ARRAYS {
+fn expect_arrays(rt: &impl Abort, alloc: Global, rows: &[Arrays]) -> Result<(), Fail> {
+    for row in rows {
         let (left, op, right, want) = *row;
         let mut store = arrays(alloc, left, right)?;
         let text = between_cells(alloc, op, &mut store)?;
@@ -81,7 +81,7 @@ fn expect_arrays(rt: &impl Abort, alloc: Global) -> Result<(), Fail> {
 
 #[test]
 fn arrays_are_joined_and_taken_away(rt: HostRuntime) -> Result<(), Fail> {
-    expect_arrays(&rt, rt.alloc())
+    expect_arrays(&rt, rt.alloc(), &ARRAYS)
 }
 
 /// Pairs of keys and thousandths.
@@ -123,8 +123,8 @@ fn dicts(alloc: Global, left: &[(&str, i64)], right: &[(&str, i64)]) -> Result<S
 }
 
 /// Dictionaries give new ones by the table.
-fn expect_dicts(rt: &impl Abort, alloc: Global) -> Result<(), Fail> {
-    for row in &DICTS {
+fn expect_dicts(rt: &impl Abort, alloc: Global, rows: &[(Pairs, Pairs, &str)]) -> Result<(), Fail> {
+    for row in rows {
         let (left, right, want) = *row;
         let mut store = dicts(alloc, left, right)?;
         let text = between_cells(alloc, BinOp::Add, &mut store)?;
@@ -135,7 +135,7 @@ fn expect_dicts(rt: &impl Abort, alloc: Global) -> Result<(), Fail> {
 
 #[test]
 fn dictionaries_are_merged_and_the_right_one_wins(rt: HostRuntime) -> Result<(), Fail> {
-    expect_dicts(&rt, rt.alloc())
+    expect_dicts(&rt, rt.alloc(), &DICTS)
 }
 
 #[test]

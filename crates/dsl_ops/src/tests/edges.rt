@@ -84,8 +84,12 @@ const NUMBERS: [(i64, BinOp, i64, &str); 60] = [
 ];
 
 /// Numbers are calculated by the table.
-fn expect_numbers(rt: &impl Abort, alloc: Global) -> Result<(), Fail> {
-    for row in &NUMBERS {
+fn expect_numbers(
+    rt: &impl Abort,
+    alloc: Global,
+    rows: &[(i64, BinOp, i64, &str)],
+) -> Result<(), Fail> {
+    for row in rows {
         let (left, op, right, want) = *row;
         let text = between(alloc, op, Plain::Number(left), Plain::Number(right))?;
         assert_eq!(rt; text.as_str(), want, "{left} {op:?} {right}");
@@ -95,7 +99,7 @@ fn expect_numbers(rt: &impl Abort, alloc: Global) -> Result<(), Fail> {
 
 #[test]
 fn numbers_end_at_their_edges(rt: HostRuntime) -> Result<(), Fail> {
-    expect_numbers(&rt, rt.alloc())
+    expect_numbers(&rt, rt.alloc(), &NUMBERS)
 }
 
 /// A number in thousandths, and what an operator before it gives.
@@ -111,8 +115,8 @@ const BEFORE: [(UnOp, i64, &str); 8] = [
 ];
 
 /// What stands before numbers is calculated by the table.
-fn expect_before(rt: &impl Abort, alloc: Global) -> Result<(), Fail> {
-    for row in &BEFORE {
+fn expect_before(rt: &impl Abort, alloc: Global, rows: &[(UnOp, i64, &str)]) -> Result<(), Fail> {
+    for row in rows {
         let (op, value, want) = *row;
         let text = before(alloc, op, Plain::Number(value))?;
         assert_eq!(rt; text.as_str(), want, "{op:?} {value}");
@@ -122,7 +126,7 @@ fn expect_before(rt: &impl Abort, alloc: Global) -> Result<(), Fail> {
 
 #[test]
 fn signs_and_complements_end_at_their_edges(rt: HostRuntime) -> Result<(), Fail> {
-    expect_before(&rt, rt.alloc())
+    expect_before(&rt, rt.alloc(), &BEFORE)
 }
 
 /// Two operands, and what an operator gives.
@@ -153,8 +157,12 @@ const ORDERS: [(Plain, BinOp, Plain, &str); 18] = [
 ];
 
 /// Values are ordered and joined by the table.
-fn expect_orders(rt: &impl Abort, alloc: Global) -> Result<(), Fail> {
-    for row in &ORDERS {
+fn expect_orders(
+    rt: &impl Abort,
+    alloc: Global,
+    rows: &[(Plain, BinOp, Plain, &str)],
+) -> Result<(), Fail> {
+    for row in rows {
         let (left, op, right, want) = *row;
         let text = between(alloc, op, left, right)?;
         assert_eq!(rt; text.as_str(), want, "{left:?} {op:?} {right:?}");
@@ -164,5 +172,5 @@ fn expect_orders(rt: &impl Abort, alloc: Global) -> Result<(), Fail> {
 
 #[test]
 fn null_counts_as_zero_and_as_the_empty_string(rt: HostRuntime) -> Result<(), Fail> {
-    expect_orders(&rt, rt.alloc())
+    expect_orders(&rt, rt.alloc(), &ORDERS)
 }

@@ -23,24 +23,50 @@ pub(super) enum Plain {
     Func,
 }
 
-/// A store with an array, a dictionary and a function.
-pub(super) fn store_of_operands(alloc: Global) -> Result<Store, OutOfMemory>
-    ensures { IfOk result (λ s. (length s.cells ≡ 2) × (length s.functions ≡ 1)) }
+/// Adds the array of 2 and `b`.
+fn add_array(alloc: Global, store: &mut Store) -> Result<(), OutOfMemory>
+    requires { length store.old.cells + 1 < 2 ^ 32 }
+    ensures count { OnOk result (length store.new.cells ≡ length store.old.cells + 1) }
+    ensures functions { OnOk result (store.new.functions ≡ store.old.functions) }
 {
-    let mut store = Store::new(alloc);
     let mut items = Row::new(alloc);
     items.push(Value::Number(Num::of(2000)))?;
     items.push(Value::Str(Text::copy_of(alloc, "b")?))?;
     store.array(items)?;
+    Ok(())
+}
+
+/// Adds the dictionary with 2 at `b`.
+fn add_dict(alloc: Global, store: &mut Store) -> Result<(), OutOfMemory>
+    requires { length store.old.cells + 1 < 2 ^ 32 }
+    ensures count { OnOk result (length store.new.cells ≡ length store.old.cells + 1) }
+    ensures functions { OnOk result (store.new.functions ≡ store.old.functions) }
+{
     let mut pairs = Row::new(alloc);
     pairs.push((Text::copy_of(alloc, "b")?, Value::Number(Num::of(2000))))?;
     store.dict(pairs)?;
+    Ok(())
+}
+
+/// A function without parameters and with an empty body.
+fn empty_function(alloc: Global) -> Result<Arc<Func>, OutOfMemory> {
     let func = Func {
         params: Row::new(alloc),
         uses: Vec::new(alloc),
         block: Vec::new(alloc),
     };
-    store.add_function(&Arc::new(alloc, func)?, Row::new(alloc))?;
+    Ok(Arc::new(alloc, func)?)
+}
+
+/// A store with an array, a dictionary and a function.
+pub(super) fn store_of_operands(alloc: Global) -> Result<Store, OutOfMemory>
+    ensures { IfOk result (λ s. (length s.cells ≡ 2) × (length s.functions ≡ 1)) }
+{
+    let mut store = Store::new(alloc);
+    add_array(alloc, &mut store)?;
+    add_dict(alloc, &mut store)?;
+    let func = empty_function(alloc)?;
+    store.add_function(&func, Row::new(alloc))?;
     Ok(store)
 }
 
