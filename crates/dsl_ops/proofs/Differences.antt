@@ -1,9 +1,9 @@
 -- What is left of a list without what equals an element of another.
-use Rattle.std.proofs.Common.{◌≡◌, ℕ, Bool, true, false, cond, not, ◌||◌, List, [], ◌∷◌, refl, ap, sym}
+use Rattle.std.proofs.Common.{◌≡◌, Bool, true, false, cond, not, ◌||◌, List, [], ◌∷◌, refl}
 use Rattle.std.specs.List.{list_any}
 use Rattle.std.proofs.lemmas.List.Folds.{Any-from_list_any}
 use Rattle.dsl_value.specs.declared.value.Value.{Value}
-use Rattle.dsl_ops.specs.Laws.{EqualsSome, EqualsNone, IsWithout, ends, stays, goes}
+use Rattle.dsl_ops.specs.Laws.{EqualsNone, IsWithout, ends, stays, goes}
 use Rattle.dsl_ops.specs.Table.{without}
 
 first : (a b : Bool) → (a || b) ≡ false → a ≡ false

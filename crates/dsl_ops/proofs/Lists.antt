@@ -1,5 +1,5 @@
 -- What is left of lists.
-use Rattle.std.proofs.Common.{◌≡◌, Bool, true, false, cond, not, List, [], ◌∷◌, refl, ap}
+use Rattle.std.proofs.Common.{Bool, true, false, cond, List, [], ◌∷◌}
 use Rattle.std.specs.List.{filter, AllByRecursion}
 
 -- what holds of all holds of those that are kept

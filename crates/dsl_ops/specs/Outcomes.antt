@@ -1,5 +1,5 @@
 -- What an operator gives: a value, a new cell, or a fault.
-use Rattle.std.specs.Prelude.{◌≡◌, ℕ, ◌+◌, ◌<◌, ◌^◌, List, [], ◌∷◌, ◌++◌, length, Option, Some, None, ℤ, Bool, Result, Ok, Err}
+use Rattle.std.specs.Prelude.{◌≡◌, ℕ, ◌+◌, ◌<◌, ◌^◌, [], ◌∷◌, ◌++◌, Option, Some, None, ℤ, Bool, Result, Ok, Err}
 use Rattle.std.specs.List.{AllByRecursion}
 use Rattle.dsl_value.specs.Pairs.{dict_of}
 use Rattle.dsl_value.specs.Contents.{PlainCell, array, dict, Contents, with_cells}
@@ -21,7 +21,7 @@ abbrev pub or_overflow : Option ℤ → Outcome
 or_overflow (Some n) = gives (value.Number n)
 or_overflow None = faults Overflow
 
--- whether it or_wrong_type, or WrongType where nothing is said of the operands
+-- whether it holds, or WrongType where that can't be said of the operands
 abbrev pub or_wrong_type : Option Bool → Outcome
 or_wrong_type (Some b) = gives (value.Bool b)
 or_wrong_type None = faults WrongType
@@ -32,7 +32,7 @@ after s (gives v) = s
 after s (makes c) = with_cells s (s.cells ++ c ∷ [])
 after s (faults e) = s
 
--- the value or the fault, in a store of so many cells
+-- the value or the fault; a new cell comes behind so many others
 abbrev pub answer : ℕ → Outcome → Result Value OpFault
 answer count (gives v) = Ok v
 answer count (makes c) = Ok (value.Ref count)
@@ -71,7 +71,7 @@ outcome_of (made.Value v) = gives v
 outcome_of (made.Array vs) = makes (array vs)
 outcome_of (made.Dict ps) = makes (dict (dict_of ps []))
 
--- what was made is this outcome, or the fault is, unless memory ran out
+-- what was made comes to this, or the fault is this, unless memory ran out
 abbrev pub Gives : Result Made OpFault → Outcome → Type 0
 Gives (Ok m) o = o ≡ outcome_of m
 Gives (Err WrongType) o = o ≡ faults WrongType

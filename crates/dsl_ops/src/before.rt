@@ -1,5 +1,5 @@
 // The operators before their operand.
-ghost use Rattle.std.specs.Prelude.{◌≡◌, ◌<◌, length};
+ghost use Rattle.std.specs.Prelude.{◌≡◌, ◌<◌, length, IfOk};
 ghost use Rattle.dsl_value.specs.Whole.{Names};
 ghost use Rattle.dsl_ops.specs.Operands.{plain};
 ghost use Rattle.dsl_ops.specs.Outcomes.{returned, number_returned};
@@ -18,7 +18,8 @@ use site_base::{Num, UnOp};
 /// another, and `Overflow` where the number is out of range. It takes no memory.
 pub fn unary(op: UnOp, value: &Value, store: &Store) -> Result<Value, OpFault>
     requires { Names (length store.now.cells) (length store.now.functions) value.now }
-    ensures { returned result ≡ unary_outcome store.now.cells op value.now }
+    ensures value { returned result ≡ unary_outcome store.now.cells op value.now }
+    ensures names { IfOk result (Names (length store.now.cells) (length store.now.functions)) }
 {
     let operand = operand_of(value, store);
     match op {

@@ -22,11 +22,13 @@ use dsl_value::{Store, Value, equal};
 use site_base::BinOp;
 use std::alloc::Global;
 
-/// What an operator between two operands gives. A new array or dictionary is one more cell of the store;
-/// else the store stays as it was. `&&` and `||` give the left operand, or the right one where the left
-/// doesn't decide. `WrongType` where the operands are of other types than the operator's, `Overflow` where
-/// a number is out of range or a shift goes further than 62 places, `DivZero` where the divisor is 0, and
-/// `OutOfMemory`.
+/// What an operator between two operands gives (Icinga 2 documentation, Language Reference, Operators). A
+/// new array or dictionary is one more cell of the store; else the store stays as it was. `&&` and `||` give
+/// the left operand, or the right one where the left one doesn't decide.
+///
+/// `WrongType` where the operator isn't for operands of these types, `Overflow` where a number is out of
+/// range or a shift isn't by 0 to 62 places, `DivZero` where the divisor is 0, and `OutOfMemory`. The
+/// types are looked at first.
 pub fn binary(
     alloc: Global,
     op: BinOp,

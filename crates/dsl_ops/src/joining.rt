@@ -15,7 +15,7 @@ use dsl_value::Value;
 use site_base::{OutOfMemory, Row, Text};
 use std::alloc::Global;
 
-/// `+`
+/// `+`: a sum, what null leaves of the other operand, a new array or dictionary of both, or a text.
 pub(crate) fn plus(alloc: Global, left: &Operand, right: &Operand) -> Result<Made, OpFault>
     requires left { IsInOrder (plain left.now) }
     requires right { IsInOrder (plain right.now) }
@@ -38,7 +38,7 @@ pub(crate) fn plus(alloc: Global, left: &Operand, right: &Operand) -> Result<Mad
     }
 }
 
-/// What null leaves of the other operand.
+/// What null leaves of the other operand: that operand, or a copy of an array or a dictionary.
 fn kept_of(alloc: Global, operand: &Operand) -> Result<Made, OpFault>
     requires { IsInOrder (plain operand.now) }
     ensures gives { Gives result (kept (plain operand.now)) }

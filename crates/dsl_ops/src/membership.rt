@@ -65,7 +65,7 @@ pub(crate) fn is_not_in(value: &Value, operand: &Operand, store: &Store) -> Resu
     }
 }
 
-/// `-`
+/// `-`: a difference of numbers, or a new array without what the right one has.
 pub(crate) fn minus_or_without(
     alloc: Global,
     left: &Operand,

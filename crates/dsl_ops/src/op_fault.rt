@@ -9,7 +9,7 @@ pub enum OpFault {
     /// The operator isn't for operands of these types.
     #[error("operands of the wrong type")]
     WrongType,
-    /// The number is out of range, or a shift goes further than 62 places.
+    /// The number is out of range, or a shift isn't by 0 to 62 places.
     #[error("out of range")]
     Overflow,
     /// The divisor is 0.
