@@ -2,6 +2,11 @@
 //! dictionaries.
 #![tactic(auto)]
 
+mod args;
+mod lib_fault;
+mod plain;
 mod wildcard;
 
+pub use lib_fault::LibFault;
+pub use plain::Plain;
 pub use wildcard::matches;

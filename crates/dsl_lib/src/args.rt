@@ -1,0 +1,114 @@
+// Arguments: how many there are, and of which type.
+ghost use Rattle.std.specs.Prelude.{◌≡◌, ◌<◌, Some, None, length, MatchResult};
+ghost use Rattle.dsl_value.specs.Whole.{Names};
+ghost use Rattle.dsl_lib.specs.Arguments.{one as one_of, two as two_of, three as three_of, text_in, number_in, items_in, pairs_in, array_in, dict_in};
+
+use crate::LibFault;
+use dsl_value::{Cell, Store, Value};
+use site_base::{Num, Text};
+
+/// The one argument.
+pub(crate) fn one(args: &[Value]) -> Result<&Value, LibFault>
+    ensures { MatchResult result (λ a. one_of args.now ≡ Some a.now) (λ e. (one_of args.now ≡ None) × (e ≡ LibFault.Arity)) }
+{
+    match args {
+        [a] => Ok(a),
+        _ => Err(LibFault::Arity),
+    }
+}
+
+/// The two arguments.
+pub(crate) fn two(args: &[Value]) -> Result<(&Value, &Value), LibFault>
+    ensures { MatchResult result (λ p. two_of args.now ≡ Some (p.0.now, p.1.now)) (λ e. (two_of args.now ≡ None) × (e ≡ LibFault.Arity)) }
+{
+    match args {
+        [a, b] => Ok((a, b)),
+        _ => Err(LibFault::Arity),
+    }
+}
+
+/// The three arguments.
+pub(crate) fn three(args: &[Value]) -> Result<(&Value, &Value, &Value), LibFault>
+    ensures { MatchResult result (λ p. three_of args.now ≡ Some (p.0.now, p.1.now, p.2.now)) (λ e. (three_of args.now ≡ None) × (e ≡ LibFault.Arity)) }
+{
+    match args {
+        [a, b, c] => Ok((a, b, c)),
+        _ => Err(LibFault::Arity),
+    }
+}
+
+/// The text that a value is.
+pub(crate) fn text(value: &Value) -> Result<&str, LibFault>
+    ensures { MatchResult result (λ t. text_in value.now ≡ Some t.now) (λ e. (text_in value.now ≡ None) × (e ≡ LibFault.WrongType)) }
+{
+    match value {
+        Value::Str(text) => Ok(text.as_str()),
+        _ => Err(LibFault::WrongType),
+    }
+}
+
+/// The number that a value is.
+pub(crate) fn number(value: &Value) -> Result<Num, LibFault>
+    ensures { MatchResult result (λ n. number_in value.now ≡ Some n) (λ e. (number_in value.now ≡ None) × (e ≡ LibFault.WrongType)) }
+{
+    match value {
+        Value::Number(number) => Ok(*number),
+        _ => Err(LibFault::WrongType),
+    }
+}
+
+/// The elements of the array that a value is.
+pub(crate) fn items<'a>(value: &Value, store: &'a Store) -> Result<&'a [Value], LibFault>
+    requires { Names (length store.now.cells) (length store.now.functions) value.now }
+    ensures { MatchResult result (λ vs. items_in store.now.cells value.now ≡ Some vs.now) (λ e. (items_in store.now.cells value.now ≡ None) × (e ≡ LibFault.WrongType)) }
+{
+    match value {
+        Value::Ref(cell) => match store.cell(*cell) {
+            Cell::Array(items) => Ok(items.as_slice()),
+            Cell::Dict(_) => Err(LibFault::WrongType),
+        },
+        _ => Err(LibFault::WrongType),
+    }
+}
+
+/// The pairs of the dictionary that a value is.
+pub(crate) fn pairs<'a>(value: &Value, store: &'a Store) -> Result<&'a [(Text, Value)], LibFault>
+    requires { Names (length store.now.cells) (length store.now.functions) value.now }
+    ensures { MatchResult result (λ ps. pairs_in store.now.cells value.now ≡ Some ps.now) (λ e. (pairs_in store.now.cells value.now ≡ None) × (e ≡ LibFault.WrongType)) }
+{
+    match value {
+        Value::Ref(cell) => match store.cell(*cell) {
+            Cell::Array(_) => Err(LibFault::WrongType),
+            Cell::Dict(pairs) => Ok(pairs.as_slice()),
+        },
+        _ => Err(LibFault::WrongType),
+    }
+}
+
+/// The cell of the array that a value is.
+pub(crate) fn array(value: &Value, store: &Store) -> Result<u32, LibFault>
+    requires { Names (length store.now.cells) (length store.now.functions) value.now }
+    ensures { MatchResult result (λ k. (k < length store.now.cells) × (array_in store.now.cells value.now ≡ Some k)) (λ e. (array_in store.now.cells value.now ≡ None) × (e ≡ LibFault.WrongType)) }
+{
+    match value {
+        Value::Ref(cell) => match store.cell(*cell) {
+            Cell::Array(_) => Ok(*cell),
+            Cell::Dict(_) => Err(LibFault::WrongType),
+        },
+        _ => Err(LibFault::WrongType),
+    }
+}
+
+/// The cell of the dictionary that a value is.
+pub(crate) fn dict(value: &Value, store: &Store) -> Result<u32, LibFault>
+    requires { Names (length store.now.cells) (length store.now.functions) value.now }
+    ensures { MatchResult result (λ k. (k < length store.now.cells) × (dict_in store.now.cells value.now ≡ Some k)) (λ e. (dict_in store.now.cells value.now ≡ None) × (e ≡ LibFault.WrongType)) }
+{
+    match value {
+        Value::Ref(cell) => match store.cell(*cell) {
+            Cell::Array(_) => Err(LibFault::WrongType),
+            Cell::Dict(_) => Ok(*cell),
+        },
+        _ => Err(LibFault::WrongType),
+    }
+}

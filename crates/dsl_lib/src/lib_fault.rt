@@ -1,0 +1,49 @@
+// Why a call of the library gave no value.
+use dsl_value::SetFault;
+use site_base::OutOfMemory;
+use thiserror::Error;
+
+/// Why a call of the library gave no value. The store is then as it was.
+#[derive(Clone, Copy, Debug, PartialEq, Eq, Error)]
+pub enum LibFault {
+    /// The function takes another number of arguments.
+    #[error("wrong number of arguments")]
+    Arity,
+    /// An argument has another type than the function takes, or a value that the function has no use
+    /// for: a number that isn't whole, a place inside a character, a step that isn't above 0.
+    #[error("wrong type")]
+    WrongType,
+    /// A number is out of range. No function of the library answers so.
+    #[error("a number out of range")]
+    Overflow,
+    /// The array or dictionary that is to be changed is frozen.
+    #[error("the cell is frozen")]
+    Frozen,
+    #[error("out of memory")]
+    OutOfMemory,
+}
+
+impl From<OutOfMemory> for LibFault {
+    ghost use Rattle.std.specs.Prelude.{◌≡◌};
+    ghost use Rattle.dsl_lib.specs.declared.lib_fault.LibFault.TheVariants.{OutOfMemory};
+
+    ghost from_gives = { λ _ e. e ≡ OutOfMemory };
+
+    fn from(_: OutOfMemory) -> LibFault {
+        LibFault::OutOfMemory
+    }
+}
+
+impl From<SetFault> for LibFault {
+    ghost use Rattle.std.specs.Prelude.{◌≡◌};
+    ghost use Rattle.dsl_lib.specs.Answers.{fault_of};
+
+    ghost from_gives = { λ s e. e ≡ fault_of s };
+
+    fn from(fault: SetFault) -> LibFault {
+        match fault {
+            SetFault::Frozen { .. } => LibFault::Frozen,
+            SetFault::OutOfMemory => LibFault::OutOfMemory,
+        }
+    }
+}
