@@ -1,5 +1,5 @@
 -- What a call of the library answers, and what it does to the store.
-use Rattle.std.specs.Prelude.{◌≡◌, ◌<◌, ◌+◌, ◌^◌, ℕ, nat_lt, List, [], ◌∷◌, ◌++◌, length, Option, Some, None, Result, Ok, Err, if◌then◌else◌}
+use Rattle.std.specs.Prelude.{◌≡◌, ◌<◌, ◌+◌, ◌==◌, ◌^◌, ℕ, nat_lt, List, [], ◌∷◌, ◌++◌, length, Option, Some, None, Result, Ok, Err, if◌then◌else◌}
 use Rattle.dsl_value.specs.Contents.{Contents, PlainCell, with_cells, with_cell}
 use Rattle.dsl_value.specs.declared.value.Value.{Value}
 use Rattle.dsl_value.specs.declared.value.Value.TheVariants as value
@@ -69,6 +69,8 @@ IsWrong o Arity = ⊥
 IsWrong o Overflow = ⊥
 IsWrong o Frozen = ⊥
 
-abbrev pub fault_of : SetFault → LibFault
-fault_of (set_fault.Frozen k) = Frozen
-fault_of set_fault.OutOfMemory = OutOfMemory
+-- what a call gives that has changed a cell, or couldn't
+abbrev pub change_gives : {A : Type 0} → ℕ → Result A SetFault → Result Value LibFault
+change_gives k (Ok u) = Ok value.Null
+change_gives k (Err (set_fault.Frozen j)) = if j == k then Err Frozen else Err OutOfMemory
+change_gives k (Err set_fault.OutOfMemory) = Err OutOfMemory

@@ -1,3 +1,9 @@
 pub mod Answers
 pub mod Arguments
+pub mod Arrays
+pub mod Dicts
+pub mod Matching
+pub mod Scalars
+pub mod Sets
+pub mod Texts
 pub mod Wildcards

@@ -1,6 +1,7 @@
 // Arguments: how many there are, and of which type.
-ghost use Rattle.std.specs.Prelude.{◌≡◌, ◌<◌, Some, None, length, MatchResult};
-ghost use Rattle.dsl_value.specs.Whole.{Names};
+ghost use Rattle.std.specs.Prelude.{◌≡◌, ◌<◌, Some, None, length, IfOk, MatchResult};
+ghost use Rattle.std.specs.List.{AllByRecursion};
+ghost use Rattle.dsl_value.specs.Whole.{Names, NamesAll};
 ghost use Rattle.dsl_lib.specs.Arguments.{one as one_of, two as two_of, three as three_of, text_in, number_in, items_in, pairs_in, array_in, dict_in};
 
 use crate::LibFault;
@@ -60,7 +61,8 @@ pub(crate) fn number(value: &Value) -> Result<Num, LibFault>
 /// The elements of the array that a value is.
 pub(crate) fn items<'a>(value: &Value, store: &'a Store) -> Result<&'a [Value], LibFault>
     requires { Names (length store.now.cells) (length store.now.functions) value.now }
-    ensures { MatchResult result (λ vs. items_in store.now.cells value.now ≡ Some vs.now) (λ e. (items_in store.now.cells value.now ≡ None) × (e ≡ LibFault.WrongType)) }
+    ensures items { MatchResult result (λ vs. items_in store.now.cells value.now ≡ Some vs.now) (λ e. (items_in store.now.cells value.now ≡ None) × (e ≡ LibFault.WrongType)) }
+    ensures stands { IfOk result (λ vs. AllByRecursion (Names (length store.now.cells) (length store.now.functions)) vs.now) }
 {
     match value {
         Value::Ref(cell) => match store.cell(*cell) {
@@ -74,7 +76,8 @@ pub(crate) fn items<'a>(value: &Value, store: &'a Store) -> Result<&'a [Value], 
 /// The pairs of the dictionary that a value is.
 pub(crate) fn pairs<'a>(value: &Value, store: &'a Store) -> Result<&'a [(Text, Value)], LibFault>
     requires { Names (length store.now.cells) (length store.now.functions) value.now }
-    ensures { MatchResult result (λ ps. pairs_in store.now.cells value.now ≡ Some ps.now) (λ e. (pairs_in store.now.cells value.now ≡ None) × (e ≡ LibFault.WrongType)) }
+    ensures pairs { MatchResult result (λ ps. pairs_in store.now.cells value.now ≡ Some ps.now) (λ e. (pairs_in store.now.cells value.now ≡ None) × (e ≡ LibFault.WrongType)) }
+    ensures stands { IfOk result (λ ps. NamesAll (length store.now.cells) (length store.now.functions) ps.now) }
 {
     match value {
         Value::Ref(cell) => match store.cell(*cell) {

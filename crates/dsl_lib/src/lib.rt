@@ -2,9 +2,25 @@
 //! dictionaries.
 #![tactic(auto)]
 
+mod answers;
 mod args;
+mod arrays;
+mod characters;
+mod cutting;
+mod dicts;
+mod joining;
 mod lib_fault;
+mod matching;
 mod plain;
+mod ranges;
+mod replacing;
+mod scalars;
+mod sets;
+mod sorting;
+mod splitting;
+mod texts;
+mod trimming;
+mod truth;
 mod wildcard;
 
 pub use lib_fault::LibFault;

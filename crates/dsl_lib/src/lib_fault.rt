@@ -1,6 +1,6 @@
 // Why a call of the library gave no value.
-use dsl_value::SetFault;
 use site_base::OutOfMemory;
+use std::alloc::{AllocError, AllocFailed};
 use thiserror::Error;
 
 /// Why a call of the library gave no value. The store is then as it was.
@@ -34,16 +34,24 @@ impl From<OutOfMemory> for LibFault {
     }
 }
 
-impl From<SetFault> for LibFault {
+impl From<AllocError> for LibFault {
     ghost use Rattle.std.specs.Prelude.{◌≡◌};
-    ghost use Rattle.dsl_lib.specs.Answers.{fault_of};
+    ghost use Rattle.dsl_lib.specs.declared.lib_fault.LibFault.TheVariants.{OutOfMemory};
 
-    ghost from_gives = { λ s e. e ≡ fault_of s };
+    ghost from_gives = { λ _ e. e ≡ OutOfMemory };
 
-    fn from(fault: SetFault) -> LibFault {
-        match fault {
-            SetFault::Frozen { .. } => LibFault::Frozen,
-            SetFault::OutOfMemory => LibFault::OutOfMemory,
-        }
+    fn from(_: AllocError) -> LibFault {
+        LibFault::OutOfMemory
+    }
+}
+
+impl<T: Drop> From<AllocFailed<T>> for LibFault {
+    ghost use Rattle.std.specs.Prelude.{◌≡◌};
+    ghost use Rattle.dsl_lib.specs.declared.lib_fault.LibFault.TheVariants.{OutOfMemory};
+
+    ghost from_gives = { λ _ e. e ≡ OutOfMemory };
+
+    fn from(_: AllocFailed<T>) -> LibFault {
+        LibFault::OutOfMemory
     }
 }

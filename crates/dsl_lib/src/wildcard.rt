@@ -1,7 +1,9 @@
 // Wildcards.
-ghost use Rattle.std.specs.Prelude.{◌≡◌, ◌∷◌, [], MatchOption};
+ghost use Rattle.std.specs.Prelude.{◌≡◌};
 ghost use Rattle.std.specs.Str.{chars};
 ghost use Rattle.dsl_lib.specs.Wildcards.{matches as matches_text, describes, any_then, stands_for as part_stands_for, Walked};
+
+use crate::characters::first;
 
 /// How far a pattern goes along a text before its first `*`.
 enum Walk<'a> {
@@ -79,13 +81,4 @@ fn stands_for(part: char, c: char) -> bool
     ensures { result ≡ part_stands_for part c }
 {
     part == '?' || part == c
-}
-
-/// The first character, and what follows it.
-fn first(text: &str) -> Option<(char, &str)>
-    ensures { MatchOption result (chars text.now ≡ []) (λ p. chars text.now ≡ p.0 ∷ chars p.1.now) }
-{
-    let mut characters = text.chars();
-    let c = characters.next()?;
-    Some((c, characters.as_str()))
 }

@@ -1,0 +1,12 @@
+use Rattle.std.proofs.Common.{◌≡◌, ◌++◌, length, map}
+use denote.Text.{Utf8}
+use denote.Shadow.{shadow}
+use Rattle.std.specs.Char.{to_ascii_uppercase}
+use Rattle.std.specs.Str.{chars, encode_utf8_all}
+use Rattle.dsl_lib.proofs.texts.raised.Given as goal
+
+abbrev pub invariant-loop-c : goal.invariant-loop-c
+invariant-loop-c l = shadow (Utf8 l.rest) × (l.raised ++ encode_utf8_all (map to_ascii_uppercase (chars l.rest)) ≡ encode_utf8_all (map to_ascii_uppercase (chars l.text)))
+
+abbrev pub decreases-loop-c : goal.decreases-loop-c
+decreases-loop-c l = length (chars l.rest)

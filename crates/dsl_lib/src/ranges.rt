@@ -1,0 +1,63 @@
+// Arrays of numbers.
+ghost use Rattle.std.specs.Prelude.{◌≡◌, ◌<◌, ◌++◌, pos, ◌<ℤ◌, length, IfOk};
+ghost use Rattle.dsl_lib.specs.Answers.{Answers, HasRoom};
+ghost use Rattle.dsl_lib.specs.Sets.{numbers_below, ranged as ranged_answer, range as range_answer};
+
+use crate::LibFault;
+use crate::args::number;
+use dsl_value::{Store, Value};
+use site_base::{Num, OutOfMemory, Row};
+use std::alloc::Global;
+
+/// `range(end)`, `range(start, end)`, `range(start, end, step)`: a new array of the numbers from 0 or the
+/// start, below the end, by 1 or the step, which has to be above 0.
+pub(crate) fn range(alloc: Global, args: &[Value], store: &mut Store) -> Result<Value, LibFault>
+    requires { HasRoom store.old (range_answer args.now) }
+    ensures { Answers store.old (range_answer args.now) result store.new }
+{
+    match args {
+        [end] => ranged(alloc, Num::of(0), number(end)?, Num::of(1000), store),
+        [start, end] => ranged(alloc, number(start)?, number(end)?, Num::of(1000), store),
+        [start, end, step] => ranged(alloc, number(start)?, number(end)?, number(step)?, store),
+        _ => Err(LibFault::Arity),
+    }
+}
+
+fn ranged(
+    alloc: Global,
+    start: Num,
+    end: Num,
+    step: Num,
+    store: &mut Store,
+) -> Result<Value, LibFault>
+    requires { HasRoom store.old (ranged_answer start end step) }
+    ensures { Answers store.old (ranged_answer start end step) result store.new }
+{
+    if step.thousandths() <= 0 {
+        return Err(LibFault::WrongType);
+    }
+    let numbers = numbers(
+        alloc,
+        start.thousandths(),
+        end.thousandths(),
+        step.thousandths(),
+    )?;
+    Ok(store.array(numbers)?)
+}
+
+/// The numbers from a first one on by a step, which lie below the end.
+fn numbers(alloc: Global, first: i64, end: i64, step: i64) -> Result<Row<Value>, OutOfMemory>
+    requires { pos 0 <ℤ step }
+    ensures { IfOk result (λ row. row ≡ numbers_below first end step) }
+{
+    let mut numbers = Row::new(alloc);
+    let mut next = first;
+    while next < end {
+        numbers.push(Value::Number(Num::of(next)))?;
+        match next.checked_add(step) {
+            Some(sum) => next = sum,
+            None => break,
+        }
+    }
+    Ok(numbers)
+}

@@ -1,0 +1,115 @@
+// Arrays of what lies in several.
+ghost use Rattle.std.specs.Prelude.{◌≡◌, ◌<◌, ◌++◌, List, [], length, Some, None, MatchResult, IfOk, OnOk};
+ghost use Rattle.std.specs.List.{AllByRecursion, flat_map};
+ghost use Rattle.dsl_value.specs.Whole.{Names};
+ghost use Rattle.dsl_value.specs.declared.value.Value.{Value};
+ghost use Rattle.dsl_lib.specs.Answers.{Answers, HasRoom, IsWrong};
+ghost use Rattle.dsl_lib.specs.Arguments.{items_in};
+ghost use Rattle.dsl_lib.specs.Arrays.{all_in, has_equal};
+ghost use Rattle.dsl_lib.specs.Sets.{with_distinct, distinct, union as union_answer, is_common, common as common_of, intersection as intersection_answer};
+
+use crate::LibFault;
+use crate::args::items;
+use crate::arrays::has;
+use dsl_value::{Store, Value};
+use site_base::{OutOfMemory, Row};
+use std::alloc::Global;
+
+/// `union(array, ..)`: a new array of the distinct elements, in the order in which each first comes.
+pub(crate) fn union(alloc: Global, args: &[Value], store: &mut Store) -> Result<Value, LibFault>
+    requires stands { AllByRecursion (Names (length store.old.cells) (length store.old.functions)) args.now }
+    requires few { HasRoom store.old (union_answer store.old args.now) }
+    ensures { Answers store.old (union_answer store.old args.now) result store.new }
+{
+    if args.is_empty() {
+        return Err(LibFault::Arity);
+    }
+    let mut taken = Row::new(alloc);
+    take_arrays(&mut taken, args, store)?;
+    Ok(store.array(taken)?)
+}
+
+/// Takes the distinct elements of arrays.
+fn take_arrays(taken: &mut Row<Value>, args: &[Value], store: &Store) -> Result<(), LibFault>
+    requires args { AllByRecursion (Names (length store.now.cells) (length store.now.functions)) args.now }
+    requires taken { AllByRecursion (Names (length store.now.cells) (length store.now.functions)) taken.old }
+    ensures taken { MatchResult result (λ _. (xss : List (List Value)) × (all_in (items_in store.now.cells) args.now ≡ Some xss) × (taken.new ≡ distinct store.now.cells taken.old (flat_map (λ xs. xs) xss))) (IsWrong (all_in (items_in store.now.cells) args.now)) }
+    ensures stands { AllByRecursion (Names (length store.now.cells) (length store.now.functions)) taken.new }
+{
+    for arg in args {
+        take_all(taken, items(arg, store)?, store)?;
+    }
+    Ok(())
+}
+
+/// Takes the distinct ones of some values.
+fn take_all(taken: &mut Row<Value>, values: &[Value], store: &Store) -> Result<(), OutOfMemory>
+    requires values { AllByRecursion (Names (length store.now.cells) (length store.now.functions)) values.now }
+    requires taken { AllByRecursion (Names (length store.now.cells) (length store.now.functions)) taken.old }
+    ensures taken { OnOk result (taken.new ≡ distinct store.now.cells taken.old values.now) }
+    ensures stands { AllByRecursion (Names (length store.now.cells) (length store.now.functions)) taken.new }
+{
+    for value in values {
+        take(taken, value, store)?;
+    }
+    Ok(())
+}
+
+/// Takes a value, unless one that was taken is equal to it.
+fn take(taken: &mut Row<Value>, value: &Value, store: &Store) -> Result<(), OutOfMemory>
+    requires value { Names (length store.now.cells) (length store.now.functions) value.now }
+    requires taken { AllByRecursion (Names (length store.now.cells) (length store.now.functions)) taken.old }
+    ensures taken { OnOk result (taken.new ≡ with_distinct store.now.cells taken.old value.now) }
+    ensures stands { AllByRecursion (Names (length store.now.cells) (length store.now.functions)) taken.new }
+{
+    if has(taken.as_slice(), value, store) {
+        return Ok(());
+    }
+    taken.push(value.clone()?)
+}
+
+/// `intersection(array, ..)`: a new array of the distinct ones of the first array's elements that are in all.
+pub(crate) fn intersection(
+    alloc: Global,
+    args: &[Value],
+    store: &mut Store,
+) -> Result<Value, LibFault>
+    requires stands { AllByRecursion (Names (length store.old.cells) (length store.old.functions)) args.now }
+    requires few { HasRoom store.old (intersection_answer store.old args.now) }
+    ensures { Answers store.old (intersection_answer store.old args.now) result store.new }
+{
+    let [first, others @ ..] = args else {
+        return Err(LibFault::Arity);
+    };
+    let common = common(alloc, first, others, store)?;
+    Ok(store.array(common)?)
+}
+
+/// The distinct ones of an array's elements that are in all others.
+fn common(
+    alloc: Global,
+    first: &Value,
+    others: &[Value],
+    store: &Store,
+) -> Result<Row<Value>, LibFault> {
+    for other in others {
+        items(other, store)?;
+    }
+    let mut taken = Row::new(alloc);
+    for value in items(first, store)? {
+        if lies_in_all(value, others, store)? {
+            take(&mut taken, value, store)?;
+        }
+    }
+    Ok(taken)
+}
+
+/// Whether a value is in each of some arrays.
+fn lies_in_all(value: &Value, arrays: &[Value], store: &Store) -> Result<bool, LibFault> {
+    for array in arrays {
+        if !has(items(array, store)?, value, store) {
+            return Ok(false);
+        }
+    }
+    Ok(true)
+}

@@ -1,0 +1,42 @@
+// Texts that are cut at separators.
+ghost use Rattle.std.specs.Prelude.{◌≡◌, ◌<◌, length, map, IfOk};
+ghost use Rattle.dsl_value.specs.declared.value.Value.TheVariants as value;
+ghost use Rattle.dsl_lib.specs.Answers.{Answers, HasRoom};
+ghost use Rattle.dsl_lib.specs.Texts.{pieces as pieces_of, split as split_answer};
+
+use crate::LibFault;
+use crate::args::{text, two};
+use crate::characters::{first, has_char};
+use dsl_value::{Store, Value};
+use site_base::{OutOfMemory, Row, Text};
+use std::alloc::Global;
+use std::mem;
+
+/// `text.split(separators)`: a new array of the pieces between the separators, each of which is one
+/// character.
+pub(crate) fn split(alloc: Global, args: &[Value], store: &mut Store) -> Result<Value, LibFault>
+    requires { HasRoom store.old (split_answer args.now) }
+    ensures { Answers store.old (split_answer args.now) result store.new }
+{
+    let (of, separators) = two(args)?;
+    let pieces = pieces(alloc, text(of)?, text(separators)?)?;
+    Ok(store.array(pieces)?)
+}
+
+fn pieces(alloc: Global, text: &str, separators: &str) -> Result<Row<Value>, OutOfMemory>
+    ensures { IfOk result (λ row. row ≡ map value.Str (pieces_of text.now separators.now)) }
+{
+    let mut pieces = Row::new(alloc);
+    let mut piece = Text::new(alloc);
+    let mut rest = text;
+    while let Some((c, others)) = first(rest) {
+        if has_char(separators, c) {
+            pieces.push(Value::Str(mem::replace(&mut piece, Text::new(alloc))))?;
+        } else {
+            piece.push(c)?;
+        }
+        rest = others;
+    }
+    pieces.push(Value::Str(piece))?;
+    Ok(pieces)
+}
