@@ -1,8 +1,13 @@
 pub mod AllIn
 pub mod Along
+pub mod Calls
 pub mod Chars
+pub mod Joins
+pub mod Matched
 pub mod Parts
 pub mod Pieces
 pub mod Signs
 pub mod Sorts
 pub mod Stand
+pub mod Steps
+pub mod Unions

@@ -1,5 +1,5 @@
 -- Lists in order: a sorted list with the elements of another is that one sorted.
-use Rattle.std.proofs.Common.{◌≡◌, ◌⊎◌, inl, inr, ℕ, zero, suc, ◌+◌, ◌<◌, ◌≤◌, Bool, true, false, cond, List, [], ◌∷◌, length, get_or, set, refl, sym, ap, subst, ◌∙◌, arith}
+use Rattle.std.proofs.Common.{◌≡◌, ◌⊎◌, inl, inr, ℕ, zero, suc, ◌+◌, ◌<◌, ◌≤◌, Bool, true, false, cond, List, [], ◌∷◌, length, get_or, set, length-set, refl, sym, ap, subst, ◌∙◌, arith}
 use Rattle.std.specs.Cmp.{IsTotalOrder}
 use Rattle.std.specs.Ordering.{is_gt, is_lt, is_eq, ordering_reverse}
 use Rattle.std.specs.declared.cmp.Ordering.{Ordering}
@@ -99,7 +99,7 @@ module _ {A : Type 0} {cmp : A → A → Ordering} (o : IsTotalOrder cmp) (exact
   at_set : (l : List A) (i j : ℕ) (d : A) → i < length l → j < length l → get_or (set l i (get_or l j d)) j d ≡ get_or l j d
   at_set l i j d hi hj = elim (ℕ_discrete i j) [
     | yes e ↦ ap (λ k. get_or (set l i (get_or l j d)) k d) (sym e) ∙ get_or-set_same l i (get_or l j d) d hi
-    | no n ↦ get_or-set_other l i j (get_or l j d) d ?
+    | no n ↦ get_or-set_other l i j (get_or l j d) d (λ e. n (sym e))
   ]
 
   swap_sorted : (l : List A) (i j : ℕ) (d : A) → i < length l → j < length l → sorted cmp (swap l i j) ≡ sorted cmp l
@@ -108,7 +108,7 @@ module _ {A : Type 0} {cmp : A → A → Ordering} (o : IsTotalOrder cmp) (exact
       let m : List A = set l i b in
       ap (sorted cmp) (sym (swap_is l i j d hi hj))
       ∙ sym (take_put b (sorted cmp (set m j (get_or l i d))))
-      ∙ ap (take_out b) (ap (λ x. put_in cmp x (sorted cmp (set m j (get_or l i d)))) (sym (at_set l i j d hi hj)) ∙ set_put m j (get_or l i d) d ? ∙ set_put l i b d hi)
+      ∙ ap (take_out b) (ap (λ x. put_in cmp x (sorted cmp (set m j (get_or l i d)))) (sym (at_set l i j d hi hj)) ∙ set_put m j (get_or l i d) d (omega (arith, hj, length-set l i b)) ∙ set_put l i b d hi)
       ∙ take_put b (sorted cmp l)
 
   first_or : (l : List A) (i : ℕ) → i < length l → A

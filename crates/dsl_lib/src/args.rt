@@ -1,6 +1,7 @@
 // Arguments: how many there are, and of which type.
 ghost use Rattle.std.specs.Prelude.{◌≡◌, ◌<◌, Some, None, length, IfOk, MatchResult};
 ghost use Rattle.std.specs.List.{AllByRecursion};
+ghost use Rattle.dsl_value.specs.Contents.{cell_at, pairs_of};
 ghost use Rattle.dsl_value.specs.Whole.{Names, NamesAll};
 ghost use Rattle.dsl_lib.specs.Arguments.{one as one_of, two as two_of, three as three_of, text_in, number_in, items_in, pairs_in, array_in, dict_in};
 
@@ -105,7 +106,8 @@ pub(crate) fn array(value: &Value, store: &Store) -> Result<u32, LibFault>
 /// The cell of the dictionary that a value is.
 pub(crate) fn dict(value: &Value, store: &Store) -> Result<u32, LibFault>
     requires { Names (length store.now.cells) (length store.now.functions) value.now }
-    ensures { MatchResult result (λ k. (k < length store.now.cells) × (dict_in store.now.cells value.now ≡ Some k)) (λ e. (dict_in store.now.cells value.now ≡ None) × (e ≡ LibFault.WrongType)) }
+    ensures dict { MatchResult result (λ k. (k < length store.now.cells) × (dict_in store.now.cells value.now ≡ Some k)) (λ e. (dict_in store.now.cells value.now ≡ None) × (e ≡ LibFault.WrongType)) }
+    ensures stands { IfOk result (λ k. NamesAll (length store.now.cells) (length store.now.functions) (pairs_of (cell_at store.now.cells k))) }
 {
     match value {
         Value::Ref(cell) => match store.cell(*cell) {

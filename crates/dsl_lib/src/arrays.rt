@@ -1,5 +1,5 @@
 // The methods of arrays.
-ghost use Rattle.std.specs.Prelude.{◌≡◌, ◌<◌, length, MatchResult};
+ghost use Rattle.std.specs.Prelude.{◌≡◌, ◌<◌, length, MatchResult, IfOk};
 ghost use Rattle.std.specs.List.{AllByRecursion};
 ghost use Rattle.dsl_value.specs.Whole.{Names};
 ghost use Rattle.dsl_lib.specs.Answers.{Returns, Answers};
@@ -14,7 +14,8 @@ use dsl_value::{Store, Value, equal};
 /// `array.len()`
 pub(crate) fn len(args: &[Value], store: &Store) -> Result<Value, LibFault>
     requires { AllByRecursion (Names (length store.now.cells) (length store.now.functions)) args.now }
-    ensures { Returns (len_answer store.now args.now) result }
+    ensures answer { Returns (len_answer store.now args.now) result }
+    ensures stands { IfOk result (Names (length store.now.cells) (length store.now.functions)) }
 {
     whole(items(one(args)?, store)?.len())
 }
@@ -22,7 +23,8 @@ pub(crate) fn len(args: &[Value], store: &Store) -> Result<Value, LibFault>
 /// `array.contains(value)`
 pub(crate) fn contains(args: &[Value], store: &Store) -> Result<Value, LibFault>
     requires { AllByRecursion (Names (length store.now.cells) (length store.now.functions)) args.now }
-    ensures { Returns (contains_answer store.now args.now) result }
+    ensures answer { Returns (contains_answer store.now args.now) result }
+    ensures stands { IfOk result (Names (length store.now.cells) (length store.now.functions)) }
 {
     let (of, value) = two(args)?;
     let items = items(of, store)?;
@@ -46,7 +48,8 @@ pub(crate) fn has(items: &[Value], value: &Value, store: &Store) -> bool
 /// `array.get(index)`: the element, or null out of range.
 pub(crate) fn get(args: &[Value], store: &Store) -> Result<Value, LibFault>
     requires { AllByRecursion (Names (length store.now.cells) (length store.now.functions)) args.now }
-    ensures { Returns (get_answer store.now args.now) result }
+    ensures answer { Returns (get_answer store.now args.now) result }
+    ensures stands { IfOk result (Names (length store.now.cells) (length store.now.functions)) }
 {
     let (of, index) = two(args)?;
     let items = items(of, store)?;
@@ -68,7 +71,8 @@ fn element(items: &[Value], index: i64) -> Result<Value, LibFault>
 /// `array.add(value)`
 pub(crate) fn add(args: &[Value], store: &mut Store) -> Result<Value, LibFault>
     requires { AllByRecursion (Names (length store.old.cells) (length store.old.functions)) args.now }
-    ensures { Answers store.old (add_answer store.old args.now) result store.new }
+    ensures answer { Answers store.old (add_answer store.old args.now) result store.new }
+    ensures stands { IfOk result (Names (length store.new.cells) (length store.new.functions)) }
 {
     let (of, value) = two(args)?;
     let cell = array(of, store)?;

@@ -1,5 +1,6 @@
 // Windows of texts.
-ghost use Rattle.std.specs.Prelude.{◌≡◌, ◌≤◌, ◌+ℤ◌, MatchResult, Some, None, length};
+ghost use Rattle.std.specs.Prelude.{◌≡◌, ◌≤◌, ◌+ℤ◌, MatchResult, Some, None, length, IfOk, ℕ};
+ghost use Rattle.dsl_value.specs.Whole.{Names};
 ghost use Rattle.dsl_lib.specs.Answers.{Returns};
 ghost use Rattle.dsl_lib.specs.Texts.{whole_in, cut as cut_to, is_boundary, window as window_of, part_of, substr as substr_answer};
 
@@ -12,7 +13,8 @@ use std::alloc::Global;
 /// `text.substr(start, length)`: so many bytes from a place on, cut to the text. A negative start or length
 /// is lawful.
 pub(crate) fn substr(alloc: Global, args: &[Value]) -> Result<Value, LibFault>
-    ensures { Returns (substr_answer args.now) result }
+    ensures answer { Returns (substr_answer args.now) result }
+    ensures stands { IfOk result (λ v. (cells functions : ℕ) → Names cells functions v) }
 {
     let (of, start, len) = three(args)?;
     let text = text(of)?;

@@ -17,7 +17,8 @@ use std::alloc::Global;
 pub(crate) fn keys(alloc: Global, args: &[Value], store: &mut Store) -> Result<Value, LibFault>
     requires stands { AllByRecursion (Names (length store.old.cells) (length store.old.functions)) args.now }
     requires few { HasRoom store.old (keys_answer store.old args.now) }
-    ensures { Answers store.old (keys_answer store.old args.now) result store.new }
+    ensures answer { Answers store.old (keys_answer store.old args.now) result store.new }
+    ensures stands { IfOk result (Names (length store.new.cells) (length store.new.functions)) }
 {
     let keys = key_values(alloc, pairs(one(args)?, store)?)?;
     Ok(store.array(keys)?)
@@ -37,7 +38,8 @@ fn key_values(alloc: Global, pairs: &[(Text, Value)]) -> Result<Row<Value>, OutO
 pub(crate) fn values(alloc: Global, args: &[Value], store: &mut Store) -> Result<Value, LibFault>
     requires stands { AllByRecursion (Names (length store.old.cells) (length store.old.functions)) args.now }
     requires few { HasRoom store.old (values_answer store.old args.now) }
-    ensures { Answers store.old (values_answer store.old args.now) result store.new }
+    ensures answer { Answers store.old (values_answer store.old args.now) result store.new }
+    ensures stands { IfOk result (Names (length store.new.cells) (length store.new.functions)) }
 {
     let values = copied_values(alloc, pairs(one(args)?, store)?)?;
     Ok(store.array(values)?)
@@ -56,7 +58,8 @@ fn copied_values(alloc: Global, pairs: &[(Text, Value)]) -> Result<Row<Value>, O
 /// `dictionary.len()`
 pub(crate) fn len(args: &[Value], store: &Store) -> Result<Value, LibFault>
     requires { AllByRecursion (Names (length store.now.cells) (length store.now.functions)) args.now }
-    ensures { Returns (len_answer store.now args.now) result }
+    ensures answer { Returns (len_answer store.now args.now) result }
+    ensures stands { IfOk result (Names (length store.now.cells) (length store.now.functions)) }
 {
     whole(pairs(one(args)?, store)?.len())
 }
@@ -64,7 +67,8 @@ pub(crate) fn len(args: &[Value], store: &Store) -> Result<Value, LibFault>
 /// `dictionary.contains(key)`
 pub(crate) fn contains(args: &[Value], store: &Store) -> Result<Value, LibFault>
     requires { AllByRecursion (Names (length store.now.cells) (length store.now.functions)) args.now }
-    ensures { Returns (contains_answer store.now args.now) result }
+    ensures answer { Returns (contains_answer store.now args.now) result }
+    ensures stands { IfOk result (Names (length store.now.cells) (length store.now.functions)) }
 {
     let (of, key) = two(args)?;
     let cell = dict(of, store)?;
@@ -74,7 +78,8 @@ pub(crate) fn contains(args: &[Value], store: &Store) -> Result<Value, LibFault>
 /// `dictionary.get(key)`: the key's value, or null.
 pub(crate) fn get(args: &[Value], store: &Store) -> Result<Value, LibFault>
     requires { AllByRecursion (Names (length store.now.cells) (length store.now.functions)) args.now }
-    ensures { Returns (get_answer store.now args.now) result }
+    ensures answer { Returns (get_answer store.now args.now) result }
+    ensures stands { IfOk result (Names (length store.now.cells) (length store.now.functions)) }
 {
     let (of, key) = two(args)?;
     let cell = dict(of, store)?;
@@ -87,7 +92,8 @@ pub(crate) fn get(args: &[Value], store: &Store) -> Result<Value, LibFault>
 /// `dictionary.set(key, value)`
 pub(crate) fn set(alloc: Global, args: &[Value], store: &mut Store) -> Result<Value, LibFault>
     requires { AllByRecursion (Names (length store.old.cells) (length store.old.functions)) args.now }
-    ensures { Answers store.old (set_answer store.old args.now) result store.new }
+    ensures answer { Answers store.old (set_answer store.old args.now) result store.new }
+    ensures stands { IfOk result (Names (length store.new.cells) (length store.new.functions)) }
 {
     let (of, key, value) = three(args)?;
     let cell = dict(of, store)?;
@@ -99,7 +105,8 @@ pub(crate) fn set(alloc: Global, args: &[Value], store: &mut Store) -> Result<Va
 /// `dictionary.remove(key)`
 pub(crate) fn remove(args: &[Value], store: &mut Store) -> Result<Value, LibFault>
     requires { AllByRecursion (Names (length store.old.cells) (length store.old.functions)) args.now }
-    ensures { Answers store.old (remove_answer store.old args.now) result store.new }
+    ensures answer { Answers store.old (remove_answer store.old args.now) result store.new }
+    ensures stands { IfOk result (Names (length store.new.cells) (length store.new.functions)) }
 {
     let (of, key) = two(args)?;
     let cell = dict(of, store)?;

@@ -1,5 +1,5 @@
 // Texts of scalars, joined.
-ghost use Rattle.std.specs.Prelude.{◌≡◌, ◌<◌, ◌++◌, ℕ, List, length, drop, nat_lt, Some, MatchResult};
+ghost use Rattle.std.specs.Prelude.{◌≡◌, ◌<◌, ◌++◌, ℕ, List, length, drop, nat_lt, Some, MatchResult, IfOk};
 ghost use Rattle.std.specs.List.{AllByRecursion, flat_map};
 ghost use Rattle.dsl_value.specs.Whole.{Names};
 ghost use Rattle.dsl_lib.specs.Answers.{Returns, IsWrong};
@@ -16,7 +16,8 @@ use std::alloc::Global;
 /// `array.join(separator)`: the texts of scalars with a separator between each two.
 pub(crate) fn join(alloc: Global, args: &[Value], store: &Store) -> Result<Value, LibFault>
     requires { AllByRecursion (Names (length store.now.cells) (length store.now.functions)) args.now }
-    ensures { Returns (join_answer store.now args.now) result }
+    ensures answer { Returns (join_answer store.now args.now) result }
+    ensures stands { IfOk result (Names (length store.now.cells) (length store.now.functions)) }
 {
     let (of, separator) = two(args)?;
     let items = items(of, store)?;

@@ -5,6 +5,7 @@
 mod answers;
 mod args;
 mod arrays;
+mod call;
 mod characters;
 mod cutting;
 mod dicts;
@@ -23,6 +24,7 @@ mod trimming;
 mod truth;
 mod wildcard;
 
+pub use call::call_plain;
 pub use lib_fault::LibFault;
 pub use plain::Plain;
 pub use wildcard::matches;

@@ -1,5 +1,5 @@
 // The function `match`.
-ghost use Rattle.std.specs.Prelude.{◌≡◌, ◌<◌, ◌&&◌, Bool, List, ℕ, length, Some, MatchResult};
+ghost use Rattle.std.specs.Prelude.{◌≡◌, ◌<◌, ◌&&◌, Bool, List, ℕ, length, Some, MatchResult, IfOk};
 ghost use Rattle.std.specs.List.{AllByRecursion, list_all};
 ghost use Rattle.dsl_value.specs.Whole.{Names};
 ghost use Rattle.dsl_lib.specs.Answers.{Returns, IsWrong};
@@ -18,7 +18,8 @@ use std::alloc::Global;
 /// text; or each element of an array, of which there has to be one.
 pub(crate) fn match_value(alloc: Global, args: &[Value], store: &Store) -> Result<Value, LibFault>
     requires { AllByRecursion (Names (length store.now.cells) (length store.now.functions)) args.now }
-    ensures { Returns (match_answer store.now args.now) result }
+    ensures answer { Returns (match_answer store.now args.now) result }
+    ensures stands { IfOk result (Names (length store.now.cells) (length store.now.functions)) }
 {
     let (pattern, value) = two(args)?;
     let pattern = text(pattern)?;
@@ -42,7 +43,7 @@ fn all_match_pattern(alloc: Global, pattern: &str, items: &[Value]) -> Result<bo
     let mut all = !items.is_empty();
     for item in items {
         let one = scalar_matches(alloc, pattern, item)?;
-        all = all && one;
+        all &= one;
     }
     Ok(all)
 }

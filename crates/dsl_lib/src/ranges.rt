@@ -1,5 +1,6 @@
 // Arrays of numbers.
 ghost use Rattle.std.specs.Prelude.{◌≡◌, ◌<◌, ◌++◌, pos, ◌<ℤ◌, length, IfOk};
+ghost use Rattle.dsl_value.specs.Whole.{Names};
 ghost use Rattle.dsl_lib.specs.Answers.{Answers, HasRoom};
 ghost use Rattle.dsl_lib.specs.Sets.{numbers_below, ranged as ranged_answer, range as range_answer};
 
@@ -13,7 +14,8 @@ use std::alloc::Global;
 /// start, below the end, by 1 or the step, which has to be above 0.
 pub(crate) fn range(alloc: Global, args: &[Value], store: &mut Store) -> Result<Value, LibFault>
     requires { HasRoom store.old (range_answer args.now) }
-    ensures { Answers store.old (range_answer args.now) result store.new }
+    ensures answer { Answers store.old (range_answer args.now) result store.new }
+    ensures stands { IfOk result (Names (length store.new.cells) (length store.new.functions)) }
 {
     match args {
         [end] => ranged(alloc, Num::of(0), number(end)?, Num::of(1000), store),
@@ -36,28 +38,23 @@ fn ranged(
     if step.thousandths() <= 0 {
         return Err(LibFault::WrongType);
     }
-    let numbers = numbers(
-        alloc,
-        start.thousandths(),
-        end.thousandths(),
-        step.thousandths(),
-    )?;
+    let numbers = numbers(alloc, start, end, step)?;
     Ok(store.array(numbers)?)
 }
 
 /// The numbers from a first one on by a step, which lie below the end.
-fn numbers(alloc: Global, first: i64, end: i64, step: i64) -> Result<Row<Value>, OutOfMemory>
+fn numbers(alloc: Global, first: Num, end: Num, step: Num) -> Result<Row<Value>, OutOfMemory>
     requires { pos 0 <ℤ step }
     ensures { IfOk result (λ row. row ≡ numbers_below first end step) }
 {
     let mut numbers = Row::new(alloc);
     let mut next = first;
-    while next < end {
-        numbers.push(Value::Number(Num::of(next)))?;
-        match next.checked_add(step) {
-            Some(sum) => next = sum,
-            None => break,
-        }
+    while next.thousandths() < end.thousandths() {
+        numbers.push(Value::Number(next))?;
+        next = match next.plus(&step) {
+            Some(sum) => sum,
+            None => return Ok(numbers),
+        };
     }
     Ok(numbers)
 }

@@ -1,5 +1,6 @@
 // Parts of texts that another text is put in the place of.
-ghost use Rattle.std.specs.Prelude.{◌≡◌, ◌++◌, ◌<◌, length, IfOk, OnOk};
+ghost use Rattle.std.specs.Prelude.{◌≡◌, ◌++◌, ◌<◌, length, IfOk, OnOk, ℕ};
+ghost use Rattle.dsl_value.specs.Whole.{Names};
 ghost use Rattle.dsl_lib.specs.Answers.{Returns};
 ghost use Rattle.dsl_lib.specs.Texts.{replaced_behind, replaced as replaced_text, replace as replace_answer};
 
@@ -11,7 +12,8 @@ use std::alloc::Global;
 
 /// `text.replace(part, by)`: each part, from left to right; an empty one changes nothing.
 pub(crate) fn replace(alloc: Global, args: &[Value]) -> Result<Value, LibFault>
-    ensures { Returns (replace_answer args.now) result }
+    ensures answer { Returns (replace_answer args.now) result }
+    ensures stands { IfOk result (λ v. (cells functions : ℕ) → Names cells functions v) }
 {
     let (of, part, by) = three(args)?;
     let replaced = replaced(alloc, text(of)?, text(part)?, text(by)?)?;

@@ -1,5 +1,5 @@
 // The functions of single values.
-ghost use Rattle.std.specs.Prelude.{◌≡◌, ◌<◌, ◌*◌, ◌++◌, List, ℕ, pos, Some, None, length, MatchResult, IfSome, IfErr};
+ghost use Rattle.std.specs.Prelude.{◌≡◌, ◌<◌, ◌*◌, ◌++◌, List, ℕ, pos, Some, None, length, MatchResult, IfSome, IfErr, IfOk};
 ghost use Rattle.std.specs.List.{AllByRecursion};
 ghost use Rattle.dsl_value.specs.Whole.{Names};
 ghost use Rattle.dsl_lib.specs.Answers.{Returns, IsWrong};
@@ -15,7 +15,8 @@ use std::alloc::Global;
 /// `len(value)`: bytes, elements or pairs.
 pub(crate) fn len(args: &[Value], store: &Store) -> Result<Value, LibFault>
     requires { AllByRecursion (Names (length store.now.cells) (length store.now.functions)) args.now }
-    ensures { Returns (len_answer store.now args.now) result }
+    ensures answer { Returns (len_answer store.now args.now) result }
+    ensures stands { IfOk result (Names (length store.now.cells) (length store.now.functions)) }
 {
     whole(size(one(args)?, store)?)
 }
@@ -55,7 +56,8 @@ fn thousandths(count: usize) -> Option<i64>
 
 /// `string(value)`: the text of a scalar; null has the empty one.
 pub(crate) fn string(alloc: Global, args: &[Value]) -> Result<Value, LibFault>
-    ensures { Returns (string_answer args.now) result }
+    ensures answer { Returns (string_answer args.now) result }
+    ensures stands { IfOk result (λ v. (cells functions : ℕ) → Names cells functions v) }
 {
     let value = one(args)?;
     let mut text = Text::new(alloc);
@@ -65,7 +67,7 @@ pub(crate) fn string(alloc: Global, args: &[Value]) -> Result<Value, LibFault>
 
 /// Adds the text of a scalar or of null at the end of a text.
 fn push_string(out: &mut Text, value: &Value) -> Result<(), LibFault>
-    ensures ok { MatchResult result (λ _. (t : List ℕ) × (string_text value.now ≡ Some t) × (out.new ≡ out.old ++ t)) (IsWrong (string_text value.now)) }
+    ensures { MatchResult result (λ _. (t : List ℕ) × (string_text value.now ≡ Some t) × (out.new ≡ out.old ++ t)) (IsWrong (string_text value.now)) }
 {
     match value {
         Value::Null => Ok(()),
@@ -75,7 +77,7 @@ fn push_string(out: &mut Text, value: &Value) -> Result<(), LibFault>
 
 /// Adds the text of a scalar at the end of a text.
 pub(crate) fn push_scalar(out: &mut Text, value: &Value) -> Result<(), LibFault>
-    ensures ok { MatchResult result (λ _. (t : List ℕ) × (scalar_text value.now ≡ Some t) × (out.new ≡ out.old ++ t)) (IsWrong (scalar_text value.now)) }
+    ensures { MatchResult result (λ _. (t : List ℕ) × (scalar_text value.now ≡ Some t) × (out.new ≡ out.old ++ t)) (IsWrong (scalar_text value.now)) }
 {
     match value {
         Value::Str(text) => out.push_str(text.as_str())?,
@@ -89,7 +91,8 @@ pub(crate) fn push_scalar(out: &mut Text, value: &Value) -> Result<(), LibFault>
 
 /// `number(value)`: a number, a boolean as 0 or 1, or what a text spells.
 pub(crate) fn number(args: &[Value]) -> Result<Value, LibFault>
-    ensures { Returns (number_answer args.now) result }
+    ensures answer { Returns (number_answer args.now) result }
+    ensures stands { IfOk result (λ v. (cells functions : ℕ) → Names cells functions v) }
 {
     match number_of(one(args)?) {
         Some(number) => Ok(Value::Number(number)),
@@ -132,7 +135,8 @@ fn read_unsigned(text: &str) -> Option<Num>
 /// `bool(value)`: truth.
 pub(crate) fn bool(args: &[Value], store: &Store) -> Result<Value, LibFault>
     requires { AllByRecursion (Names (length store.now.cells) (length store.now.functions)) args.now }
-    ensures { Returns (bool_answer store.now args.now) result }
+    ensures answer { Returns (bool_answer store.now args.now) result }
+    ensures stands { IfOk result (Names (length store.now.cells) (length store.now.functions)) }
 {
     Ok(Value::Bool(truth(one(args)?, store)))
 }

@@ -1,12 +1,12 @@
 // Arrays of what lies in several.
-ghost use Rattle.std.specs.Prelude.{◌≡◌, ◌<◌, ◌++◌, List, [], length, Some, None, MatchResult, IfOk, OnOk};
+ghost use Rattle.std.specs.Prelude.{◌≡◌, ◌<◌, List, [], filter, length, Some, None, MatchResult, IfOk, OnOk};
 ghost use Rattle.std.specs.List.{AllByRecursion, flat_map};
 ghost use Rattle.dsl_value.specs.Whole.{Names};
 ghost use Rattle.dsl_value.specs.declared.value.Value.{Value};
 ghost use Rattle.dsl_lib.specs.Answers.{Answers, HasRoom, IsWrong};
 ghost use Rattle.dsl_lib.specs.Arguments.{items_in};
 ghost use Rattle.dsl_lib.specs.Arrays.{all_in, has_equal};
-ghost use Rattle.dsl_lib.specs.Sets.{with_distinct, distinct, union as union_answer, is_common, common as common_of, intersection as intersection_answer};
+ghost use Rattle.dsl_lib.specs.Sets.{with_distinct, distinct, union as union_answer, is_common, intersection as intersection_answer};
 
 use crate::LibFault;
 use crate::args::items;
@@ -19,7 +19,8 @@ use std::alloc::Global;
 pub(crate) fn union(alloc: Global, args: &[Value], store: &mut Store) -> Result<Value, LibFault>
     requires stands { AllByRecursion (Names (length store.old.cells) (length store.old.functions)) args.now }
     requires few { HasRoom store.old (union_answer store.old args.now) }
-    ensures { Answers store.old (union_answer store.old args.now) result store.new }
+    ensures answer { Answers store.old (union_answer store.old args.now) result store.new }
+    ensures stands { IfOk result (Names (length store.new.cells) (length store.new.functions)) }
 {
     if args.is_empty() {
         return Err(LibFault::Arity);
@@ -76,28 +77,43 @@ pub(crate) fn intersection(
 ) -> Result<Value, LibFault>
     requires stands { AllByRecursion (Names (length store.old.cells) (length store.old.functions)) args.now }
     requires few { HasRoom store.old (intersection_answer store.old args.now) }
-    ensures { Answers store.old (intersection_answer store.old args.now) result store.new }
+    ensures answer { Answers store.old (intersection_answer store.old args.now) result store.new }
+    ensures stands { IfOk result (Names (length store.new.cells) (length store.new.functions)) }
 {
     let [first, others @ ..] = args else {
         return Err(LibFault::Arity);
     };
-    let common = common(alloc, first, others, store)?;
+    check_arrays(others, store)?;
+    let common = common(alloc, items(first, store)?, others, store)?;
     Ok(store.array(common)?)
 }
 
-/// The distinct ones of an array's elements that are in all others.
+/// Each of some values has to be an array.
+fn check_arrays(values: &[Value], store: &Store) -> Result<(), LibFault>
+    requires { AllByRecursion (Names (length store.now.cells) (length store.now.functions)) values.now }
+    ensures { MatchResult result (λ _. (xss : List (List Value)) × (all_in (items_in store.now.cells) values.now ≡ Some xss)) (λ e. (all_in (items_in store.now.cells) values.now ≡ None) × (e ≡ LibFault.WrongType)) }
+{
+    for value in values {
+        items(value, store)?;
+    }
+    Ok(())
+}
+
+/// The distinct ones of some values that are in all of some arrays.
 fn common(
     alloc: Global,
-    first: &Value,
-    others: &[Value],
+    values: &[Value],
+    arrays: &[Value],
     store: &Store,
-) -> Result<Row<Value>, LibFault> {
-    for other in others {
-        items(other, store)?;
-    }
+) -> Result<Row<Value>, LibFault>
+    requires values { AllByRecursion (Names (length store.now.cells) (length store.now.functions)) values.now }
+    requires arrays { AllByRecursion (Names (length store.now.cells) (length store.now.functions)) arrays.now }
+    ensures common { MatchResult result (λ row. (xss : List (List Value)) → all_in (items_in store.now.cells) arrays.now ≡ Some xss → row ≡ distinct store.now.cells [] (filter (is_common store.now.cells xss) values.now)) (IsWrong (all_in (items_in store.now.cells) arrays.now)) }
+    ensures stands { IfOk result (AllByRecursion (Names (length store.now.cells) (length store.now.functions))) }
+{
     let mut taken = Row::new(alloc);
-    for value in items(first, store)? {
-        if lies_in_all(value, others, store)? {
+    for value in values {
+        if lies_in_all(value, arrays, store)? {
             take(&mut taken, value, store)?;
         }
     }
@@ -105,7 +121,11 @@ fn common(
 }
 
 /// Whether a value is in each of some arrays.
-fn lies_in_all(value: &Value, arrays: &[Value], store: &Store) -> Result<bool, LibFault> {
+fn lies_in_all(value: &Value, arrays: &[Value], store: &Store) -> Result<bool, LibFault>
+    requires value { Names (length store.now.cells) (length store.now.functions) value.now }
+    requires arrays { AllByRecursion (Names (length store.now.cells) (length store.now.functions)) arrays.now }
+    ensures { MatchResult result (λ b. (xss : List (List Value)) → all_in (items_in store.now.cells) arrays.now ≡ Some xss → b ≡ is_common store.now.cells xss value.now) (λ e. (all_in (items_in store.now.cells) arrays.now ≡ None) × (e ≡ LibFault.WrongType)) }
+{
     for array in arrays {
         if !has(items(array, store)?, value, store) {
             return Ok(false);

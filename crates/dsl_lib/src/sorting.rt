@@ -19,7 +19,8 @@ use std::alloc::Global;
 pub(crate) fn sort(alloc: Global, args: &[Value], store: &mut Store) -> Result<Value, LibFault>
     requires stands { AllByRecursion (Names (length store.old.cells) (length store.old.functions)) args.now }
     requires few { HasRoom store.old (sort_answer store.old args.now) }
-    ensures { Answers store.old (sort_answer store.old args.now) result store.new }
+    ensures answer { Answers store.old (sort_answer store.old args.now) result store.new }
+    ensures stands { IfOk result (Names (length store.new.cells) (length store.new.functions)) }
 {
     let sorted = sorted(alloc, items(one(args)?, store)?)?;
     Ok(store.array(sorted)?)

@@ -1,6 +1,7 @@
 // Texts that are cut at separators.
 ghost use Rattle.std.specs.Prelude.{◌≡◌, ◌<◌, length, map, IfOk};
 ghost use Rattle.dsl_value.specs.declared.value.Value.TheVariants as value;
+ghost use Rattle.dsl_value.specs.Whole.{Names};
 ghost use Rattle.dsl_lib.specs.Answers.{Answers, HasRoom};
 ghost use Rattle.dsl_lib.specs.Texts.{pieces as pieces_of, split as split_answer};
 
@@ -16,7 +17,8 @@ use std::mem;
 /// character.
 pub(crate) fn split(alloc: Global, args: &[Value], store: &mut Store) -> Result<Value, LibFault>
     requires { HasRoom store.old (split_answer args.now) }
-    ensures { Answers store.old (split_answer args.now) result store.new }
+    ensures answer { Answers store.old (split_answer args.now) result store.new }
+    ensures stands { IfOk result (Names (length store.new.cells) (length store.new.functions)) }
 {
     let (of, separators) = two(args)?;
     let pieces = pieces(alloc, text(of)?, text(separators)?)?;

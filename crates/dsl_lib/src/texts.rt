@@ -1,7 +1,8 @@
 // The methods of texts.
-ghost use Rattle.std.specs.Prelude.{◌≡◌, ◌<◌, length, map, IfOk, MatchOption, MatchResult, Some, None};
+ghost use Rattle.std.specs.Prelude.{◌≡◌, ◌<◌, length, map, IfOk, MatchOption, MatchResult, Some, None, ℕ};
 ghost use Rattle.std.specs.Char.{to_ascii_lowercase, to_ascii_uppercase};
 ghost use Rattle.std.specs.Str.{chars};
+ghost use Rattle.dsl_value.specs.Whole.{Names};
 ghost use Rattle.dsl_lib.specs.Answers.{Returns, Answers, HasRoom};
 ghost use Rattle.dsl_lib.specs.Texts.{len as len_answer, has_part, contains as contains_answer, by_chars, lower as lower_answer, upper as upper_answer, trimmed as trimmed_chars, trim as trim_answer};
 
@@ -16,14 +17,16 @@ use std::alloc::Global;
 
 /// `text.len()`: its bytes.
 pub(crate) fn len(args: &[Value]) -> Result<Value, LibFault>
-    ensures { Returns (len_answer args.now) result }
+    ensures answer { Returns (len_answer args.now) result }
+    ensures stands { IfOk result (λ v. (cells functions : ℕ) → Names cells functions v) }
 {
     whole(text(one(args)?)?.len())
 }
 
 /// `text.contains(part)`
 pub(crate) fn contains(args: &[Value]) -> Result<Value, LibFault>
-    ensures { Returns (contains_answer args.now) result }
+    ensures answer { Returns (contains_answer args.now) result }
+    ensures stands { IfOk result (λ v. (cells functions : ℕ) → Names cells functions v) }
 {
     let (of, part) = two(args)?;
     Ok(Value::Bool(contains_part(text(of)?, text(part)?)))
@@ -37,7 +40,8 @@ fn contains_part(text: &str, part: &str) -> bool
 
 /// `text.lower()`, for letters of ASCII.
 pub(crate) fn lower(alloc: Global, args: &[Value]) -> Result<Value, LibFault>
-    ensures { Returns (lower_answer args.now) result }
+    ensures answer { Returns (lower_answer args.now) result }
+    ensures stands { IfOk result (λ v. (cells functions : ℕ) → Names cells functions v) }
 {
     let lowered = lowered(alloc, text(one(args)?)?)?;
     Ok(Value::Str(lowered))
@@ -57,7 +61,8 @@ fn lowered(alloc: Global, text: &str) -> Result<Text, OutOfMemory>
 
 /// `text.upper()`, for letters of ASCII.
 pub(crate) fn upper(alloc: Global, args: &[Value]) -> Result<Value, LibFault>
-    ensures { Returns (upper_answer args.now) result }
+    ensures answer { Returns (upper_answer args.now) result }
+    ensures stands { IfOk result (λ v. (cells functions : ℕ) → Names cells functions v) }
 {
     let raised = raised(alloc, text(one(args)?)?)?;
     Ok(Value::Str(raised))
@@ -77,7 +82,8 @@ fn raised(alloc: Global, text: &str) -> Result<Text, OutOfMemory>
 
 /// `text.trim()`: without spaces, tabs, carriage returns and newlines at both ends.
 pub(crate) fn trim(alloc: Global, args: &[Value]) -> Result<Value, LibFault>
-    ensures { Returns (trim_answer args.now) result }
+    ensures answer { Returns (trim_answer args.now) result }
+    ensures stands { IfOk result (λ v. (cells functions : ℕ) → Names cells functions v) }
 {
     let trimmed = Text::copy_of(alloc, trimmed(text(one(args)?)?))?;
     Ok(Value::Str(trimmed))
