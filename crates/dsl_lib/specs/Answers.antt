@@ -1,5 +1,5 @@
 -- What a call of the library answers, and what it does to the store.
-use Rattle.std.specs.Prelude.{◌≡◌, ◌<◌, ◌+◌, ◌==◌, ◌^◌, ℕ, nat_lt, List, [], ◌∷◌, ◌++◌, length, Option, Some, None, Result, Ok, Err, if◌then◌else◌}
+use Rattle.std.specs.Prelude.{◌≡◌, ◌<◌, ◌≤◌, ◌+◌, ◌==◌, ◌^◌, ℕ, nat_lt, List, [], ◌∷◌, ◌++◌, length, Option, Some, None, Result, Ok, Err, if◌then◌else◌}
 use Rattle.dsl_value.specs.Contents.{Contents, PlainCell, with_cells, with_cell}
 use Rattle.dsl_value.specs.declared.value.Value.{Value}
 use Rattle.dsl_value.specs.declared.value.Value.TheVariants as value
@@ -53,6 +53,10 @@ Answers old a (Err e) new = Refused a e × (new ≡ old)
 abbrev pub Returns : Answer → Result Value LibFault → Type 0
 Returns a (Ok r) = a ≡ gives r
 Returns a (Err e) = Refused a e
+
+-- no cell or function is lost, and the base stays
+abbrev pub Keeps : Contents → Contents → Type 0
+Keeps old new = (length old.cells ≤ length new.cells) × (new.base ≡ old.base) × (new.functions ≡ old.functions)
 
 -- there is a number for a new cell
 abbrev pub HasRoom : Contents → Answer → Type 0

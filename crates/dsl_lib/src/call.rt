@@ -2,7 +2,7 @@
 ghost use Rattle.std.specs.Prelude.{IfOk, length};
 ghost use Rattle.std.specs.List.{AllByRecursion};
 ghost use Rattle.dsl_value.specs.Whole.{Names};
-ghost use Rattle.dsl_lib.specs.Answers.{Answers, HasRoom};
+ghost use Rattle.dsl_lib.specs.Answers.{Answers, HasRoom, Keeps};
 ghost use Rattle.dsl_lib.specs.Library.{answer};
 
 use crate::{
@@ -23,7 +23,7 @@ use std::alloc::Global;
 ///   change.
 /// - `Overflow` never comes.
 /// - After each error the store is as it was.
-#[tactic(auto, using(crate::proofs::Calls::call_answers))]
+#[tactic(auto, using(crate::proofs::Calls::call_answers, crate::proofs::Calls::answers_keep))]
 pub fn call_plain(
     alloc: Global,
     name: Plain,
@@ -33,6 +33,7 @@ pub fn call_plain(
     requires stands { AllByRecursion (Names (length store.old.cells) (length store.old.functions)) args.now }
     requires few { HasRoom store.old (answer name store.old args.now) }
     ensures answer { Answers store.old (answer name store.old args.now) result store.new }
+    ensures keeps { Keeps store.old store.new }
     ensures stands { IfOk result (Names (length store.new.cells) (length store.new.functions)) }
 {
     match name {
