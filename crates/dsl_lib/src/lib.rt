@@ -19,6 +19,8 @@ mod scalars;
 mod sets;
 mod sorting;
 mod splitting;
+#[cfg(test)]
+mod tests;
 mod texts;
 mod trimming;
 mod truth;
