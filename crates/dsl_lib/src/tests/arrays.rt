@@ -4,7 +4,7 @@ use super::rows::{Row, Write, expect_rows, expect_writes};
 use crate::Plain;
 use std::test::Fail;
 
-const ARRAYS: [Row; 36] = [
+const ELEMENTS: [Row; 19] = [
     (Plain::ArrayLen, &[Cell(8)], "5"),
     (Plain::ArrayLen, &[Cell(0)], "0"),
     (Plain::ArrayLen, &[Cell(5)], "WrongType"),
@@ -24,6 +24,9 @@ const ARRAYS: [Row; 36] = [
     (Plain::ArrayGet, &[Cell(2), Str("0")], "WrongType"),
     (Plain::ArrayGet, &[Cell(4), Number(0)], "WrongType"),
     (Plain::ArrayGet, &[Cell(2)], "Arity"),
+];
+
+const JOINED: [Row; 17] = [
     (Plain::ArrayJoin, &[Cell(6), Str(", ")], "\"x, 1.5, true\""),
     (Plain::ArrayJoin, &[Cell(0), Str(", ")], "\"\""),
     (Plain::ArrayJoin, &[Cell(1), Str("")], "\"baéB\""),
@@ -61,8 +64,13 @@ const FROZEN: [Write; 3] = [
 ];
 
 #[test]
-fn methods_of_arrays(rt: HostRuntime) -> Result<(), Fail> {
-    expect_rows(&rt, rt.alloc(), &ARRAYS)
+fn elements_of_arrays(rt: HostRuntime) -> Result<(), Fail> {
+    expect_rows(&rt, rt.alloc(), &ELEMENTS)
+}
+
+#[test]
+fn joined_and_sorted_arrays(rt: HostRuntime) -> Result<(), Fail> {
+    expect_rows(&rt, rt.alloc(), &JOINED)
 }
 
 #[test]

@@ -4,7 +4,7 @@ use super::rows::{Row, expect_rows};
 use crate::Plain;
 use std::test::Fail;
 
-const SCALARS: [Row; 50] = [
+const LENGTHS: [Row; 11] = [
     (Plain::Len, &[Null], "0"),
     (Plain::Len, &[Str("")], "0"),
     (Plain::Len, &[Str("aé")], "3"),
@@ -16,6 +16,9 @@ const SCALARS: [Row; 50] = [
     (Plain::Len, &[Func], "WrongType"),
     (Plain::Len, &[], "Arity"),
     (Plain::Len, &[Null, Null], "Arity"),
+];
+
+const STRINGS: [Row; 10] = [
     (Plain::String, &[Null], "\"\""),
     (Plain::String, &[Bool(true)], "\"true\""),
     (Plain::String, &[Bool(false)], "\"false\""),
@@ -26,6 +29,9 @@ const SCALARS: [Row; 50] = [
     (Plain::String, &[Cell(0)], "WrongType"),
     (Plain::String, &[Func], "WrongType"),
     (Plain::String, &[], "Arity"),
+];
+
+const NUMBERS: [Row; 18] = [
     (Plain::Number, &[Number(-5)], "-0.005"),
     (Plain::Number, &[Bool(true)], "1"),
     (Plain::Number, &[Bool(false)], "0"),
@@ -44,6 +50,9 @@ const SCALARS: [Row; 50] = [
     (Plain::Number, &[Null], "WrongType"),
     (Plain::Number, &[Cell(2)], "WrongType"),
     (Plain::Number, &[], "Arity"),
+];
+
+const TRUTHS: [Row; 11] = [
     (Plain::Bool, &[Null], "false"),
     (Plain::Bool, &[Bool(true)], "true"),
     (Plain::Bool, &[Number(0)], "false"),
@@ -77,7 +86,7 @@ const MATCHES: [Row; 17] = [
     (Plain::Match, &[Str("*"), Null, Null], "Arity"),
 ];
 
-const ARRAYS: [Row; 36] = [
+const RANGES: [Row; 14] = [
     (Plain::Range, &[Number(3000)], "[0 1 2]"),
     (Plain::Range, &[Number(2500)], "[0 1 2]"),
     (Plain::Range, &[Number(0)], "[]"),
@@ -115,6 +124,9 @@ const ARRAYS: [Row; 36] = [
     (Plain::Range, &[Str("1")], "WrongType"),
     (Plain::Range, &[Number(0), Null], "WrongType"),
     (Plain::Range, &[], "Arity"),
+];
+
+const UNIONS: [Row; 15] = [
     (Plain::Range, &[Null, Null, Null, Null], "Arity"),
     (Plain::Union, &[Cell(8)], "[1 2 0]"),
     (Plain::Union, &[Cell(9), Cell(8)], "[\"2\" 2 \"\" 0 1]"),
@@ -130,6 +142,9 @@ const ARRAYS: [Row; 36] = [
     (Plain::Intersection, &[Cell(0), Cell(4)], "WrongType"),
     (Plain::Intersection, &[Cell(4)], "WrongType"),
     (Plain::Intersection, &[], "Arity"),
+];
+
+const KEYS: [Row; 7] = [
     (Plain::Keys, &[Cell(5)], "[\"a\" \"b\" \"n\"]"),
     (Plain::Keys, &[Cell(4)], "[]"),
     (Plain::Keys, &[Cell(0)], "WrongType"),
@@ -140,8 +155,23 @@ const ARRAYS: [Row; 36] = [
 ];
 
 #[test]
-fn functions_of_single_values(rt: HostRuntime) -> Result<(), Fail> {
-    expect_rows(&rt, rt.alloc(), &SCALARS)
+fn lengths(rt: HostRuntime) -> Result<(), Fail> {
+    expect_rows(&rt, rt.alloc(), &LENGTHS)
+}
+
+#[test]
+fn texts_of_values(rt: HostRuntime) -> Result<(), Fail> {
+    expect_rows(&rt, rt.alloc(), &STRINGS)
+}
+
+#[test]
+fn numbers_of_values(rt: HostRuntime) -> Result<(), Fail> {
+    expect_rows(&rt, rt.alloc(), &NUMBERS)
+}
+
+#[test]
+fn truth_of_values(rt: HostRuntime) -> Result<(), Fail> {
+    expect_rows(&rt, rt.alloc(), &TRUTHS)
 }
 
 #[test]
@@ -150,6 +180,16 @@ fn the_function_match(rt: HostRuntime) -> Result<(), Fail> {
 }
 
 #[test]
-fn functions_that_make_arrays(rt: HostRuntime) -> Result<(), Fail> {
-    expect_rows(&rt, rt.alloc(), &ARRAYS)
+fn ranges_of_numbers(rt: HostRuntime) -> Result<(), Fail> {
+    expect_rows(&rt, rt.alloc(), &RANGES)
+}
+
+#[test]
+fn unions_and_intersections(rt: HostRuntime) -> Result<(), Fail> {
+    expect_rows(&rt, rt.alloc(), &UNIONS)
+}
+
+#[test]
+fn keys_and_logs(rt: HostRuntime) -> Result<(), Fail> {
+    expect_rows(&rt, rt.alloc(), &KEYS)
 }

@@ -4,7 +4,9 @@ use std::process::Abort;
 use std::test::Fail;
 
 /// A pattern, a text, and whether the pattern describes the text.
-const PATTERNS: [(&str, &str, bool); 52] = [
+type Pattern = (&'static str, &'static str, bool);
+
+const SINGLE: [Pattern; 25] = [
     ("", "", true),
     ("", "a", false),
     ("a", "", false),
@@ -30,6 +32,9 @@ const PATTERNS: [(&str, &str, bool); 52] = [
     ("*?", "a", true),
     ("?*", "a", true),
     ("?*", "", false),
+];
+
+const STARS: [Pattern; 27] = [
     ("a*", "a", true),
     ("a*", "abc", true),
     ("a*", "ba", false),
@@ -59,7 +64,7 @@ const PATTERNS: [(&str, &str, bool); 52] = [
     ("*u*", "grün", false),
 ];
 
-fn expect_patterns(rt: &impl Abort, rows: &[(&str, &str, bool)]) {
+fn expect_patterns(rt: &impl Abort, rows: &[Pattern]) {
     for row in rows {
         let (pattern, text, want) = *row;
         assert_eq!(rt; matches(pattern, text), want, "{pattern} and {text}");
@@ -67,7 +72,13 @@ fn expect_patterns(rt: &impl Abort, rows: &[(&str, &str, bool)]) {
 }
 
 #[test]
-fn a_pattern_describes_a_text_or_not(rt: HostRuntime) -> Result<(), Fail> {
-    expect_patterns(&rt, &PATTERNS);
+fn single_characters_and_ends(rt: HostRuntime) -> Result<(), Fail> {
+    expect_patterns(&rt, &SINGLE);
+    Ok(())
+}
+
+#[test]
+fn any_number_of_characters(rt: HostRuntime) -> Result<(), Fail> {
+    expect_patterns(&rt, &STARS);
     Ok(())
 }

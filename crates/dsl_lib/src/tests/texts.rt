@@ -4,7 +4,7 @@ use super::rows::{Row, expect_rows};
 use crate::Plain;
 use std::test::Fail;
 
-const TEXTS: [Row; 63] = [
+const WHOLE: [Row; 21] = [
     (Plain::TextLen, &[Str("aé")], "3"),
     (Plain::TextLen, &[Null], "WrongType"),
     (Plain::TextLen, &[], "Arity"),
@@ -26,6 +26,9 @@ const TEXTS: [Row; 63] = [
     (Plain::TextTrim, &[Str("é ")], "\"é\""),
     (Plain::TextTrim, &[Null], "WrongType"),
     (Plain::TextTrim, &[], "Arity"),
+];
+
+const REPLACED: [Row; 11] = [
     (
         Plain::TextReplace,
         &[Str("aXbX"), Str("X"), Str("--")],
@@ -61,6 +64,9 @@ const TEXTS: [Row; 63] = [
     (Plain::TextReplace, &[Str("a"), Null, Str("a")], "WrongType"),
     (Plain::TextReplace, &[Null, Str("a"), Str("a")], "WrongType"),
     (Plain::TextReplace, &[Str("a"), Str("a")], "Arity"),
+];
+
+const SPLIT: [Row; 10] = [
     (Plain::TextSplit, &[Str("a,b"), Str(",")], "[\"a\" \"b\"]"),
     (
         Plain::TextSplit,
@@ -79,6 +85,9 @@ const TEXTS: [Row; 63] = [
     (Plain::TextSplit, &[Str("a"), Null], "WrongType"),
     (Plain::TextSplit, &[Null, Str("a")], "WrongType"),
     (Plain::TextSplit, &[Str("a")], "Arity"),
+];
+
+const WINDOWS: [Row; 21] = [
     (
         Plain::TextSubstr,
         &[Str("abcdef"), Number(1000), Number(3000)],
@@ -187,6 +196,21 @@ const TEXTS: [Row; 63] = [
 ];
 
 #[test]
-fn methods_of_texts(rt: HostRuntime) -> Result<(), Fail> {
-    expect_rows(&rt, rt.alloc(), &TEXTS)
+fn whole_texts(rt: HostRuntime) -> Result<(), Fail> {
+    expect_rows(&rt, rt.alloc(), &WHOLE)
+}
+
+#[test]
+fn replaced_parts(rt: HostRuntime) -> Result<(), Fail> {
+    expect_rows(&rt, rt.alloc(), &REPLACED)
+}
+
+#[test]
+fn split_texts(rt: HostRuntime) -> Result<(), Fail> {
+    expect_rows(&rt, rt.alloc(), &SPLIT)
+}
+
+#[test]
+fn windows_of_texts(rt: HostRuntime) -> Result<(), Fail> {
+    expect_rows(&rt, rt.alloc(), &WINDOWS)
 }
