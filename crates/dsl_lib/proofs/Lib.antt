@@ -1,10 +1,12 @@
 pub mod AllIn
 pub mod Along
+pub mod Apart
 pub mod Calls
 pub mod Chars
 pub mod Joins
 pub mod Matched
 pub mod Parts
+pub mod PieceLaws
 pub mod Pieces
 pub mod Signs
 pub mod Sorts

@@ -4,16 +4,17 @@ use Rattle.std.specs.Cmp.{IsTotalOrder}
 use Rattle.std.specs.Ordering.{is_gt, is_lt, is_eq, ordering_reverse}
 use Rattle.std.specs.declared.cmp.Ordering.{Ordering}
 use Rattle.std.specs.declared.cmp.Ordering.TheVariants.{Less, Equal, Greater}
-use Rattle.std.specs.List.{swap}
+use Rattle.std.specs.List.{swap, AllByRecursion}
 use Rattle.std.specs.List.Sorted.{IsPermutation, IsSorted}
 use Rattle.std.proofs.lemmas.Bool.{false≢true}
 use Rattle.std.proofs.lemmas.Cmp.{upto, tied_itself}
 use Rattle.std.proofs.lemmas.Map.Lookups.{CmpEqualImpliesEq}
 use Rattle.std.proofs.lemmas.List.{get_or-set_same, get_or-set_other}
 use Rattle.std.proofs.lemmas.List.Edits.{swap_is}
-use Rattle.std.proofs.lemmas.List.Sorted.{IsPermutation-keeps}
+use Rattle.std.proofs.lemmas.List.Sorted.{IsPermutation-keeps, IsPermutation-refl, IsPermutation-cons, IsPermutation-trans, IsPermutation-middle}
 use native.Mathlib.Decide.{ℕ_discrete}
 use Rattle.dsl_lib.specs.Arrays.{put_in, sorted}
+use Rattle.dsl_lib.specs.Laws.{Rises}
 
 module _ {A : Type 0} {cmp : A → A → Ordering} (o : IsTotalOrder cmp) (exact : CmpEqualImpliesEq cmp) where
   both_by : (x y : A) (r s : Ordering) → cmp x y ≡ r → r ≡ ordering_reverse s → is_gt r ≡ false → is_gt s ≡ false → x ≡ y
@@ -135,3 +136,41 @@ module _ {A : Type 0} {cmp : A → A → Ordering} (o : IsTotalOrder cmp) (exact
   -- a sort gives the sorted list
   pub sort_is : (xs ys : List A) → IsPermutation xs ys → IsSorted cmp ys → ys ≡ sorted cmp xs
   sort_is xs ys p h = sym (sorted_same ys h) ∙ permuted_sorted xs ys p
+
+  put_moves : (x : A) (ys : List A) → IsPermutation (x ∷ ys) (put_in cmp x ys)
+  put_moves x [] = IsPermutation-refl (x ∷ [])
+  put_moves x (y ∷ ys) = by (is_gt (cmp x y)) refl (put_moves x ys)
+    where
+      by : (b : Bool) → is_gt (cmp x y) ≡ b → IsPermutation (x ∷ ys) (put_in cmp x ys) → IsPermutation (x ∷ y ∷ ys) (put_in cmp x (y ∷ ys))
+      by true g later = subst (IsPermutation (x ∷ y ∷ ys)) (sym (put_by true x y ys g)) (IsPermutation-trans (x ∷ y ∷ ys) (y ∷ x ∷ ys) (y ∷ put_in cmp x ys) (IsPermutation-middle (x ∷ []) y ys) (IsPermutation-cons y (x ∷ ys) (put_in cmp x ys) later))
+      by false g later = subst (IsPermutation (x ∷ y ∷ ys)) (sym (put_by false x y ys g)) (IsPermutation-refl (x ∷ y ∷ ys))
+
+  -- sorting moves elements
+  pub sorted_moves : (xs : List A) → IsPermutation xs (sorted cmp xs)
+  sorted_moves [] = IsPermutation-refl []
+  sorted_moves (x ∷ xs) = IsPermutation-trans (x ∷ xs) (x ∷ sorted cmp xs) (put_in cmp x (sorted cmp xs)) (IsPermutation-cons x xs (sorted cmp xs) (sorted_moves xs)) (put_moves x (sorted cmp xs))
+
+  all_put : (P : A → Type 0) (x : A) (ys : List A) → P x → AllByRecursion P ys → AllByRecursion P (put_in cmp x ys)
+  all_put P x [] p h = (p, tt)
+  all_put P x (y ∷ ys) p h = by (is_gt (cmp x y)) refl (all_put P x ys p h.1)
+    where
+      by : (b : Bool) → is_gt (cmp x y) ≡ b → AllByRecursion P (put_in cmp x ys) → AllByRecursion P (put_in cmp x (y ∷ ys))
+      by true g later = subst (AllByRecursion P) (sym (put_by true x y ys g)) (h.0, later)
+      by false g later = subst (AllByRecursion P) (sym (put_by false x y ys g)) (p, h)
+
+  all_above : (x y : A) (ys : List A) → is_gt (cmp x y) ≡ false → AllByRecursion (λ z. is_gt (cmp y z) ≡ false) ys → AllByRecursion (λ z. is_gt (cmp x z) ≡ false) ys
+  all_above x y [] g h = tt
+  all_above x y (z ∷ zs) g h = (upto o x y z g h.0, all_above x y zs g h.1)
+
+  put_rises : (x : A) (ys : List A) → Rises cmp ys → Rises cmp (put_in cmp x ys)
+  put_rises x [] h = (tt, tt)
+  put_rises x (y ∷ ys) h = by (is_gt (cmp x y)) refl (put_rises x ys h.1)
+    where
+      by : (b : Bool) → is_gt (cmp x y) ≡ b → Rises cmp (put_in cmp x ys) → Rises cmp (put_in cmp x (y ∷ ys))
+      by true g later = subst (Rises cmp) (sym (put_by true x y ys g)) (all_put (λ z. is_gt (cmp y z) ≡ false) x ys (gt_not_back x y g) h.0, later)
+      by false g later = subst (Rises cmp) (sym (put_by false x y ys g)) ((g, all_above x y ys g h.0), h)
+
+  -- and puts them in order
+  pub sorted_rises : (xs : List A) → Rises cmp (sorted cmp xs)
+  sorted_rises [] = tt
+  sorted_rises (x ∷ xs) = put_rises x (sorted cmp xs) (sorted_rises xs)

@@ -10,6 +10,7 @@ mod characters;
 mod cutting;
 mod dicts;
 mod joining;
+mod laws;
 mod lib_fault;
 mod matching;
 mod plain;
@@ -27,6 +28,7 @@ mod truth;
 mod wildcard;
 
 pub use call::call_plain;
+pub use laws::{distinct_elements_are_apart, pieces_join_to_the_text, sorted_elements_rise};
 pub use lib_fault::LibFault;
 pub use plain::Plain;
 pub use wildcard::matches;

@@ -29,11 +29,11 @@ fn trimmed_end(text: &str) -> &str
     ensures { chars result.now ≡ reverse (skip_blanks (reverse (chars text.now))) }
 {
     let mut rest = text;
-    while let Some((c, others)) = last(rest) {
-        if !is_blank(c) {
+    while let Some((end, before)) = last(rest) {
+        if !is_blank(end) {
             return rest;
         }
-        rest = others;
+        rest = before;
     }
     rest
 }

@@ -56,21 +56,21 @@ fn go_along<'a>(pattern: &'a str, text: &'a str) -> Walk<'a>
     ensures { Walked (chars pattern.now) (chars text.now) result }
 {
     let mut parts = pattern;
-    let mut rest = text;
+    let mut left = text;
     while let Some((part, more)) = first(parts) {
         if part == '*' {
-            return Walk::Star(more, rest);
+            return Walk::Star(more, left);
         }
-        let Some((c, others)) = first(rest) else {
+        let Some((c, others)) = first(left) else {
             return Walk::Failed;
         };
         if !stands_for(part, c) {
             return Walk::Failed;
         }
         parts = more;
-        rest = others;
+        left = others;
     }
-    match first(rest) {
+    match first(left) {
         Some(_) => Walk::Failed,
         None => Walk::Passed,
     }

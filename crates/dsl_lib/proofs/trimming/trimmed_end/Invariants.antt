@@ -5,8 +5,8 @@ use Rattle.std.specs.Str.{chars}
 use Rattle.dsl_lib.specs.Texts.{skip_blanks}
 use Rattle.dsl_lib.proofs.trimming.trimmed_end.Given as goal
 
-abbrev pub invariant-loop-c : goal.invariant-loop-c
-invariant-loop-c l = shadow (Utf8 l.rest) × (skip_blanks (reverse (chars l.rest)) ≡ skip_blanks (reverse (chars l.text)))
+abbrev pub invariant-loop-end : goal.invariant-loop-end
+invariant-loop-end l = shadow (Utf8 l.rest) × (skip_blanks (reverse (chars l.rest)) ≡ skip_blanks (reverse (chars l.text)))
 
-abbrev pub decreases-loop-c : goal.decreases-loop-c
-decreases-loop-c l = length (chars l.rest)
+abbrev pub decreases-loop-end : goal.decreases-loop-end
+decreases-loop-end l = length (chars l.rest)

@@ -6,7 +6,7 @@ use Rattle.dsl_lib.specs.Wildcards.{IsAlong}
 use Rattle.dsl_lib.proofs.wildcard.go_along.Given as goal
 
 abbrev pub invariant-loop-part : goal.invariant-loop-part
-invariant-loop-part l = shadow (Utf8 l.parts) × shadow (Utf8 l.rest) × IsAlong (chars l.pattern) (chars l.text) (chars l.parts) (chars l.rest)
+invariant-loop-part l = shadow (Utf8 l.parts) × shadow (Utf8 l.left) × IsAlong (chars l.pattern) (chars l.text) (chars l.parts) (chars l.left)
 
 abbrev pub decreases-loop-part : goal.decreases-loop-part
 decreases-loop-part l = length (chars l.parts)
