@@ -1,5 +1,5 @@
 -- Calls that change nothing.
-use Rattle.std.proofs.Common.{◌≡◌, ℕ, ◌+◌, ◌<◌, ◌≤◌, ◌^◌, List, [], ◌∷◌, length, Result, Ok, Err, refl, sym, ap, subst, arith, length-append, length-set}
+use Rattle.std.proofs.Common.{◌≡◌, ◌+◌, ◌<◌, ◌^◌, [], ◌∷◌, length, Result, Ok, Err, refl, sym, ap, subst, arith, length-append, length-set}
 use Rattle.dsl_value.specs.Contents.{Contents}
 use Rattle.dsl_value.specs.declared.value.Value.{Value}
 use Rattle.dsl_lib.specs.Answers.{Answer, gives, makes, writes, refuses, Gave, Returns, Answers, Keeps, HasRoom}

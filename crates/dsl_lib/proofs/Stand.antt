@@ -1,5 +1,5 @@
 -- Values that name cells and functions of a store.
-use Rattle.std.proofs.Common.{◌≡◌, ℕ, zero, suc, ℤ, ◌+ℤ◌, Bool, true, false, cond, List, ◌++◌, [], ◌∷◌, map, Option, Some, None, refl, ap, subst, sym}
+use Rattle.std.proofs.Common.{◌≡◌, ℕ, zero, suc, ℤ, ◌+ℤ◌, Bool, true, false, cond, List, ◌++◌, [], ◌∷◌, map, Option, Some, None, ap, subst}
 use Rattle.std.specs.List.{AllByRecursion}
 use Rattle.dsl_value.specs.Pairs.{Pairs, find}
 use Rattle.dsl_value.specs.Whole.{Names, NamesAll}

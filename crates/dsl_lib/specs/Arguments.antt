@@ -1,5 +1,5 @@
 -- Arguments: how many there are, and of which type.
-use Rattle.std.specs.Prelude.{ℕ, ℤ, Bool, true, false, List, [], ◌∷◌, Option, Some, None}
+use Rattle.std.specs.Prelude.{ℕ, ℤ, List, [], ◌∷◌, Option, Some, None}
 use Rattle.dsl_value.specs.Pairs.{Pairs}
 use Rattle.dsl_value.specs.Contents.{PlainCell, array, dict, cell_at}
 use Rattle.dsl_value.specs.declared.value.Value.{Value}

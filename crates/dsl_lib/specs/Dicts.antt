@@ -1,6 +1,6 @@
 -- The methods of dictionaries.
-use Rattle.std.specs.Prelude.{ℕ, List, [], ◌∷◌, length, map, Option, Some, None, is_some}
-use Rattle.dsl_value.specs.Pairs.{Pairs, find}
+use Rattle.std.specs.Prelude.{ℕ, List, length, map, Option, Some, None, is_some}
+use Rattle.dsl_value.specs.Pairs.{find}
 use Rattle.dsl_value.specs.Contents.{Contents, array, cell_at, with_pair, without_pair}
 use Rattle.dsl_value.specs.declared.value.Value.{Value}
 use Rattle.dsl_value.specs.declared.value.Value.TheVariants as value

@@ -1,12 +1,11 @@
 -- The library's definitions, in other words.
-use Rattle.std.specs.Prelude.{◌≡◌, ◌⊎◌, Bool, true, false, List, [], ◌∷◌}
-use Rattle.std.specs.List.{AllByRecursion, Contains}
+use Rattle.std.specs.Prelude.{◌≡◌, false, List, [], ◌∷◌}
+use Rattle.std.specs.List.{AllByRecursion}
 use Rattle.std.specs.Ordering.{is_gt}
 use Rattle.std.specs.declared.cmp.Ordering.{Ordering}
 use Rattle.dsl_value.specs.Contents.{PlainCell}
 use Rattle.dsl_value.specs.Equality.{equal_within}
 use Rattle.dsl_value.specs.declared.value.Value.{Value}
-use Rattle.dsl_lib.specs.Arrays.{has_equal}
 
 -- no element is greater than one behind it
 abbrev pub Rises : {A : Type 0} → (A → A → Ordering) → List A → Type 0

@@ -8,4 +8,5 @@ pub mod Matching
 pub mod Scalars
 pub mod Sets
 pub mod Texts
+pub mod Truth
 pub mod Wildcards

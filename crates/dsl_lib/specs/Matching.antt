@@ -1,5 +1,5 @@
 -- The function `match`.
-use Rattle.std.specs.Prelude.{ℕ, Bool, true, false, ◌&&◌, List, [], ◌∷◌, Option, Some, None}
+use Rattle.std.specs.Prelude.{ℕ, Bool, false, List, [], ◌∷◌, Option, Some, None}
 use Rattle.std.specs.List.{list_all}
 use Rattle.site_base.specs.Numbers.{number_text}
 use Rattle.dsl_value.specs.Contents.{Contents, PlainCell, cell_at}

@@ -1,22 +1,18 @@
 -- The functions of single values: lengths, texts, numbers and truth.
-use Rattle.std.specs.Prelude.{ℕ, ℤ, pos, ◌*◌, ◌-◌, ◌==◌, ◌&&◌, Bool, true, false, not, List, [], ◌∷◌, length, slice_index, Option, Some, None, codes, if◌then◌else◌}
+use Rattle.std.specs.Prelude.{ℕ, ℤ, pos, ◌*◌, ◌-◌, ◌==◌, Bool, true, false, List, [], ◌∷◌, length, slice_index, Option, Some, None, codes, if◌then◌else◌}
 use Rattle.std.specs.Char.{is_ascii_digit}
-use Rattle.std.specs.Ordering.{int_eq}
 use Rattle.site_base.specs.Numbers.{number_text, difference_of}
 use Rattle.site_base.specs.Reading.{number_read}
-use Rattle.dsl_value.specs.Contents.{Contents, PlainCell, array, dict, cell_at}
+use Rattle.dsl_value.specs.Contents.{Contents, PlainCell, cell_at}
 use Rattle.dsl_value.specs.declared.value.Value.{Value}
 use Rattle.dsl_value.specs.declared.value.Value.TheVariants as value
 use Rattle.dsl_lib.specs.Answers.{Answer, gives, counted, typed}
 use Rattle.dsl_lib.specs.Arguments.{one}
+use Rattle.dsl_lib.specs.Truth.{size_of_cell, truth}
 
 -- a whole number, as a value
 abbrev pub whole : ℕ → Value
 whole n = value.Number (pos (1000 * n))
-
-abbrev pub size_of_cell : PlainCell → ℕ
-size_of_cell (array vs) = length vs
-size_of_cell (dict ps) = length ps
 
 -- bytes, elements or pairs; null has none
 abbrev pub size_of : List PlainCell → Value → Option ℕ
@@ -74,15 +70,6 @@ number_of _ = None
 
 abbrev pub number : List Value → Answer
 number args = counted (one args) (λ v. typed (number_of v) (λ n. gives (value.Number n)))
-
--- null, false, 0, the empty string, array and dictionary are false, and every other value is true
-abbrev pub truth : List PlainCell → Value → Bool
-truth cells value.Null = false
-truth cells (value.Bool b) = b
-truth cells (value.Number n) = not (int_eq n (pos 0))
-truth cells (value.Str t) = not (length t == 0)
-truth cells (value.Ref k) = not (size_of_cell (cell_at cells k) == 0)
-truth cells (value.Func k) = true
 
 abbrev pub bool : Contents → List Value → Answer
 bool s args = counted (one args) (λ v. gives (value.Bool (truth s.cells v)))

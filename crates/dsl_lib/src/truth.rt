@@ -1,7 +1,7 @@
 // Truth.
 ghost use Rattle.std.specs.Prelude.{◌≡◌, ◌<◌, length};
 ghost use Rattle.dsl_value.specs.Whole.{Names};
-ghost use Rattle.dsl_lib.specs.Scalars.{truth as truth_of};
+ghost use Rattle.dsl_lib.specs.Truth.{truth as truth_of};
 
 use dsl_value::{Cell, Store, Value};
 

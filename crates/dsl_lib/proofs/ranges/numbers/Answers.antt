@@ -1,4 +1,4 @@
-use Rattle.std.proofs.Common.{◌≤ℤ◌, ◌<ℤ◌, ◌^◌, ◌-◌, pos, negsuc, arith, sym, ◌∙◌}
+use Rattle.std.proofs.Common.{arith, sym}
 use Rattle.std.proofs.lemmas.Int.{ints}
 use Rattle.dsl_lib.proofs.Steps.{numbers_end, numbers_more, numbers_last, numbers_fewer, sum_is}
 use Rattle.dsl_lib.proofs.ranges.numbers.Goals as goal

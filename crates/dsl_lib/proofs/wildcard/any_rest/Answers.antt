@@ -1,4 +1,4 @@
-use Rattle.std.proofs.Common.{rules, sym, ◌∙◌}
+use Rattle.std.proofs.Common.{rules, ◌∙◌}
 use Rattle.std.specs.Str.{chars}
 use Rattle.dsl_lib.specs.Wildcards.{describes}
 use Rattle.dsl_lib.proofs.Along.{whole_passes, greedy}

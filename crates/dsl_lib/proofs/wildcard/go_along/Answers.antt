@@ -1,4 +1,4 @@
-use Rattle.std.proofs.Common.{rules, arith, sym, ◌∙◌, eqb, ◌≡◌, false}
+use Rattle.std.proofs.Common.{rules, eqb, ◌≡◌, false}
 use Rattle.dsl_lib.proofs.Along.{along_more}
 use Rattle.dsl_lib.proofs.wildcard.go_along.Goals as goal
 
