@@ -12,7 +12,7 @@ use Rattle.dsl_lib.specs.Answers.{Answer, gives, makes, counted, typed, written}
 use Rattle.dsl_lib.specs.Arguments.{one, two, text_in, number_in, items_in, array_in}
 use Rattle.dsl_lib.specs.Scalars.{whole, scalar_text}
 use Rattle.dsl_lib.specs.Dicts.{or_null}
-use Rattle.dsl_lib.specs.Texts.{whole_in}
+use Rattle.dsl_ops.specs.Table.{whole_part}
 
 abbrev pub len : Contents → List Value → Answer
 len s args = counted (one args) (λ a. typed (items_in s.cells a) (λ vs. gives (whole (length vs))))
@@ -30,7 +30,7 @@ element vs (pos n) = or_null (slice_get vs n)
 element vs (negsuc n) = value.Null
 
 abbrev pub get : Contents → List Value → Answer
-get s args = counted (two args) (λ a. typed (items_in s.cells a.0) (λ vs. typed (number_in a.1) (λ n. typed (whole_in n) (λ i. gives (element vs i)))))
+get s args = counted (two args) (λ a. typed (items_in s.cells a.0) (λ vs. typed (number_in a.1) (λ n. typed (whole_part n) (λ i. gives (element vs i)))))
 
 abbrev pub add : Contents → List Value → Answer
 add s args = counted (two args) (λ a. typed (array_in s.cells a.0) (λ k. written s k (pushed (cell_at s.cells k) a.1)))

@@ -8,5 +8,4 @@ pub mod Matching
 pub mod Scalars
 pub mod Sets
 pub mod Texts
-pub mod Truth
 pub mod Wildcards

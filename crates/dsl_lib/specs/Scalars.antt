@@ -1,18 +1,24 @@
 -- The functions of single values: lengths, texts, numbers and truth.
-use Rattle.std.specs.Prelude.{ℕ, ℤ, pos, ◌*◌, ◌-◌, ◌==◌, Bool, true, false, List, [], ◌∷◌, length, slice_index, Option, Some, None, codes, if◌then◌else◌}
+use Rattle.std.specs.Prelude.{ℕ, ℤ, pos, ◌*◌, ◌-◌, ◌==◌, Bool, true, false, List, [], ◌∷◌, length, slice_index, Option, Some, None, if◌then◌else◌}
 use Rattle.std.specs.Char.{is_ascii_digit}
 use Rattle.site_base.specs.Numbers.{number_text, difference_of}
 use Rattle.site_base.specs.Reading.{number_read}
-use Rattle.dsl_value.specs.Contents.{Contents, PlainCell, cell_at}
+use Rattle.dsl_value.specs.Contents.{Contents, PlainCell, array, dict, cell_at}
 use Rattle.dsl_value.specs.declared.value.Value.{Value}
 use Rattle.dsl_value.specs.declared.value.Value.TheVariants as value
 use Rattle.dsl_lib.specs.Answers.{Answer, gives, counted, typed}
 use Rattle.dsl_lib.specs.Arguments.{one}
-use Rattle.dsl_lib.specs.Truth.{size_of_cell, truth}
+use Rattle.dsl_ops.specs.Operands.{operand, is_true}
+use Rattle.dsl_ops.specs.Table.{boolean_text}
 
 -- a whole number, as a value
 abbrev pub whole : ℕ → Value
 whole n = value.Number (pos (1000 * n))
+
+-- elements or pairs
+abbrev pub size_of_cell : PlainCell → ℕ
+size_of_cell (array vs) = length vs
+size_of_cell (dict ps) = length ps
 
 -- bytes, elements or pairs; null has none
 abbrev pub size_of : List PlainCell → Value → Option ℕ
@@ -26,15 +32,11 @@ size_of cells (value.Func k) = None
 abbrev pub len : Contents → List Value → Answer
 len s args = counted (one args) (λ v. typed (size_of s.cells v) (λ n. gives (whole n)))
 
-abbrev pub bool_text : Bool → List ℕ
-bool_text true = codes "true"
-bool_text false = codes "false"
-
 -- the text of a string, number or boolean
 abbrev pub scalar_text : Value → Option (List ℕ)
 scalar_text (value.Str t) = Some t
 scalar_text (value.Number n) = Some (number_text n)
-scalar_text (value.Bool b) = Some (bool_text b)
+scalar_text (value.Bool b) = Some (boolean_text b)
 scalar_text _ = None
 
 -- and of null, which has the empty one
@@ -72,4 +74,4 @@ abbrev pub number : List Value → Answer
 number args = counted (one args) (λ v. typed (number_of v) (λ n. gives (value.Number n)))
 
 abbrev pub bool : Contents → List Value → Answer
-bool s args = counted (one args) (λ v. gives (value.Bool (truth s.cells v)))
+bool s args = counted (one args) (λ v. gives (value.Bool (is_true (operand s.cells v))))

@@ -6,6 +6,7 @@ use Rattle.std.specs.List.{slice_split, list_any}
 use Rattle.std.specs.Int.RustNames.{int_div, int_rem}
 use Rattle.std.specs.Ordering.{int_eq}
 use Rattle.dsl_value.specs.Contents.{array}
+use Rattle.dsl_ops.specs.Table.{whole_part}
 use Rattle.dsl_value.specs.declared.value.Value.{Value}
 use Rattle.dsl_value.specs.declared.value.Value.TheVariants as value
 use Rattle.dsl_lib.specs.Answers.{Answer, gives, makes, counted, typed}
@@ -81,10 +82,6 @@ pieces t separators = map encode_utf8_all (slice_split (is_among (chars separato
 abbrev pub split : List Value → Answer
 split args = counted (two args) (λ a. typed (text_in a.0) (λ t. typed (text_in a.1) (λ separators. makes (array (map value.Str (pieces t separators))))))
 
--- the whole number that so many thousandths are
-abbrev pub whole_in : ℤ → Option ℤ
-whole_in z = if int_eq (int_rem z (pos 1000)) (pos 0) then Some (int_div z (pos 1000)) else None
-
 -- a place, cut to a text of so many bytes
 abbrev pub cut : ℤ → ℕ → ℕ
 cut (pos n) len = min n len
@@ -103,4 +100,4 @@ abbrev pub part_of : List ℕ → ℤ → ℤ → Option (List ℕ)
 part_of t start len = window t (cut start (length t)) (cut (start +ℤ len) (length t))
 
 abbrev pub substr : List Value → Answer
-substr args = counted (three args) (λ a. typed (text_in a.0) (λ t. typed (number_in a.1) (λ m. typed (number_in a.2) (λ n. typed (whole_in m) (λ start. typed (whole_in n) (λ len. typed (part_of t start len) (λ p. gives (value.Str p))))))))
+substr args = counted (three args) (λ a. typed (text_in a.0) (λ t. typed (number_in a.1) (λ m. typed (number_in a.2) (λ n. typed (whole_part m) (λ start. typed (whole_part n) (λ len. typed (part_of t start len) (λ p. gives (value.Str p))))))))

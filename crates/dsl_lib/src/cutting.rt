@@ -2,7 +2,8 @@
 ghost use Rattle.std.specs.Prelude.{◌≡◌, ◌≤◌, ◌+ℤ◌, MatchResult, Some, None, length, IfOk, ℕ};
 ghost use Rattle.dsl_value.specs.Whole.{Names};
 ghost use Rattle.dsl_lib.specs.Answers.{Returns};
-ghost use Rattle.dsl_lib.specs.Texts.{whole_in, cut as cut_to, is_boundary, window as window_of, part_of, substr as substr_answer};
+ghost use Rattle.dsl_ops.specs.Table.{whole_part};
+ghost use Rattle.dsl_lib.specs.Texts.{cut as cut_to, is_boundary, window as window_of, part_of, substr as substr_answer};
 
 use crate::LibFault;
 use crate::args::{number, text, three};
@@ -25,7 +26,7 @@ pub(crate) fn substr(alloc: Global, args: &[Value]) -> Result<Value, LibFault>
 
 /// The whole number that a number is.
 pub(crate) fn whole(number: Num) -> Result<i64, LibFault>
-    ensures { MatchResult result (λ n. whole_in number ≡ Some n) (λ e. (whole_in number ≡ None) × (e ≡ LibFault.WrongType)) }
+    ensures { MatchResult result (λ n. whole_part number ≡ Some n) (λ e. (whole_part number ≡ None) × (e ≡ LibFault.WrongType)) }
 {
     let thousandths = number.thousandths();
     if thousandths % 1000 == 0 {

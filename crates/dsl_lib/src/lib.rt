@@ -24,7 +24,6 @@ mod splitting;
 mod tests;
 mod texts;
 mod trimming;
-mod truth;
 mod wildcard;
 
 pub use call::call_plain;

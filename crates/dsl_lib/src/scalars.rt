@@ -7,7 +7,7 @@ ghost use Rattle.dsl_lib.specs.Scalars.{whole as whole_value, size_of, len as le
 
 use crate::LibFault;
 use crate::args::one;
-use crate::truth::truth;
+use dsl_ops::truth;
 use dsl_value::{Cell, Store, Value};
 use site_base::{Num, Text};
 use std::alloc::Global;
