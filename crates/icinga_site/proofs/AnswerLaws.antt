@@ -1,10 +1,12 @@
 -- Answers to walks.
-use Rattle.std.proofs.Common.{◌≡◌, ℕ, List, [], ◌∷◌, ◌++◌, map, false, Option, Some, None, refl, ap, ◌∙◌}
+use Rattle.std.proofs.Common.{◌≡◌, ℕ, List, [], ◌∷◌, ◌++◌, map, Option, Some, None, refl, ap, ◌∙◌}
 use Rattle.site_model.specs.PlainSite.{object_view}
 use Rattle.site_model.specs.declared.object.Object.{Object}
 use Rattle.site_text.specs.Listing.{object_line}
 use Rattle.site_conf.specs.Walks.{WalkOutcome, walk_outcome}
-use Rattle.icinga_site.specs.Answers.{Reply, Answers, reply_to, plain_line}
+use Rattle.icinga_site.specs.Answers.{reply_to, plain_line}
+use Rattle.icinga_site.specs.TaskAnswers.{Answers}
+use Rattle.icinga_site.specs.Tasks.{objects}
 use Rattle.std.proofs.lemmas.List.{map-append}
 
 -- objects are listed as their plain values are
@@ -18,11 +20,6 @@ lines_of_both cs hs =
 
 -- the reply to what the walk gave is the answer, where the files are told
 pub answers_walked : (root : List ℕ) (told : Option (List (List ℕ × List ℕ))) (walked : WalkOutcome)
-    → ((files : List (List ℕ × List ℕ)) → told ≡ Some files → walked ≡ walk_outcome files root) → Answers root told (reply_to root walked)
+    → ((files : List (List ℕ × List ℕ)) → told ≡ Some files → walked ≡ walk_outcome files root) → Answers (objects root) told (reply_to root walked)
 answers_walked root None walked h = tt
 answers_walked root (Some files) walked h = ap (reply_to root) (h files refl)
-
--- some answer, whatever is told
-pub some_answer : (root : List ℕ) (told : Option (List (List ℕ × List ℕ))) → (reply : Reply) × Answers root told reply
-some_answer root None = (record { lines = []; diagnosed = false }, tt)
-some_answer root (Some files) = (reply_to root (walk_outcome files root), refl)

@@ -3,10 +3,13 @@ pub mod CheckLaws
 pub mod DealingLaws
 pub mod GatheringLaws
 pub mod OrderLaws
+pub mod PlanLaws
 pub mod ReadingForms
 pub mod Resting
 pub mod RunLaws
 pub mod SettingLaws
+pub mod SiteLaws
+pub mod SoundLaws
 pub mod StandingLaws
 pub mod TurnLaws
 pub mod Writing

@@ -1,5 +1,5 @@
 -- Lines that are written one after another.
-use Rattle.std.proofs.Common.{◌≡◌, ℕ, ◌+◌, ◌<◌, List, [], ◌∷◌, ◌++◌, length, take, drop, get_or, Option, Some, None, sym, ap, ◌∙◌, subst, append_assoc}
+use Rattle.std.proofs.Common.{◌≡◌, ℕ, ◌+◌, ◌<◌, List, [], ◌∷◌, ◌++◌, length, take, drop, get_or, Option, Some, None, refl, sym, ap, ◌∙◌, subst, append_assoc}
 use Rattle.std.specs.List.{concat}
 use Rattle.std.proofs.lemmas.List.{drop_more, take_more, take-append-drop, append-nil}
 use Rattle.std.proofs.lemmas.List.Folds.{concat-append}
@@ -38,3 +38,8 @@ pub line_part : (xs : List (List ℕ)) (i : ℕ) (x line : List ℕ) (old mid ne
     → Adds (concat (take i xs)) old mid → AddsPart line mid new → AddsPart (concat xs) old new
 line_part xs i x line old mid new h is same before now =
     subst (λ t. AddsPart t old new) (ap (λ t. concat (take i xs) ++ (t ++ concat (drop (i + 1) xs))) (same ∙ is) ∙ sym (concat_split xs i x h)) (adds_part _ line _ old mid new before now)
+
+-- nothing was added
+pub adds_none : (more : List ℕ) (old : Option (List ℕ)) → AddsPart more old old
+adds_none more None = refl
+adds_none more (Some all) = ([], more, refl, ap Some (sym (append-nil all)))

@@ -5,7 +5,11 @@ pub mod Gathering
 pub mod LogFaults
 pub mod LogText
 pub mod Orders
+pub mod Plans
 pub mod Replay
 pub mod Runs
 pub mod Standings
 pub mod Statuses
+pub mod TaskAnswers
+pub mod Tasks
+pub mod TypedSites

@@ -1,11 +1,11 @@
-// What answers to `objects ROOT`.
+// What the program answers: listings of objects, and diagnostics.
 ghost use Rattle.std.specs.Prelude.{◌≡◌, ◌++◌, map, length, IfOk, OnOk};
 ghost use Rattle.site_base.specs.SyntaxView.{file_view};
 ghost use Rattle.site_text.specs.Diags.{diag_line};
 ghost use Rattle.site_text.specs.Listing.{object_line};
 ghost use Rattle.site_conf.specs.Sound.{AreIn, IsWhole};
 ghost use Rattle.site_conf.specs.Views.{answer_view};
-ghost use Rattle.icinga_site.specs.Answers.{reply_of, reply_to, reply_to_site, diagnoses as diagnoses_of, listing as listing_of, not_yet as not_yet_of};
+ghost use Rattle.icinga_site.specs.Answers.{reply_of, reply_to, reply_to_site, diagnoses as diagnoses_of, listing as listing_of, not_yet as not_yet_of, no_script as no_script_of, bad_script as bad_script_of, fault_at as fault_of};
 ghost use Rattle.icinga_site.specs.FirstSites.{first_site as first_site_of};
 ghost use Rattle.icinga_site.specs.Gathering.{site_view};
 
@@ -13,7 +13,9 @@ use crate::answer::Answer;
 use crate::first_site::FirstSite;
 use crate::form_error::FormError;
 use crate::walked::first_site;
-use site_base::{Diag, DiagKind, File, ItemNo, OutOfMemory, Place, Row, TargetNo, Text, Texts};
+use site_base::{
+    Diag, DiagKind, File, ItemNo, OutOfMemory, Place, Row, TargetNo, Text, Texts, quote,
+};
 use site_conf::WalkAnswer;
 use site_model::Object;
 use site_text::{print_diag, print_object};
@@ -71,7 +73,7 @@ fn push_objects(alloc: Global, lines: &mut Texts, objects: &[Object]) -> Result<
 }
 
 /// The diagnostics of a walk over these files.
-fn diagnoses(alloc: Global, files: &Texts, list: &[Diag]) -> Result<Answer, OutOfMemory>
+pub fn diagnoses(alloc: Global, files: &Texts, list: &[Diag]) -> Result<Answer, OutOfMemory>
     requires { AreIn (length files.now) list.now }
     ensures { IfOk result (λ a. reply_of a ≡ diagnoses_of files.now list.now) }
 {
@@ -85,9 +87,36 @@ fn diagnoses(alloc: Global, files: &Texts, list: &[Diag]) -> Result<Answer, OutO
     })
 }
 
-/// The diagnostic that the program can't take the root yet.
-fn not_yet(alloc: Global, root: &str) -> Result<Answer, OutOfMemory>
-    ensures { IfOk result (λ a. reply_of a ≡ not_yet_of root.now) }
+/// The diagnostic that the program can't take a file yet.
+pub fn not_yet(alloc: Global, name: &str) -> Result<Answer, OutOfMemory>
+    ensures { IfOk result (λ a. reply_of a ≡ not_yet_of name.now) }
+{
+    fault_at(alloc, name, 1, DiagKind::NotYet, Text::new(alloc))
+}
+
+/// The diagnostic of a script that isn't there.
+pub fn no_script(alloc: Global, name: &str) -> Result<Answer, OutOfMemory>
+    ensures { IfOk result (λ a. reply_of a ≡ no_script_of name.now) }
+{
+    fault_at(alloc, name, 1, DiagKind::NoFile, quote(alloc, name)?)
+}
+
+/// The diagnostic of a script of which this line is none.
+pub fn bad_script(alloc: Global, name: &str, line: u32) -> Result<Answer, OutOfMemory>
+    ensures { IfOk result (λ a. reply_of a ≡ bad_script_of name.now line) }
+{
+    fault_at(alloc, name, line, DiagKind::BadScript, Text::new(alloc))
+}
+
+/// One fault of a file, at the head of a line.
+fn fault_at(
+    alloc: Global,
+    name: &str,
+    line: u32,
+    kind: DiagKind,
+    text: Text,
+) -> Result<Answer, OutOfMemory>
+    ensures { IfOk result (λ a. reply_of a ≡ fault_of name.now line kind text) }
 {
     let diag = Diag {
         number: ItemNo {
@@ -101,14 +130,14 @@ fn not_yet(alloc: Global, root: &str) -> Result<Answer, OutOfMemory>
         },
         place: Place {
             file: 0,
-            line: 1,
+            line,
             col: 1,
         },
-        kind: DiagKind::NotYet,
-        text: Text::new(alloc),
+        kind,
+        text,
     };
     let mut files = Row::new(alloc);
-    files.push(Text::copy_of(alloc, root)?)?;
+    files.push(Text::copy_of(alloc, name)?)?;
     let mut lines = Row::new(alloc);
     lines.push(print_diag(alloc, &diag, &files)?)?;
     Ok(Answer {

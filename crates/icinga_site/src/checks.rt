@@ -40,7 +40,7 @@ fn is_checked(commands: &Names, host: &Object) -> bool
 }
 
 /// By what command a host of these attributes is checked.
-fn check_of(tree: &Tree) -> Option<&str>
+pub fn check_of(tree: &Tree) -> Option<&str>
     ensures { option_copied result ≡ check_in (view tree.now) }
 {
     match tree {

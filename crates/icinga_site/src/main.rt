@@ -11,10 +11,12 @@ mod gathering;
 mod group;
 mod head;
 mod kind;
+mod output;
 mod replay;
 mod run_one;
 mod settings;
 mod status;
+mod task;
 #[cfg(test)]
 mod tests;
 mod values;
@@ -34,9 +36,10 @@ const HELP: &str = "\
 icinga_site reads a site's configuration in the Icinga 2 language.
 
 usage:
-  icinga_site objects ROOT    lists the objects that the configuration file ROOT makes
-  icinga_site --help          prints this text
-  icinga_site --version       prints the program's version
+  icinga_site objects ROOT          lists the objects that the configuration file ROOT makes
+  icinga_site replay ROOT SCRIPT    writes the log of the turns of SCRIPT over the site of ROOT
+  icinga_site --help                prints this text
+  icinga_site --version             prints the program's version
 ";
 
 /// What `--version` prints.

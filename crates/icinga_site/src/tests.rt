@@ -3,6 +3,7 @@ mod diagnoses;
 mod faults;
 mod listings;
 mod other_forms;
+mod replays;
 
 use crate::run_one::run_one;
 use crate::status::Status;
@@ -80,9 +81,17 @@ fn faults_are(
 
 #[test]
 fn other_words_are_a_wrong_use(rt: HostRuntime) -> Result<(), Fail> {
-    let rows: [&[&str]; 11] = [
+    let rows: [&[&str]; 19] = [
         &[],
         &["objects"],
+        &["replay"],
+        &["replay", "r"],
+        &["replay", "r", ""],
+        &["replay", "", "r"],
+        &["replay", "r", "-r"],
+        &["replay", "-r", "r"],
+        &["replay", "r", "r", "r"],
+        &["Replay", "r", "r"],
         &["r"],
         &["objects", ""],
         &["objects", "-r"],

@@ -32,7 +32,7 @@ fn attempts_value(expr: &Expr) -> Result<Tree, FormError>
     }
 }
 
-fn is_attempts(number: Num) -> bool
+pub fn is_attempts(number: Num) -> bool
     ensures { result ≡ lawful_attempts number }
 {
     match u64::try_from(number.thousandths()) {

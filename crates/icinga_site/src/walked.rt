@@ -1,7 +1,7 @@
 // The objects of walked files.
-ghost use Rattle.std.specs.Prelude.{◌≡◌, map};
+ghost use Rattle.std.specs.Prelude.{◌≡◌, true, map, IfOk};
 ghost use Rattle.site_base.specs.SyntaxView.{stmt_view, stmts_view, stmt_kind_view, file_view};
-ghost use Rattle.icinga_site.specs.FirstSites.{first_site as first_site_of};
+ghost use Rattle.icinga_site.specs.FirstSites.{first_site as first_site_of, fits};
 ghost use Rattle.icinga_site.specs.Gathering.{Gives, Goes};
 ghost use Rattle.icinga_site.specs.Gathering.{gathering_view, with_statement, site_view, gathered};
 ghost use Rattle.icinga_site.specs.Orders.{is_inclusion as includes, part as part_of, statement_by, statements_by, inclusion_by, first_number as first_in};
@@ -18,7 +18,8 @@ const MOST_FILES: u32 = 51;
 /// The objects of walked files, where these are of the first form. The order is that of the walk.
 #[tactic(auto, using(crate::proofs::GatheringLaws::gathers))]
 pub fn first_site(alloc: Global, trees: &[File], order: &[u32]) -> Result<FirstSite, FormError>
-    ensures { Gives site_view result (first_site_of (map file_view trees.now) order.now) }
+    ensures value { Gives site_view result (first_site_of (map file_view trees.now) order.now) }
+    ensures fits { IfOk result (λ s. fits (site_view s) ≡ true) }
 {
     gathered_site(alloc, trees, order)
 }

@@ -1,20 +1,34 @@
 // What the words of a command line ask for.
-ghost use Rattle.std.specs.Prelude.{◌≡◌};
-ghost use Rattle.std.specs.Option.{option_copied};
-ghost use Rattle.icinga_site.specs.Runs.{root_of as root_in, is_file_word as names_file};
+ghost use Rattle.std.specs.Prelude.{◌≡◌, ◌&&◌, option_map};
+ghost use Rattle.icinga_site.specs.Tasks.{task_of as task_in, task_view, is_file_word as names_file};
 
+use crate::task::Task;
 use site_base::Text;
 
-/// The root of `objects ROOT`; `None` for all other words.
-pub fn root_of(words: &[Text]) -> Option<&str>
-    ensures { option_copied result ≡ root_in words.now }
+/// What the words ask for; `None` for all words that ask for nothing that the program does.
+pub fn task_of(words: &[Text]) -> Option<Task<'_>>
+    ensures { option_map task_view result ≡ task_in words.now }
 {
     match words {
         [word, root] if word.as_str() == "objects" && is_file_word(root.as_bytes()) => {
-            Some(root.as_str())
+            Some(Task::Objects {
+                root: root.as_str(),
+            })
+        }
+        [word, root, script] if word.as_str() == "replay" && are_file_words(root, script) => {
+            Some(Task::Replay {
+                root: root.as_str(),
+                script: script.as_str(),
+            })
         }
         _ => None,
     }
+}
+
+fn are_file_words(left: &Text, right: &Text) -> bool
+    ensures { result ≡ (names_file left.now && names_file right.now) }
+{
+    is_file_word(left.as_bytes()) && is_file_word(right.as_bytes())
 }
 
 /// Whether a word can name a file: it isn't empty and doesn't begin with `-`.

@@ -7,10 +7,10 @@ ghost use Rattle.icinga_site.specs.LogText.{replay_text};
 ghost use Rattle.icinga_site.specs.Replay.{needs_more};
 ghost use Rattle.icinga_site.specs.Standings.{AllStand};
 
+use crate::output::write_lines;
 use crate::replay::log_fault::LogFault;
 use crate::replay::standing::Standing;
 use crate::replay::turn_text::turn_lines;
-use crate::replay::writing::write_lines;
 use site_base::{Moment, OutOfMemory};
 use site_edge::{Sink, Turn};
 use site_model::Site;

@@ -1,25 +1,22 @@
-use Rattle.std.proofs.Common.{List, ℕ, [], Some, None, Option, append-nil, refl, sym, ap}
+use Rattle.std.proofs.Common.{refl}
 use Rattle.std.specs.List.{concat}
 use Rattle.site_conf.specs.Views.{answer_view}
-use Rattle.site_edge.specs.Lists.{AddsPart}
 use Rattle.icinga_site.specs.Answers.{reply_to}
-use Rattle.icinga_site.proofs.AnswerLaws.{answers_walked, some_answer}
+use Rattle.icinga_site.specs.Tasks.{objects}
+use Rattle.icinga_site.proofs.AnswerLaws.{answers_walked}
+use Rattle.icinga_site.proofs.PlanLaws.{some_answer}
+use Rattle.icinga_site.proofs.Writing.{adds_none}
 use Rattle.icinga_site.proofs.run_one.list_objects.Goals as goal
-
--- nothing was added
-adds_none : (more : List ℕ) (old : Option (List ℕ)) → AddsPart more old old
-adds_none more None = refl
-adds_none more (Some all) = ([], more, refl, ap Some (sym (append-nil all)))
 
 pub returns-in-Ok-clause-written : goal.returns-in-Ok-clause-written
 returns-in-Ok-clause-written g c =
-    (reply_to c.args.root.now (answer_view c.in-Ok.walked), answers_walked c.args.root.now (g.F.Files.told c.args.files.now) (answer_view c.in-Ok.walked) c.in-Ok.ensures.value, c.write_answer.ensures.written)
+    (reply_to c.args.root.now (answer_view c.in-Ok.walked), answers_walked c.args.root.now (g.F.Files.told c.args.files.now) (answer_view c.in-Ok.walked) c.in-Ok.ensures.value, c.write_listing.ensures.written)
 
 pub returns-in-Err-Failed-clause-written : goal.returns-in-Err-Failed-clause-written
 returns-in-Err-Failed-clause-written g c =
-    let some = some_answer c.args.root.now (g.F.Files.told c.args.files.now) in (some.0, some.1, refl)
+    let some = some_answer (objects c.args.root.now) (g.F.Files.told c.args.files.now) in (some.0, some.1, refl)
 
 pub returns-in-Err-OutOfMemory-clause-written : goal.returns-in-Err-OutOfMemory-clause-written
 returns-in-Err-OutOfMemory-clause-written g c =
-    let some = some_answer c.args.root.now (g.F.Files.told c.args.files.now) in
+    let some = some_answer (objects c.args.root.now) (g.F.Files.told c.args.files.now) in
     (some.0, some.1, adds_none (concat some.0.lines) (g.S.Sink.written c.args.out.now))

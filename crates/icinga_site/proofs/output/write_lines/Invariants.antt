@@ -1,7 +1,8 @@
+-- The lines so far were written.
 use Rattle.std.proofs.Common.{◌≤◌, take}
 use Rattle.std.specs.List.{concat}
 use Rattle.site_edge.specs.Lists.{Adds}
-use Rattle.icinga_site.proofs.run_one.write_lines.Given as goal
+use Rattle.icinga_site.proofs.output.write_lines.Given as goal
 
 abbrev pub invariant-loop-line : goal.invariant-loop-line
 invariant-loop-line g l =

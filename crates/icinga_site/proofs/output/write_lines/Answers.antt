@@ -1,6 +1,7 @@
+-- One line more was written, or a part of one.
 use Rattle.std.proofs.Common.{arith, rules}
 use Rattle.icinga_site.proofs.Writing.{line_written, line_part}
-use Rattle.icinga_site.proofs.run_one.write_lines.Goals as goal
+use Rattle.icinga_site.proofs.output.write_lines.Goals as goal
 
 pub loop-line-preserved : goal.loop-line-preserved
 loop-line-preserved g c =

@@ -1,0 +1,112 @@
+-- The typed site of a site of the first form is sound.
+use Rattle.std.proofs.Common.{◌≡◌, ◌≢◌, ℕ, zero, suc, ◌+◌, ◌<◌, ◌≤◌, ◌&&◌, ◌||◌, not, Bool, true, false, cond, List, [], ◌∷◌, ◌++◌, length, map, get_or, nat_lt, All, AllPairs, Option, Some, None, refl, sym, ap, ◌∙◌, subst, append-nil, arith, rules}
+use Rattle.std.specs.List.{list_any, position_or_len}
+use Rattle.std.specs.Str.{bytes_eq}
+use borrow.Author.Tests.{ltb-true}
+use Rattle.std.proofs.lemmas.Bool.Decides.{nat_tests}
+use Rattle.std.proofs.lemmas.List.Folds.{list_any-append}
+use Rattle.std.proofs.lemmas.List.Kept.{AllPairs-cons}
+use Rattle.site_model.specs.Names.{place_of}
+use Rattle.site_model.specs.PlainSite.{PlainObject, PlainCheck}
+use Rattle.site_model.specs.Sound.{IsSound, IsIndexOrNone}
+use Rattle.icinga_site.specs.FirstSites.{FirstObjects, fits, names_differ, name_in, is_known, are_checked, check_of}
+use Rattle.icinga_site.specs.TypedSites.{typed_site, check_made, command_in, command_made, place_or_first}
+use Rattle.icinga_site.proofs.CheckLaws.{first_inside}
+use Rattle.icinga_site.proofs.SiteLaws.{both_first, both_second, is_not, commands_differ, hosts_differ}
+
+no_items : {A : Type 0} (P : A → Type 0) → All P []
+no_items P k d h = absurd (omega arith)
+
+no_pairs : {A : Type 0} (R : A → A → Type 0) → AllPairs R []
+no_pairs R i j d low high = absurd (omega arith)
+
+all_cons : {A : Type 0} (P : A → Type 0) (x : A) (xs : List A) → P x → All P xs → All P (x ∷ xs)
+all_cons P x xs p ps zero d h = p
+all_cons P x xs p ps (suc k) d h = ps k d (omega arith)
+
+all_made : {A B : Type 0} (P : B → Type 0) (f : A → B) → ((x : A) → P (f x)) → (xs : List A) → All P (map f xs)
+all_made P f each [] = no_items P
+all_made P f each (x ∷ xs) = all_cons P (f x) (map f xs) (each x) (all_made P f each xs)
+
+-- Names differ.
+
+has_itself : (n : List ℕ) → bytes_eq n n ≡ true
+has_itself n = search rules
+
+stays_taken : (n m : List ℕ) (taken : List (List ℕ)) → list_any (bytes_eq n) taken ≡ true → list_any (bytes_eq n) (taken ++ m ∷ []) ≡ true
+stays_taken n m taken h = list_any-append (bytes_eq n) taken (m ∷ []) ∙ ap (λ b. b || list_any (bytes_eq n) (m ∷ [])) h
+
+now_taken : (n : List ℕ) (taken : List (List ℕ)) → list_any (bytes_eq n) (taken ++ n ∷ []) ≡ true
+now_taken n taken = list_any-append (bytes_eq n) taken (n ∷ []) ∙ by (list_any (bytes_eq n) taken) ∙ refl
+  where
+    by : (b : Bool) → (b || (bytes_eq n n || false)) ≡ true
+    by b = grind (arith, has_itself n)
+
+others_differ : (n : List ℕ) (taken : List (List ℕ)) (os : List PlainObject) → names_differ taken os ≡ true → list_any (bytes_eq n) taken ≡ true → All (λ m. n ≢ m) (map name_in os)
+others_differ n taken [] h is = no_items _
+others_differ n taken (o ∷ os) h is =
+    let fresh : list_any (bytes_eq o.name) taken ≡ false = is_not _ (both_first _ _ h) in
+    all_cons (λ m. n ≢ m) o.name (map name_in os)
+    (λ same. let known : list_any (bytes_eq o.name) taken ≡ true = sym (ap (λ m. list_any (bytes_eq m) taken) same) ∙ is in cc)
+    (others_differ n (taken ++ o.name ∷ []) os (both_second (not (list_any (bytes_eq o.name) taken)) _ h) (stays_taken n o.name taken is))
+
+all_differ : (taken : List (List ℕ)) (os : List PlainObject) → names_differ taken os ≡ true → AllPairs (λ x y. x ≢ y) (map name_in os)
+all_differ taken [] h = no_pairs (λ x y. x ≢ y)
+all_differ taken (o ∷ os) h =
+    let rest = both_second (not (list_any (bytes_eq o.name) taken)) _ h in
+    AllPairs-cons (λ x y. x ≢ y) o.name (map name_in os) (others_differ o.name (taken ++ o.name ∷ []) os rest (now_taken o.name taken)) (all_differ (taken ++ o.name ∷ []) os rest)
+
+full_names_are : (commands : List (List ℕ)) (hosts : List PlainObject) → map name_in hosts ≡ map (λ (c : PlainCheck). c.name) (map (check_made commands) hosts)
+full_names_are commands [] = refl
+full_names_are commands (h ∷ hs) = ap (λ ns. h.name ∷ ns) (full_names_are commands hs)
+
+-- Each host is checked by a command of the site.
+
+command_is_there : (names : List (List ℕ)) (n : Option (List ℕ)) → is_known names n ≡ true → command_in names n < length names
+command_is_there names None h = absurd cc
+command_is_there names (Some n) h =
+    let inside : nat_lt (position_or_len (bytes_eq n) names) (length names) ≡ true = first_inside (bytes_eq n) names ∙ h in
+    by (position_or_len (bytes_eq n) names) inside
+  where
+    by : (k : ℕ) → nat_lt k (length names) ≡ true → place_or_first (cond (nat_lt k (length names)) (Some k) None) < length names
+    by k inside = rw inside (ltb-true k (length names) inside)
+
+commands_are_there : (names : List (List ℕ)) (hosts : List PlainObject) → are_checked names hosts ≡ true → All (λ (c : PlainCheck). c.command < length names) (map (check_made names) hosts)
+commands_are_there names [] h = no_items _
+commands_are_there names (o ∷ os) h =
+    all_cons (λ (c : PlainCheck). c.command < length names) (check_made names o) (map (check_made names) os) (command_is_there names (check_of o.tree) (both_first _ _ h)) (commands_are_there names os (both_second (is_known names (check_of o.tree)) _ h))
+
+length_made : {A B C : Type 0} (f : A → B) (g : A → C) (xs : List A) → length (map f xs) ≡ length (map g xs)
+length_made f g [] = refl
+length_made f g (x ∷ xs) = ap suc (length_made f g xs)
+
+-- where its objects stand in its files
+pub typed_sound : (files : List (List ℕ)) (os : FirstObjects) → fits os ≡ true → All (λ (o : PlainObject). o.place.file < length files) (os.commands ++ os.hosts) → IsSound (typed_site files os)
+typed_sound files os h places =
+    let names = map name_in os.commands in
+    let checked : are_checked names os.hosts ≡ true = both_second (names_differ [] os.hosts) _ (both_second (names_differ [] os.commands) _ h) in
+    record {
+      in_order = record {
+        hosts = map (check_made names) os.hosts;
+        services = [];
+        in_order = sym (append-nil (map (check_made names) os.hosts));
+        hosts_have_none = all_made (λ (c : PlainCheck). c.host ≡ None) (check_made names) (λ o. refl) os.hosts;
+        services_have_one = no_items _;
+      };
+      named = full_names_are names os.hosts;
+      distinct = all_differ [] os.hosts (hosts_differ os h);
+      places = places;
+      commands = subst (λ n. All (λ (c : PlainCheck). c.command < n) (map (check_made names) os.hosts)) (length_made name_in command_made os.commands) (commands_are_there names os.hosts checked);
+      periods = all_made (λ (c : PlainCheck). IsIndexOrNone 0 c.period) (check_made names) (λ o. tt) os.hosts;
+      depends = no_items _;
+      depend_names = no_pairs (λ (x y : List ℕ). x ≢ y);
+      notifies = no_items _;
+      notify_names = no_pairs (λ (x y : List ℕ). x ≢ y);
+      users = no_items _;
+      user_names = no_pairs (λ (x y : List ℕ). x ≢ y);
+      few_depends = omega arith;
+      few_notifies = omega arith;
+      few_users = omega arith;
+      some_order = omega arith;
+      most_orders = omega arith;
+    }
