@@ -1,16 +1,17 @@
 -- The typed site of a site of the first form is sound.
-use Rattle.std.proofs.Common.{◌≡◌, ◌≢◌, ℕ, zero, suc, ◌+◌, ◌<◌, ◌≤◌, ◌&&◌, ◌||◌, not, Bool, true, false, cond, List, [], ◌∷◌, ◌++◌, length, map, get_or, nat_lt, All, AllPairs, Option, Some, None, refl, sym, ap, ◌∙◌, subst, append-nil, arith, rules}
+use Rattle.std.proofs.Common.{◌≡◌, ◌≢◌, ℕ, zero, suc, ◌+◌, ◌<◌, ◌≤◌, ◌&&◌, ◌||◌, not, Bool, true, false, cond, List, [], ◌∷◌, ◌++◌, length, map, slice_get, nat_lt, All, AllPairs, Option, Some, None, refl, sym, ap, ◌∙◌, subst, append-nil, arith, rules}
 use Rattle.std.specs.List.{list_any, position_or_len}
 use Rattle.std.specs.Str.{bytes_eq}
 use borrow.Author.Tests.{ltb-true}
-use Rattle.std.proofs.lemmas.Bool.Decides.{nat_tests}
+use Rattle.std.specs.Bool.{Decides}
+use Rattle.std.proofs.lemmas.Slice.Eq.{bytes_eq-Decides}
 use Rattle.std.proofs.lemmas.List.Folds.{list_any-append}
 use Rattle.std.proofs.lemmas.List.Kept.{AllPairs-cons}
-use Rattle.site_model.specs.Names.{place_of}
-use Rattle.site_model.specs.PlainSite.{PlainObject, PlainCheck}
+use Rattle.site_base.specs.Data.{Data}
+use Rattle.site_model.specs.PlainSite.{PlainObject, PlainCheck, PlainCommand}
 use Rattle.site_model.specs.Sound.{IsSound, IsIndexOrNone}
 use Rattle.icinga_site.specs.FirstSites.{FirstObjects, fits, names_differ, name_in, is_known, are_checked, check_of}
-use Rattle.icinga_site.specs.TypedSites.{typed_site, check_made, command_in, command_made, place_or_first}
+use Rattle.icinga_site.specs.TypedSites.{typed_site, check_made, command_in, command_made, place_or_first, IsCheckedBy}
 use Rattle.icinga_site.proofs.CheckLaws.{first_inside}
 use Rattle.icinga_site.proofs.SiteLaws.{both_first, both_second, is_not, commands_differ, hosts_differ}
 
@@ -76,15 +77,52 @@ commands_are_there names [] h = no_items _
 commands_are_there names (o ∷ os) h =
     all_cons (λ (c : PlainCheck). c.command < length names) (check_made names o) (map (check_made names) os) (command_is_there names (check_of o.tree) (both_first _ _ h)) (commands_are_there names os (both_second (is_known names (check_of o.tree)) _ h))
 
+-- the command at the place of a name has that name
+abbrev HasName : List PlainObject → List ℕ → ℕ → Type 0
+HasName cs n k = (c : PlainCommand) × (slice_get (map command_made cs) k ≡ Some c) × (n ≡ c.name)
+
+place_has_name : (cs : List PlainObject) (n : List ℕ) → list_any (bytes_eq n) (map name_in cs) ≡ true → HasName cs n (position_or_len (bytes_eq n) (map name_in cs))
+place_has_name [] n h = absurd cc
+place_has_name (o ∷ os) n h = by (bytes_eq n o.name) (bytes_eq-Decides n o.name) h (place_has_name os n)
+  where
+    by : (b : Bool) → Decides b (n ≡ o.name) → (b || list_any (bytes_eq n) (map name_in os)) ≡ true
+        → (list_any (bytes_eq n) (map name_in os) ≡ true → HasName os n (position_or_len (bytes_eq n) (map name_in os)))
+        → HasName (o ∷ os) n (cond (not b) (1 + position_or_len (bytes_eq n) (map name_in os)) 0)
+    by true d h more = (command_made o, refl, d.0 refl)
+    by false d h more =
+        let k = position_or_len (bytes_eq n) (map name_in os) in
+        let next : suc k ≡ 1 + k = omega arith in
+        subst (λ j. HasName (o ∷ os) n j) next (more h)
+
+command_is_named : (cs : List PlainObject) (d : Data) (n : Option (List ℕ)) → check_of d ≡ n → is_known (map name_in cs) n ≡ true → IsCheckedBy (map command_made cs) d (command_in (map name_in cs) n)
+command_is_named cs d None e h = absurd cc
+command_is_named cs d (Some n) e h =
+    let inside : nat_lt (position_or_len (bytes_eq n) (map name_in cs)) (length (map name_in cs)) ≡ true = first_inside (bytes_eq n) (map name_in cs) ∙ h in
+    let found = place_has_name cs n h in
+    subst (λ b. IsCheckedBy (map command_made cs) d (place_or_first (cond b (Some (position_or_len (bytes_eq n) (map name_in cs))) None))) (sym inside)
+    (found.0, found.1, e ∙ ap Some found.2)
+
+commands_are_named : (cs : List PlainObject) (hosts : List PlainObject) → are_checked (map name_in cs) hosts ≡ true
+    → All (λ (h : PlainObject). IsCheckedBy (map command_made cs) h.tree (check_made (map name_in cs) h).command) hosts
+commands_are_named cs [] h = no_items _
+commands_are_named cs (o ∷ os) h =
+    all_cons (λ (x : PlainObject). IsCheckedBy (map command_made cs) x.tree (check_made (map name_in cs) x).command) o os
+    (command_is_named cs o.tree (check_of o.tree) refl (both_first _ _ h)) (commands_are_named cs os (both_second (is_known (map name_in cs) (check_of o.tree)) _ h))
+
 length_made : {A B C : Type 0} (f : A → B) (g : A → C) (xs : List A) → length (map f xs) ≡ length (map g xs)
 length_made f g [] = refl
 length_made f g (x ∷ xs) = ap suc (length_made f g xs)
+
+all_checked : (os : FirstObjects) → fits os ≡ true → are_checked (map name_in os.commands) os.hosts ≡ true
+all_checked os h =
+    both_second (names_differ [] os.hosts) (are_checked (map name_in os.commands) os.hosts)
+    (both_second (names_differ [] os.commands) (names_differ [] os.hosts && are_checked (map name_in os.commands) os.hosts) h)
 
 -- where its objects stand in its files
 pub typed_sound : (files : List (List ℕ)) (os : FirstObjects) → fits os ≡ true → All (λ (o : PlainObject). o.place.file < length files) (os.commands ++ os.hosts) → IsSound (typed_site files os)
 typed_sound files os h places =
     let names = map name_in os.commands in
-    let checked : are_checked names os.hosts ≡ true = both_second (names_differ [] os.hosts) _ (both_second (names_differ [] os.commands) _ h) in
+    let checked : are_checked names os.hosts ≡ true = all_checked os h in
     record {
       in_order = record {
         hosts = map (check_made names) os.hosts;
@@ -110,3 +148,7 @@ typed_sound files os h places =
       some_order = omega arith;
       most_orders = omega arith;
     }
+
+-- each host is checked by the command that it names
+pub hosts_are_checked : (os : FirstObjects) → fits os ≡ true → All (λ (h : PlainObject). IsCheckedBy (map command_made os.commands) h.tree (check_made (map name_in os.commands) h).command) os.hosts
+hosts_are_checked os h = commands_are_named os.commands os.hosts (all_checked os h)

@@ -1,5 +1,5 @@
 -- The site that a run goes over, of a site of the first form: what its objects set, and the defaults of what they don't.
-use Rattle.std.specs.Prelude.{ℕ, ℤ, pos, negsuc, ◌/◌, Bool, true, false, List, [], ◌++◌, map, Option, Some, None, codes, if◌then◌else◌}
+use Rattle.std.specs.Prelude.{ℕ, ℤ, ◌≡◌, pos, negsuc, ◌/◌, Bool, true, false, List, [], ◌++◌, map, slice_get, Option, Some, None, codes, if◌then◌else◌}
 use Rattle.std.specs.List.{list_any}
 use Rattle.std.specs.Str.{bytes_eq}
 use Rattle.std.specs.Borrow.{Bor}
@@ -95,6 +95,10 @@ typed_site files os = record {
   zone = None;
   max_orders = 512;
 }
+
+-- the command at this place has the name by which an object of these attributes is checked
+abbrev pub IsCheckedBy : List PlainCommand → Data → ℕ → Type 0
+IsCheckedBy commands d k = (c : PlainCommand) × (slice_get commands k ≡ Some c) × (check_of d ≡ Some c.name)
 
 -- some host is checked by the program itself
 abbrev pub some_active : List PlainObject → Bool

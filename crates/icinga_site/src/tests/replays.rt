@@ -10,7 +10,13 @@ const COMMAND: &str = "object CheckCommand \"c\" { command = \"x\" }\n";
 const SITE: &str = "object CheckCommand \"c\" { command = \"x\" }\n\
     object Host \"h\" { check_command = \"c\"; enable_active_checks = false }\n";
 
-const ACTIVE: &str = "object Host \"i\" { check_command = \"c\" }\n";
+/// The program itself checks all hosts of the first of these, and one of the second.
+const ACTIVE: &str = "object CheckCommand \"c\" { command = \"x\" }\n\
+    object Host \"h\" { check_command = \"c\" }\n";
+
+const HALF_ACTIVE: &str = "object CheckCommand \"c\" { command = \"x\" }\n\
+    object Host \"h\" { check_command = \"c\"; enable_active_checks = false }\n\
+    object Host \"i\" { check_command = \"c\" }\n";
 
 const SCRIPT: &str = "turn 10\n\
     line \"[1] PROCESS_HOST_CHECK_RESULT;h;1;x\"\n\
@@ -137,8 +143,6 @@ fn attempts_are_a_hosts_own(rt: HostRuntime) -> Result<(), Fail> {
 
 #[test]
 fn faults_of_the_files_come_before_the_scripts(rt: HostRuntime) -> Result<(), Fail> {
-    let both = format!(in rt.alloc(); "{SITE}{ACTIVE}")?;
-    let only = format!(in rt.alloc(); "{COMMAND}{ACTIVE}")?;
     let rows: [(&[(&str, &str)], &str); 11] = [
         (&[], "r:1:1: NoFile \"r\"\n"),
         (&[("s", "x")], "r:1:1: NoFile \"r\"\n"),
@@ -147,8 +151,8 @@ fn faults_of_the_files_come_before_the_scripts(rt: HostRuntime) -> Result<(), Fa
             "r:1:18: Syntax\n",
         ),
         (&[("r", "var x = 1\n")], "r:1:1: NotYet\n"),
-        (&[("r", both.as_str()), ("s", "x")], "r:1:1: NotYet\n"),
-        (&[("r", only.as_str()), ("s", SCRIPT)], "r:1:1: NotYet\n"),
+        (&[("r", HALF_ACTIVE), ("s", "x")], "r:1:1: NotYet\n"),
+        (&[("r", ACTIVE), ("s", SCRIPT)], "r:1:1: NotYet\n"),
         (&[("r", SITE)], "s:1:1: NoFile \"s\"\n"),
         (
             &[("r", SITE), ("s", "turn 10\nreport x\n")],
