@@ -1,6 +1,7 @@
 pub mod Contents
 pub mod Entering
 pub mod Equality
+pub mod Faults
 pub mod Loads
 pub mod Nests
 pub mod Pairs

@@ -1,5 +1,5 @@
 // The store.
-ghost use Rattle.std.specs.Prelude.{◌≡◌, ◌<◌, ◌≤◌, ◌+◌, false, ◌^◌, ◌++◌, [], ◌∷◌, ◌↔◌, IfOk, OnOk, OnErr, IsErrOf, IsTrue, IfSome, IfNone, Some, None, Ok, List, ℕ, length};
+ghost use Rattle.std.specs.Prelude.{◌≡◌, ◌<◌, ◌≤◌, ◌+◌, false, ◌^◌, ◌++◌, [], ◌∷◌, ◌↔◌, IfOk, IfErr, OnOk, OnErr, IsErrOf, IsTrue, IfSome, IfNone, Some, None, Ok, List, ℕ, length};
 ghost use Rattle.std.specs.List.{AllByRecursion};
 ghost use Rattle.std.specs.Arc.{arc_value};
 ghost use Rattle.dsl_value.specs.Contents.{Contents, PlainCell, array, dict, plain, function, function_at, cell_at, with_cell, with_cells, pushed, is_array, is_dict, values_of, pairs_of, with_value, with_pair, without_pair, IsInOrder};
@@ -8,6 +8,7 @@ ghost use Rattle.dsl_value.specs.Walks.{Gives, tree_walked};
 ghost use Rattle.dsl_value.specs.Loads.{load, grown, given, Fits};
 ghost use Rattle.site_base.specs.View.{view};
 ghost use Rattle.dsl_value.specs.Whole.{Names, NamesAll, Stands, Captures};
+ghost use Rattle.dsl_value.specs.Faults.{Concerns};
 
 use crate::frozen::Frozen;
 use crate::layer::Layer;
@@ -212,6 +213,7 @@ impl Store {
         requires is_dict { IsTrue (is_dict (cell_at self.old.cells cell)) }
         requires stands { Names (length self.old.cells) (length self.old.functions) value }
         ensures frozen { IsErrOf result (SetFault.Frozen cell) ↔ (cell < self.old.base) }
+        ensures fault { IfErr result (Concerns cell) }
         ensures ok { OnOk result (self.new ≡ with_cells self.old (with_cell self.old.cells cell (with_pair (cell_at self.old.cells cell) key value))) }
         ensures err { OnErr result (self.new ≡ self.old) }
     {
@@ -230,6 +232,7 @@ impl Store {
         requires place { place < length (values_of (cell_at self.old.cells cell)) }
         requires stands { Names (length self.old.cells) (length self.old.functions) value }
         ensures frozen { IsErrOf result (SetFault.Frozen cell) ↔ (cell < self.old.base) }
+        ensures fault { IfErr result (Concerns cell) }
         ensures ok { OnOk result (self.new ≡ with_cells self.old (with_cell self.old.cells cell (with_value (cell_at self.old.cells cell) place value))) }
         ensures err { OnErr result (self.new ≡ self.old) }
     {
@@ -247,6 +250,7 @@ impl Store {
         requires is_array { IsTrue (is_array (cell_at self.old.cells cell)) }
         requires stands { Names (length self.old.cells) (length self.old.functions) value }
         ensures frozen { IsErrOf result (SetFault.Frozen cell) ↔ (cell < self.old.base) }
+        ensures fault { IfErr result (Concerns cell) }
         ensures ok { OnOk result (self.new ≡ with_cells self.old (with_cell self.old.cells cell (pushed (cell_at self.old.cells cell) value))) }
         ensures err { OnErr result (self.new ≡ self.old) }
     {
@@ -264,6 +268,7 @@ impl Store {
         requires inside { cell < length self.old.cells }
         requires is_dict { IsTrue (is_dict (cell_at self.old.cells cell)) }
         ensures frozen { IsErrOf result (SetFault.Frozen cell) ↔ (cell < self.old.base) }
+        ensures fault { IfErr result (Concerns cell) }
         ensures ok { OnOk result (self.new ≡ with_cells self.old (with_cell self.old.cells cell (without_pair (cell_at self.old.cells cell) key.now))) }
         ensures err { OnErr result (self.new ≡ self.old) }
     {
