@@ -1,5 +1,5 @@
 // Windows of texts.
-ghost use Rattle.std.specs.Prelude.{◌≡◌, ◌≤◌, ◌+ℤ◌, MatchResult, Some, None, length, IfOk, ℕ};
+ghost use Rattle.std.specs.Prelude.{◌≡◌, ◌≤◌, MatchResult, Some, None, length, IfOk, ℕ};
 ghost use Rattle.dsl_value.specs.Whole.{Names};
 ghost use Rattle.dsl_lib.specs.Answers.{Returns};
 ghost use Rattle.dsl_ops.specs.Table.{whole_part};

@@ -1,7 +1,7 @@
 // The methods of dictionaries.
-ghost use Rattle.std.specs.Prelude.{◌≡◌, ◌<◌, IfOk, map, length, is_some};
+ghost use Rattle.std.specs.Prelude.{◌≡◌, ◌<◌, IfOk, map, length};
 ghost use Rattle.std.specs.List.{AllByRecursion};
-ghost use Rattle.dsl_value.specs.Whole.{Names, NamesAll};
+ghost use Rattle.dsl_value.specs.Whole.{Names};
 ghost use Rattle.dsl_lib.specs.Answers.{Returns, Answers, HasRoom};
 ghost use Rattle.dsl_lib.specs.Dicts.{key_of, value_of, keys as keys_answer, values as values_answer, len as len_answer, contains as contains_answer, get as get_answer, set as set_answer, remove as remove_answer};
 

@@ -1,5 +1,5 @@
 // Arrays of numbers.
-ghost use Rattle.std.specs.Prelude.{◌≡◌, ◌<◌, ◌++◌, pos, ◌<ℤ◌, length, IfOk};
+ghost use Rattle.std.specs.Prelude.{◌≡◌, ◌<◌, pos, ◌<ℤ◌, length, IfOk};
 ghost use Rattle.dsl_value.specs.Whole.{Names};
 ghost use Rattle.dsl_lib.specs.Answers.{Answers, HasRoom};
 ghost use Rattle.dsl_lib.specs.Sets.{numbers_below, ranged as ranged_answer, range as range_answer};

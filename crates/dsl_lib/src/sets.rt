@@ -5,7 +5,7 @@ ghost use Rattle.dsl_value.specs.Whole.{Names};
 ghost use Rattle.dsl_value.specs.declared.value.Value.{Value};
 ghost use Rattle.dsl_lib.specs.Answers.{Answers, HasRoom, IsWrong};
 ghost use Rattle.dsl_lib.specs.Arguments.{items_in};
-ghost use Rattle.dsl_lib.specs.Arrays.{all_in, has_equal};
+ghost use Rattle.dsl_lib.specs.Arrays.{all_in};
 ghost use Rattle.dsl_lib.specs.Sets.{with_distinct, distinct, union as union_answer, is_common, intersection as intersection_answer};
 
 use crate::LibFault;

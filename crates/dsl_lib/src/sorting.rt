@@ -1,5 +1,5 @@
 // Arrays in order.
-ghost use Rattle.std.specs.Prelude.{◌≡◌, ◌<◌, ℤ, ℕ, List, length, map, Some, None, MatchResult, IfOk};
+ghost use Rattle.std.specs.Prelude.{◌≡◌, ◌<◌, ℤ, ℕ, List, length, map, Some, MatchResult, IfOk};
 ghost use Rattle.std.specs.List.{AllByRecursion};
 ghost use Rattle.std.specs.Ordering.{int_cmp};
 ghost use Rattle.dsl_value.specs.Pairs.{key_cmp};

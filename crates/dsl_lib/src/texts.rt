@@ -1,10 +1,9 @@
 // The methods of texts.
-ghost use Rattle.std.specs.Prelude.{◌≡◌, ◌<◌, length, map, IfOk, MatchOption, MatchResult, Some, None, ℕ};
+ghost use Rattle.std.specs.Prelude.{◌≡◌, ◌<◌, map, IfOk, Some, ℕ};
 ghost use Rattle.std.specs.Char.{to_ascii_lowercase, to_ascii_uppercase};
-ghost use Rattle.std.specs.Str.{chars};
 ghost use Rattle.dsl_value.specs.Whole.{Names};
-ghost use Rattle.dsl_lib.specs.Answers.{Returns, Answers, HasRoom};
-ghost use Rattle.dsl_lib.specs.Texts.{len as len_answer, has_part, contains as contains_answer, by_chars, lower as lower_answer, upper as upper_answer, trimmed as trimmed_chars, trim as trim_answer};
+ghost use Rattle.dsl_lib.specs.Answers.{Returns};
+ghost use Rattle.dsl_lib.specs.Texts.{len as len_answer, has_part, contains as contains_answer, by_chars, lower as lower_answer, upper as upper_answer, trim as trim_answer};
 
 use crate::LibFault;
 use crate::args::{one, text, two};

@@ -1,7 +1,7 @@
 // The operators between two operands.
-ghost use Rattle.std.specs.Prelude.{◌≡◌, ◌<◌, ◌^◌, ◌+◌, length, IfOk, OnOk, OnErr, ℕ, ℤ, Bool, List, T, if◌then◌else◌};
+ghost use Rattle.std.specs.Prelude.{◌≡◌, ◌<◌, ◌^◌, length, IfOk, OnOk, OnErr, ℕ, ℤ, Bool, List, T, if◌then◌else◌};
 ghost use Rattle.dsl_value.specs.Whole.{Names};
-ghost use Rattle.dsl_ops.specs.Operands.{operand, plain, is_true};
+ghost use Rattle.dsl_ops.specs.Operands.{operand};
 ghost use Rattle.dsl_ops.specs.Outcomes.{Gives, StandsMade, gives, after, answer, HasRoom, IsUnlessMemory};
 ghost use Rattle.dsl_ops.specs.Table.{binary_outcome, merged, without};
 ghost use Rattle.dsl_ops.specs.Laws.{IsMerged, IsWithout, IsRoundedDown};

@@ -1,6 +1,6 @@
 // Shifts and bits of whole numbers.
-ghost use Rattle.std.specs.Prelude.{◌≡◌, ◌*ℤ◌, ◌^◌, ◌<◌, ◌≤◌, pos, IfSome};
-ghost use Rattle.std.specs.Int.{w64, int_bit_and, int_bit_or, int_bit_xor, int_bit_not, int_shr};
+ghost use Rattle.std.specs.Prelude.{◌≡◌, ◌*ℤ◌, ◌^◌, ◌<◌, pos, IfSome};
+ghost use Rattle.std.specs.Int.{w64, int_bit_and, int_bit_or, int_bit_xor};
 ghost use Rattle.dsl_ops.specs.Operands.{plain};
 ghost use Rattle.dsl_ops.specs.Outcomes.{number_returned};
 ghost use Rattle.dsl_ops.specs.Table.{whole, whole_part, wholes, thousandths_of, places, left_shift, right_shift, bits, complement};

@@ -1,11 +1,9 @@
 // What `+` joins.
 ghost use Rattle.std.specs.Prelude.{◌≡◌, ◌<◌, ◌++◌, IfOk, OnOk, ℕ, T, []};
 ghost use Rattle.dsl_value.specs.Pairs.{dict_of, is_sorted};
-ghost use Rattle.std.specs.List.{AllByRecursion};
-ghost use Rattle.dsl_value.specs.Whole.{Names, NamesAll};
 ghost use Rattle.dsl_ops.specs.Operands.{plain, Stands, IsInOrder};
 ghost use Rattle.dsl_ops.specs.Outcomes.{Gives, StandsMade};
-ghost use Rattle.dsl_ops.specs.Table.{boolean_text, has_text, text_of, is_string, are_joined, joined, kept, merged, sum};
+ghost use Rattle.dsl_ops.specs.Table.{has_text, text_of, is_string, are_joined, joined, kept, merged, sum};
 
 use crate::OpFault;
 use crate::arithmetic::number_or_overflow;

@@ -1,5 +1,5 @@
 // What operators make.
-ghost use Rattle.std.specs.Prelude.{◌≡◌, ◌<◌, ◌+◌, ◌^◌, length, IfOk, OnOk, OnErr, Ok, ℕ};
+ghost use Rattle.std.specs.Prelude.{◌≡◌, ◌<◌, length, IfOk, OnOk, OnErr, Ok, ℕ};
 ghost use Rattle.dsl_value.specs.Whole.{Names};
 ghost use Rattle.dsl_ops.specs.Outcomes.{Gives, StandsMade, outcome_of, after, answer, HasRoom, number_returned, truth_returned};
 

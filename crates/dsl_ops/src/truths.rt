@@ -1,5 +1,5 @@
 // The truth of a value.
-ghost use Rattle.std.specs.Prelude.{◌≡◌, ◌<◌, length};
+ghost use Rattle.std.specs.Prelude.{◌≡◌, length};
 ghost use Rattle.dsl_value.specs.Whole.{Names};
 ghost use Rattle.dsl_value.specs.Contents.{plain};
 ghost use Rattle.dsl_ops.specs.Operands.{content_of, operand, is_true};

@@ -1,6 +1,6 @@
 // What changes one cell.
-ghost use Rattle.std.specs.Prelude.{◌≡◌, ◌<◌, OnOk, OnErr, IsTrue, T, length};
-ghost use Rattle.dsl_value.specs.Contents.{plain, pushed, is_array, is_dict, values_of, pairs_of, IsInOrder, with_value, with_pair, without_pair};
+ghost use Rattle.std.specs.Prelude.{◌≡◌, ◌<◌, OnOk, OnErr, IsTrue, length};
+ghost use Rattle.dsl_value.specs.Contents.{plain, pushed, is_array, is_dict, values_of, IsInOrder, with_value, with_pair, without_pair};
 
 use crate::pairs::{put_pair, remove_pair};
 use crate::{Cell, Value};

@@ -1,5 +1,5 @@
 // When values are equal.
-ghost use Rattle.std.specs.Prelude.{◌≡◌, ◌<◌, ◌-◌, length};
+ghost use Rattle.std.specs.Prelude.{◌≡◌, ◌-◌, length};
 ghost use Rattle.std.specs.List.{All};
 ghost use Rattle.dsl_value.specs.Contents.{plain};
 ghost use Rattle.dsl_value.specs.Equality.{scalars_equal, each_equal, each_pair_equal, cells_equal, refs_equal, equal_within};

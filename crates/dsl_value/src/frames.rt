@@ -1,5 +1,5 @@
 // What a walk does inside of one cell.
-ghost use Rattle.std.specs.Prelude.{◌≡◌, ◌<◌, ◌^◌, IfSome, IfNone, OnOk, Some, None, map, length, slice_get};
+ghost use Rattle.std.specs.Prelude.{◌≡◌, ◌<◌, IfSome, IfNone, OnOk, Some, None, map, length, slice_get};
 ghost use Rattle.site_base.specs.View.{view, pair_view};
 ghost use Rattle.dsl_value.specs.Contents.{plain, pairs_of};
 ghost use Rattle.dsl_value.specs.Paths.{entered, next_value, key_bytes, keyed, with_child, tree_made};

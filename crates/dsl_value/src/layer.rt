@@ -1,6 +1,6 @@
 // Cells and functions that several stores may share.
 ghost use Rattle.std.specs.Prelude.{◌≡◌, ◌<◌, ◌++◌, [], ◌∷◌, IfOk, OnOk, OnErr, IsTrue, length, slice_get, Some, map};
-ghost use Rattle.dsl_value.specs.Contents.{Contained, PlainCell, plain, function, with_cell, cell_at, pushed, is_array, is_dict, values_of, IsInOrder, with_value, with_pair, without_pair};
+ghost use Rattle.dsl_value.specs.Contents.{Contained, plain, function, with_cell, cell_at, pushed, is_array, is_dict, values_of, IsInOrder, with_value, with_pair, without_pair};
 ghost use Rattle.dsl_value.specs.Parts.{part_of};
 
 use crate::cells::{push_in, put_in, remove_in, set_in};

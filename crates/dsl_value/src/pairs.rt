@@ -1,6 +1,6 @@
 // Pairs of a key and a value, sorted by the keys' bytes.
-ghost use Rattle.std.specs.Prelude.{◌≡◌, IfOk, IfErr, OnOk, OnErr, IfSome, IfNone, T, Some, None, [], option_map};
-ghost use Rattle.dsl_value.specs.Pairs.{Pairs, key_cmp, find, is_sorted, put, without, IsAt, IsGapFor, dict_of};
+ghost use Rattle.std.specs.Prelude.{◌≡◌, IfOk, IfErr, OnOk, OnErr, IfSome, IfNone, T, Some, None, []};
+ghost use Rattle.dsl_value.specs.Pairs.{Pairs, find, is_sorted, put, without, IsAt, IsGapFor, dict_of};
 
 use crate::Value;
 use site_base::{OutOfMemory, Text};

@@ -2,7 +2,7 @@
 ghost use Rattle.std.specs.Prelude.{◌≡◌, ◌<◌, ◌≤◌, ◌+◌, false, ◌^◌, ◌++◌, [], ◌∷◌, ◌↔◌, IfOk, IfErr, OnOk, OnErr, IsErrOf, IsTrue, IfSome, IfNone, Some, None, Ok, List, ℕ, length};
 ghost use Rattle.std.specs.List.{AllByRecursion};
 ghost use Rattle.std.specs.Arc.{arc_value};
-ghost use Rattle.dsl_value.specs.Contents.{Contents, PlainCell, array, dict, plain, function, function_at, cell_at, with_cell, with_cells, pushed, is_array, is_dict, values_of, pairs_of, with_value, with_pair, without_pair, IsInOrder};
+ghost use Rattle.dsl_value.specs.Contents.{Contents, array, dict, plain, function, function_at, cell_at, with_cell, with_cells, pushed, is_array, is_dict, values_of, pairs_of, with_value, with_pair, without_pair, IsInOrder};
 ghost use Rattle.dsl_value.specs.Pairs.{find, dict_of, last_of};
 ghost use Rattle.dsl_value.specs.Walks.{Gives, tree_walked};
 ghost use Rattle.dsl_value.specs.Loads.{load, grown, given, Fits};

@@ -1,7 +1,6 @@
 // The walk that makes trees.
-ghost use Rattle.std.specs.Prelude.{◌≡◌, ◌<◌, ◌≤◌, ◌+◌, ◌^◌, ◌∷◌, IfOk, IfSome, IfNone, length, map, reverse};
+ghost use Rattle.std.specs.Prelude.{◌≡◌, ◌<◌, ◌≤◌, ◌+◌, ◌∷◌, IfOk, IfSome, IfNone, length, map};
 ghost use Rattle.site_base.specs.View.{view};
-ghost use Rattle.dsl_value.specs.Contents.{cell_at};
 ghost use Rattle.dsl_value.specs.Whole.{Names};
 ghost use Rattle.dsl_value.specs.Walks.{most, walked, tree_walked, Gives, is_open};
 ghost use Rattle.dsl_value.specs.Paths.{IsPath, Turned, Falls, going, going_at, going_with, left_of, below_of, tree_made};

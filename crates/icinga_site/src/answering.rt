@@ -1,7 +1,6 @@
 // What the program answers: listings of objects, and diagnostics.
 ghost use Rattle.std.specs.Prelude.{◌≡◌, ◌++◌, map, length, IfOk, OnOk};
 ghost use Rattle.site_base.specs.SyntaxView.{file_view};
-ghost use Rattle.site_text.specs.Diags.{diag_line};
 ghost use Rattle.site_text.specs.Listing.{object_line};
 ghost use Rattle.site_conf.specs.Sound.{AreIn, IsWhole};
 ghost use Rattle.site_conf.specs.Views.{answer_view};

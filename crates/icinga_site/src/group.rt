@@ -1,5 +1,5 @@
 // The objects of one type.
-ghost use Rattle.std.specs.Prelude.{◌≡◌, [], length};
+ghost use Rattle.std.specs.Prelude.{◌≡◌};
 ghost use Rattle.site_model.specs.PlainSite.{object_view};
 ghost use Rattle.icinga_site.specs.Gathering.{Reaches};
 ghost use Rattle.icinga_site.specs.Gathering.{group_view, with_object, empty_group};

@@ -1,9 +1,9 @@
 // The whole run, with one worker.
-ghost use Rattle.std.specs.Prelude.{◌≡◌, ◌≢◌, ◌≤◌, ◌↔◌, None, Some, OnOk, OnErr, IsErrOf, IsSome, IfSome};
+ghost use Rattle.std.specs.Prelude.{◌≡◌, ◌≢◌, ◌↔◌, None, Some, IsSome, IfSome};
 ghost use Rattle.site_edge.specs.Told.{Rose};
 ghost use Rattle.site_conf.specs.Sound.{IsWhole};
 ghost use Rattle.site_conf.specs.Views.{answer_view};
-ghost use Rattle.icinga_site.specs.Answers.{Reply, reply_to, reply_of};
+ghost use Rattle.icinga_site.specs.Answers.{reply_to};
 ghost use Rattle.icinga_site.specs.Tasks.{task_of as task_in, task_view, objects};
 ghost use Rattle.icinga_site.specs.Runs.{Ends, EndsRun};
 

@@ -4,7 +4,7 @@ ghost use Rattle.std.specs.List.{list_any};
 ghost use Rattle.std.specs.Str.{bytes_eq};
 ghost use Rattle.site_base.specs.SyntaxView.{stmt_view, stmts_view, stmt_kind_view, expr_view, base_view, steps_view, block_view};
 ghost use Rattle.site_base.specs.View.{pair_view};
-ghost use Rattle.icinga_site.specs.FirstForm.{plain_target as target_in, plain_set as plain_set_in, setting_of as setting_in, with_setting, settings_from, place_among as place_in, attribute_of};
+ghost use Rattle.icinga_site.specs.FirstForm.{plain_target as target_in, plain_set as plain_set_in, setting_of as setting_in, with_setting, settings_from, place_among as place_in};
 ghost use Rattle.icinga_site.specs.Gathering.{Gives, Reaches};
 
 use crate::form_error::FormError;

@@ -1,5 +1,5 @@
 // Rows of calls with what they give.
-ghost use Rattle.std.specs.Prelude.{◌≡◌, ◌<◌, length};
+ghost use Rattle.std.specs.Prelude.{◌<◌};
 
 use super::made::{Arg, CELLS, arguments, contents, outcome, store};
 use crate::{Plain, call_plain};

@@ -1,5 +1,4 @@
 //! Every operator between every pair of types, and before every type.
-ghost use Rattle.std.specs.Prelude.{◌≡◌, length};
 
 use super::made::{Plain, fault_text, shown, store_of_operands, value_of};
 use crate::{binary, truth, unary};

@@ -1,7 +1,6 @@
 //! Values that lie in one another, compared to a hundred levels.
-ghost use Rattle.std.specs.Prelude.{◌≡◌, ◌+◌, ◌-◌, ◌<◌, ◌≤◌, ◌^◌, IfOk, OnOk, length};
+ghost use Rattle.std.specs.Prelude.{◌≡◌, ◌+◌, ◌-◌, ◌<◌, ◌^◌, IfOk, OnOk, length};
 ghost use Rattle.dsl_value.specs.declared.value.Value.TheVariants as value;
-ghost use Rattle.dsl_value.specs.Whole.{Names};
 
 use super::made::{fault_text, shown};
 use crate::binary;

@@ -1,7 +1,7 @@
 // Values, cells and functions that tests are made of, and what a cell shows.
-ghost use Rattle.std.specs.Prelude.{◌≡◌, ◌+◌, ◌-◌, ◌<◌, ◌^◌, IfOk, OnOk, length, map};
+ghost use Rattle.std.specs.Prelude.{◌-◌, ◌<◌, IfOk};
 ghost use Rattle.dsl_value.specs.Whole.{Names};
-ghost use Rattle.dsl_value.specs.Contents.{is_array, is_dict, values_of, pairs_of, plain};
+ghost use Rattle.dsl_value.specs.Contents.{plain};
 
 use crate::{Cell, Store, Value};
 use site_base::{Func, Num, OutOfMemory, Row, Text};

@@ -1,5 +1,5 @@
 //! Arrays and dictionaries inside one another, compared to a hundred levels.
-ghost use Rattle.std.specs.Prelude.{◌≡◌, ◌+◌, ◌-◌, ◌<◌, ◌≤◌, ◌^◌, IfOk, OnOk, length};
+ghost use Rattle.std.specs.Prelude.{◌≡◌, ◌+◌, ◌-◌, ◌<◌, ◌^◌, IfOk, OnOk, length};
 ghost use Rattle.dsl_value.specs.declared.value.Value.TheVariants as value;
 
 use crate::{Store, Value, equal};

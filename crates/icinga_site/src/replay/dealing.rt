@@ -1,5 +1,5 @@
 // Which events a turn gives, and what it refuses.
-ghost use Rattle.std.specs.Prelude.{◌≡◌, ◌++◌, ◌∷◌, [], ℕ, List, map, All, IfOk, OnOk, false};
+ghost use Rattle.std.specs.Prelude.{◌≡◌, ◌++◌, ◌∷◌, [], map, All, IfOk, OnOk, false};
 ghost use Rattle.std.specs.List.{list_any};
 ghost use Rattle.site_model.specs.PlainSite.{PlainSite, site_view};
 ghost use Rattle.event_text.specs.Reading.{line_read};

@@ -1,5 +1,5 @@
 // The log of a script.
-ghost use Rattle.std.specs.Prelude.{◌≡◌, [], ℕ, length, false, max, IfOk, OnOk, OnErr, IsErrOf};
+ghost use Rattle.std.specs.Prelude.{◌≡◌, [], false, max, IfOk, OnOk, OnErr, IsErrOf};
 ghost use Rattle.site_edge.specs.Lists.{Adds, AddsPart};
 ghost use Rattle.site_edge.specs.Told.{Rose};
 ghost use Rattle.site_model.specs.PlainSite.{site_view};

@@ -1,8 +1,8 @@
 // What the events of a turn make of all checkables.
-ghost use Rattle.std.specs.Prelude.{◌≡◌, ◌++◌, ◌∷◌, [], ℕ, List, length, map, slice_get, All, IfOk, OnOk};
+ghost use Rattle.std.specs.Prelude.{◌≡◌, [], length, map, slice_get, All, IfOk, OnOk};
 ghost use Rattle.site_model.specs.PlainSite.{site_view};
 ghost use Rattle.site_text.specs.Entries.{IsInForm};
-ghost use Rattle.run_meaning.specs.Alone.{adding, alone, nothing_yet};
+ghost use Rattle.run_meaning.specs.Alone.{adding, alone};
 ghost use Rattle.run_meaning.specs.Rounds.{Histories, of_index};
 ghost use Rattle.icinga_site.specs.Replay.{first_rules};
 ghost use Rattle.icinga_site.specs.Standings.{AllStand, RoundStands, asked_of};

@@ -1,6 +1,5 @@
 // The site that a replay goes over.
 ghost use Rattle.std.specs.Prelude.{◌≡◌, ◌++◌, [], map, true, IfOk};
-ghost use Rattle.std.specs.List.{list_any};
 ghost use Rattle.site_base.specs.View.{view};
 ghost use Rattle.site_model.specs.PlainSite.{site_view, object_view, check_view, command_view};
 ghost use Rattle.icinga_site.specs.FirstSites.{fits, name_in, names_differ, check_of as check_in};

@@ -1,5 +1,5 @@
 // What stands of a checkable between its events.
-ghost use Rattle.std.specs.Prelude.{◌≡◌, ◌<◌, ◌-◌, ◌^◌, ◌++◌, ◌∷◌, [], ℕ, List, IfOk};
+ghost use Rattle.std.specs.Prelude.{◌≡◌, ◌<◌, ◌-◌, ◌^◌, ◌++◌, ◌∷◌, [], List, IfOk};
 ghost use Rattle.site_model.specs.PlainSite.{PlainCheck, check_view};
 ghost use Rattle.site_model.specs.declared.entry.Entry.{Entry};
 ghost use Rattle.check_state.specs.Stands.{StandsFor};

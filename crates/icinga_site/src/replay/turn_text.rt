@@ -1,10 +1,10 @@
 // The lines of a turn.
-ghost use Rattle.std.specs.Prelude.{◌≡◌, ◌++◌, ◌∷◌, [], ℕ, List, length, map, false, IfOk, OnOk};
+ghost use Rattle.std.specs.Prelude.{◌≡◌, ◌++◌, length, map, false, IfOk, OnOk};
 ghost use Rattle.std.specs.List.{flat_map};
 ghost use Rattle.site_model.specs.PlainSite.{site_view};
 ghost use Rattle.run_meaning.specs.Rounds.{Histories, behind, of_index};
 ghost use Rattle.icinga_site.specs.LogText.{refusal_line, turn_line as line_of_turn, turn_lines as lines_of_turn};
-ghost use Rattle.icinga_site.specs.Replay.{first_rules, turn_needs_more};
+ghost use Rattle.icinga_site.specs.Replay.{turn_needs_more};
 ghost use Rattle.icinga_site.specs.Standings.{AllStand, refusal_of, turn_made};
 
 use crate::replay::dealing::deal;
