@@ -9,6 +9,7 @@ pub mod Parts
 pub mod PieceLaws
 pub mod Pieces
 pub mod Signs
+pub mod Replaced
 pub mod Sorts
 pub mod Stand
 pub mod Steps

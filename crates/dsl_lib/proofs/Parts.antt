@@ -85,7 +85,7 @@ passed part by [] rest = refl
 passed part by (x ∷ xs) rest = passed part by xs rest
 
 -- where it stands, the other text comes in its place
-replaced_here : (part by rest : List ℕ) → 0 < length part → replaced_behind part by 0 (part ++ rest) ≡ by ++ replaced_behind part by 0 rest
+pub replaced_here : (part by rest : List ℕ) → 0 < length part → replaced_behind part by 0 (part ++ rest) ≡ by ++ replaced_behind part by 0 rest
 replaced_here [] by rest h = absurd (omega (arith, h))
 replaced_here (p ∷ ps) by rest h =
     let fewer : length (p ∷ ps) - 1 ≡ length ps = omega arith in

@@ -3,8 +3,6 @@ use Rattle.std.specs.Prelude.{ℕ, zero, suc, ℤ, pos, negsuc, ◌+ℤ◌, ◌-
 use Rattle.std.specs.Char.{to_ascii_lowercase, to_ascii_uppercase}
 use Rattle.std.specs.Str.{chars, encode_utf8_all}
 use Rattle.std.specs.List.{slice_split, list_any}
-use Rattle.std.specs.Int.RustNames.{int_div, int_rem}
-use Rattle.std.specs.Ordering.{int_eq}
 use Rattle.dsl_value.specs.Contents.{array}
 use Rattle.dsl_ops.specs.Table.{whole_part}
 use Rattle.dsl_value.specs.declared.value.Value.{Value}

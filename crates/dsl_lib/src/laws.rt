@@ -1,5 +1,5 @@
 // Laws of the library's definitions.
-ghost use Rattle.std.specs.Prelude.{◌≡◌, ℕ, ℤ, List, [], encode_utf8};
+ghost use Rattle.std.specs.Prelude.{◌≡◌, ◌<◌, ℕ, ℤ, List, [], encode_utf8, length};
 ghost use Rattle.std.specs.Char.{IsScalar};
 ghost use Rattle.std.specs.Ordering.{int_cmp};
 ghost use Rattle.std.specs.Str.{IsUtf8};
@@ -8,9 +8,9 @@ ghost use Rattle.dsl_value.specs.Pairs.{key_cmp};
 ghost use Rattle.dsl_value.specs.Contents.{PlainCell};
 ghost use Rattle.dsl_value.specs.declared.value.Value.{Value};
 ghost use Rattle.dsl_lib.specs.Arrays.{joined, sorted};
-ghost use Rattle.dsl_lib.specs.Laws.{Rises, AreApart};
+ghost use Rattle.dsl_lib.specs.Laws.{Rises, AreApart, IsDistinct, IsReplaced};
 ghost use Rattle.dsl_lib.specs.Sets.{distinct};
-ghost use Rattle.dsl_lib.specs.Texts.{pieces};
+ghost use Rattle.dsl_lib.specs.Texts.{pieces, replaced};
 
 /// What `sort` gives has the elements that it was given, and none is greater than one behind it.
 pub fn sorted_elements_rise()
@@ -20,9 +20,17 @@ pub fn sorted_elements_rise()
     ensures numbers_rise { (ns : List ℤ) → Rises int_cmp (sorted int_cmp ns) }
 {}
 
-/// No two of the elements that `union` and `intersection` give are equal.
+/// `union` and `intersection` take each element unless one that they took is equal to it, and so no two that they give
+/// are equal.
 pub fn distinct_elements_are_apart()
-    ensures { (cells : List PlainCell) (vs : List Value) → AreApart cells (distinct cells [] vs) }
+    ensures taken { (cells : List PlainCell) (vs : List Value) → IsDistinct cells [] vs (distinct cells [] vs) }
+    ensures apart { (cells : List PlainCell) (vs : List Value) → AreApart cells (distinct cells [] vs) }
+{}
+
+/// What `replace` gives has each part replaced, from left to right, and nothing else has.
+pub fn parts_are_replaced_from_left_to_right()
+    ensures is { (t part by : List ℕ) → 0 < length part → IsReplaced part by t (replaced t part by) }
+    ensures only { (t part by out : List ℕ) → 0 < length part → IsReplaced part by t out → out ≡ replaced t part by }
 {}
 
 /// The pieces that `split` cuts a text into at one character, joined by that character, are the text.

@@ -27,7 +27,10 @@ mod trimming;
 mod wildcard;
 
 pub use call::call_plain;
-pub use laws::{distinct_elements_are_apart, pieces_join_to_the_text, sorted_elements_rise};
+pub use laws::{
+    distinct_elements_are_apart, parts_are_replaced_from_left_to_right, pieces_join_to_the_text,
+    sorted_elements_rise,
+};
 pub use lib_fault::LibFault;
 pub use plain::Plain;
 pub use wildcard::matches;

@@ -1,6 +1,9 @@
 use Rattle.std.proofs.Common.{[]}
-use Rattle.dsl_lib.proofs.Apart.{distinct_apart}
+use Rattle.dsl_lib.proofs.Apart.{distinct_apart, distinct_is}
 use Rattle.dsl_lib.proofs.laws.distinct_elements_are_apart.Goals as goal
 
-pub returns : goal.returns
-returns c = λ cells vs. distinct_apart cells [] vs tt
+pub returns-clause-taken : goal.returns-clause-taken
+returns-clause-taken c = distinct_is
+
+pub returns-clause-apart : goal.returns-clause-apart
+returns-clause-apart c = λ cells vs. distinct_apart cells [] vs tt
