@@ -4,3 +4,8 @@ pub mod Keeping
 pub mod GivenExpressions
 pub mod GivenStatements
 pub mod Given
+pub mod Strings
+pub mod Amounts
+pub mod Signs
+pub mod Operands
+pub mod SignTokens
