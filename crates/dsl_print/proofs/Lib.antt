@@ -1,3 +1,4 @@
+pub mod Alike
 pub mod Good
 pub mod Ascii
 pub mod Keeping
@@ -9,3 +10,7 @@ pub mod Amounts
 pub mod Signs
 pub mod Operands
 pub mod SignTokens
+pub mod Printed
+pub mod Loops
+pub mod Joins
+pub mod Spelled
