@@ -14,3 +14,8 @@ pub mod Printed
 pub mod Loops
 pub mod Joins
 pub mod Spelled
+pub mod Expressions
+pub mod Operations
+pub mod Collections
+pub mod Functions
+pub mod Shapes
