@@ -19,3 +19,11 @@ pub mod Operations
 pub mod Collections
 pub mod Functions
 pub mod Shapes
+pub mod Rows
+pub mod Statements
+pub mod Objects
+pub mod Includes
+pub mod Choices
+pub mod Targets
+pub mod Settings
+pub mod Applies
