@@ -27,3 +27,5 @@ pub mod Choices
 pub mod Targets
 pub mod Settings
 pub mod Applies
+pub mod Trees
+pub mod Law
