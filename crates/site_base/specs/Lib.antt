@@ -1,8 +1,9 @@
+pub mod Copying
 pub mod Data
+pub mod Lawful
 pub mod Numbers
 pub mod Order
 pub mod Quoted
 pub mod Reading
-pub mod Syntax
-pub mod SyntaxView
 pub mod View
+pub mod Weight

@@ -1,9 +1,11 @@
 //! The plain values that every layer of the program speaks of.
 //!
 //! In reading order: the one error of memory, texts and lists, numbers and moments, places and
-//! diagnostics, the trees that objects are made of, time periods, and the syntax tree.
+//! diagnostics, the trees that objects are made of, and time periods.
 #![tactic(auto)]
 
+mod characters;
+mod copying;
 mod day;
 mod day_span;
 mod diag;
@@ -17,13 +19,12 @@ mod place;
 mod quoting;
 mod reading;
 mod row;
-mod syntax;
 mod target_no;
-#[cfg(test)]
-mod tests;
 mod text;
 mod tree;
 
+pub use characters::first_character;
+pub use copying::copy_tree;
 pub use day::Day;
 pub use day_span::{DaySpan, Ranges};
 pub use diag::{Diag, Diags};
@@ -36,10 +37,6 @@ pub use period_spec::PeriodSpec;
 pub use place::Place;
 pub use quoting::{push_quoted, quote};
 pub use row::{Blob, Row, Texts};
-pub use syntax::{
-    Arm, Base, BinOp, Block, Each, Expr, ExprKind, File, Func, SetOp, Step, Stmt, StmtKind, UnOp,
-    Use,
-};
 pub use target_no::TargetNo;
 pub use text::Text;
-pub use tree::{Tree, copy_tree};
+pub use tree::Tree;

@@ -1,12 +1,12 @@
 // Trees: the values of objects.
-ghost use Rattle.std.specs.Prelude.{◌≡◌, map, IfOk};
-ghost use Rattle.site_base.specs.View.{view, pair_view};
+ghost use Rattle.std.specs.Prelude.{◌≡◌, ◌+◌, ◌<◌, true, false, IfSome, None};
+ghost use Rattle.site_base.specs.Weight.{weight};
 
-use crate::{Num, OutOfMemory, Text};
-use std::alloc::Global;
+use crate::{Num, Text};
+use std::mem;
 
 /// A value of an object's attribute, and an object's attributes as a whole.
-#[derive(Debug, Drop)]
+#[derive(Debug)]
 pub enum Tree {
     Null,
     Bool(bool),
@@ -17,40 +17,89 @@ pub enum Tree {
     Dict(Vec<(Text, Tree)>),
 }
 
-/// A copy of a tree.
-#[cycle(copy)]
-pub fn copy_tree(alloc: Global, tree: &Tree) -> Result<Tree, OutOfMemory>
-    ensures { IfOk result (λ t. view t ≡ view tree.now) }
-{
-    match tree {
-        Tree::Null => Ok(Tree::Null),
-        Tree::Bool(value) => Ok(Tree::Bool(*value)),
-        Tree::Number(number) => Ok(Tree::Number(*number)),
-        Tree::Str(text) => Ok(Tree::Str(text.clone()?)),
-        Tree::List(items) => Ok(Tree::List(copy_items(alloc, items)?)),
-        Tree::Dict(pairs) => Ok(Tree::Dict(copy_pairs(alloc, pairs)?)),
+impl Drop for Tree {
+    /// Takes no memory and no stack in the depth. While a part is taken apart, what contains it stands in the
+    /// place of the part's own first part, so the way back up costs nothing.
+    fn drop(mut self) {
+        let mut part = Tree::Null;
+        loop {
+            if part.has_parts() {
+                if self.has_parts() {
+                    let first = part.exchange_first(self);
+                    self = part;
+                    part = first;
+                } else {
+                    self.release();
+                    self = part;
+                    part = Tree::Null;
+                }
+            } else {
+                part.release();
+                match self.pop() {
+                    Some(last) => part = last,
+                    None => {
+                        self.release();
+                        return;
+                    }
+                }
+            }
+        }
     }
 }
 
-#[cycle(copy)]
-fn copy_items(alloc: Global, items: &[Tree]) -> Result<Vec<Tree>, OutOfMemory>
-    ensures { IfOk result (λ v. map view v.items ≡ map view items.now) }
-{
-    let mut copies = Vec::with_capacity(alloc, items.len())?;
-    for item in items {
-        copies.push(copy_tree(alloc, item)?)?;
+impl Tree {
+    /// Whether the tree is a list or a dictionary with something in it.
+    #[tactic(auto, using(crate::proofs::Weights::weight_null, crate::proofs::Weights::weight_bool, crate::proofs::Weights::weight_number, crate::proofs::Weights::weight_str, crate::proofs::Weights::weight_list, crate::proofs::Weights::weight_dict, crate::proofs::Weights::some_items, crate::proofs::Weights::no_items, crate::proofs::Weights::some_pairs, crate::proofs::Weights::no_pairs))]
+    fn has_parts(&self) -> bool
+        ensures some { result ≡ true → 1 < weight self.now }
+        ensures none { result ≡ false → weight self.now ≡ 1 }
+    {
+        match self {
+            Tree::List(items) => !items.is_empty(),
+            Tree::Dict(pairs) => !pairs.is_empty(),
+            Tree::Null | Tree::Bool(_) | Tree::Number(_) | Tree::Str(_) => false,
+        }
     }
-    Ok(copies)
-}
 
-#[cycle(copy)]
-fn copy_pairs(alloc: Global, pairs: &[(Text, Tree)]) -> Result<Vec<(Text, Tree)>, OutOfMemory>
-    ensures { IfOk result (λ v. map pair_view v.items ≡ map pair_view pairs.now) }
-{
-    let mut copies = Vec::with_capacity(alloc, pairs.len())?;
-    for (key, value) in pairs {
-        let key = key.clone()?;
-        copies.push((key, copy_tree(alloc, value)?))?;
+    /// Takes the last part out.
+    #[tactic(auto, using(crate::proofs::Weights::weight_null, crate::proofs::Weights::weight_bool, crate::proofs::Weights::weight_number, crate::proofs::Weights::weight_str, crate::proofs::Weights::weight_list, crate::proofs::Weights::weight_dict, crate::proofs::Weights::last_item, crate::proofs::Weights::last_pair, crate::proofs::Weights::no_items, crate::proofs::Weights::no_pairs))]
+    fn pop(&mut self) -> Option<Tree>
+        ensures some { IfSome result (λ t. weight t + weight self.new < weight self.old) }
+        ensures none { result ≡ None → (weight self.new ≡ 1) × (weight self.old ≡ 1) }
+    {
+        match self {
+            Tree::List(items) => items.pop(),
+            Tree::Dict(pairs) => match pairs.pop() {
+                Some((_, value)) => Some(value),
+                None => None,
+            },
+            Tree::Null | Tree::Bool(_) | Tree::Number(_) | Tree::Str(_) => None,
+        }
     }
-    Ok(copies)
+
+    /// Puts another tree in the place of the first part, and gives that part.
+    #[tactic(auto, using(crate::proofs::Weights::weight_null, crate::proofs::Weights::weight_bool, crate::proofs::Weights::weight_number, crate::proofs::Weights::weight_str, crate::proofs::Weights::weight_list, crate::proofs::Weights::weight_dict, crate::proofs::Weights::first_item, crate::proofs::Weights::first_pair, crate::proofs::Weights::first_item_less, crate::proofs::Weights::first_pair_less, crate::proofs::Weights::empty_items, crate::proofs::Weights::empty_pairs))]
+    fn exchange_first(&mut self, other: Tree) -> Tree
+        requires { 1 < weight self.old }
+        ensures exchanged { weight self.new + weight result ≡ weight self.old + weight other }
+        ensures less { weight result < weight self.old }
+    {
+        match self {
+            Tree::List(items) => mem::replace(&mut items[0], other),
+            Tree::Dict(pairs) => mem::replace(&mut pairs[0].1, other),
+            Tree::Null | Tree::Bool(_) | Tree::Number(_) | Tree::Str(_) => other,
+        }
+    }
+
+    /// Lets a tree without parts go.
+    #[tactic(auto, using(crate::proofs::Weights::weight_null, crate::proofs::Weights::weight_bool, crate::proofs::Weights::weight_number, crate::proofs::Weights::weight_str, crate::proofs::Weights::weight_list, crate::proofs::Weights::weight_dict, crate::proofs::Weights::empty_items, crate::proofs::Weights::empty_pairs))]
+    fn release(self)
+        requires { weight self ≡ 1 }
+    {
+        match self {
+            Tree::Null | Tree::Bool(_) | Tree::Number(_) | Tree::Str(_) => {}
+            Tree::List(items) => items.destroy_empty(),
+            Tree::Dict(pairs) => pairs.destroy_empty(),
+        }
+    }
 }

@@ -1,0 +1,3 @@
+pub mod SyntaxKinds
+pub mod SyntaxRows
+pub mod SyntaxLists

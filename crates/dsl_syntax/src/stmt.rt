@@ -1,0 +1,11 @@
+// Statements.
+use crate::StmtKind;
+use site_base::Place;
+
+/// A statement at its place, which is that of its first token.
+#[cycle(syntax)]
+#[derive(Debug, Drop)]
+pub struct Stmt {
+    pub place: Place,
+    pub kind: StmtKind,
+}
