@@ -1,5 +1,4 @@
 pub mod AllIn
-pub mod Along
 pub mod Apart
 pub mod Calls
 pub mod Chars

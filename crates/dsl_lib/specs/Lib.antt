@@ -8,4 +8,3 @@ pub mod Matching
 pub mod Scalars
 pub mod Sets
 pub mod Texts
-pub mod Wildcards

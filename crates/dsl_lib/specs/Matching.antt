@@ -8,7 +8,7 @@ use Rattle.dsl_value.specs.declared.value.Value.TheVariants as value
 use Rattle.dsl_lib.specs.Answers.{Answer, gives, counted, typed}
 use Rattle.dsl_lib.specs.Arguments.{two, text_in, items_of}
 use Rattle.dsl_lib.specs.Arrays.{all_in}
-use Rattle.dsl_lib.specs.Wildcards.{matches}
+use Rattle.wildcards.specs.Wildcards.{matches}
 
 -- what a pattern is held against: a string, a number's text, or nothing for null
 abbrev pub matched_text : Value → Option (List ℕ)

@@ -1,16 +1,7 @@
-// The first and the last character of a text.
+// The characters of a text.
 ghost use Rattle.std.specs.Prelude.{◌≡◌, ◌∷◌, ◌++◌, [], MatchOption};
 ghost use Rattle.std.specs.Str.{chars};
 ghost use Rattle.dsl_lib.specs.Texts.{is_among};
-
-/// The first character, and what follows it.
-pub(crate) fn first(text: &str) -> Option<(char, &str)>
-    ensures { MatchOption result (chars text.now ≡ []) (λ p. chars text.now ≡ p.0 ∷ chars p.1.now) }
-{
-    let mut characters = text.chars();
-    let c = characters.next()?;
-    Some((c, characters.as_str()))
-}
 
 /// The last character, and what stands before it.
 pub(crate) fn last(text: &str) -> Option<(char, &str)>

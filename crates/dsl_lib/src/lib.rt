@@ -20,11 +20,8 @@ mod scalars;
 mod sets;
 mod sorting;
 mod splitting;
-#[cfg(test)]
-mod tests;
 mod texts;
 mod trimming;
-mod wildcard;
 
 pub use call::call_plain;
 pub use laws::{
@@ -33,4 +30,3 @@ pub use laws::{
 };
 pub use lib_fault::LibFault;
 pub use plain::Plain;
-pub use wildcard::matches;

@@ -4,15 +4,15 @@ ghost use Rattle.std.specs.List.{AllByRecursion};
 ghost use Rattle.dsl_value.specs.Whole.{Names};
 ghost use Rattle.dsl_lib.specs.Answers.{Returns, IsWrong};
 ghost use Rattle.dsl_lib.specs.Arrays.{all_in};
-ghost use Rattle.dsl_lib.specs.Wildcards.{matches as matches_text};
+ghost use Rattle.wildcards.specs.Wildcards.{matches as matches_text};
 ghost use Rattle.dsl_lib.specs.Matching.{matched_text, all_match, matched as matched_of, match_answer, option_of};
 
 use crate::LibFault;
 use crate::args::{items, text, two};
-use crate::wildcard::matches;
 use dsl_value::{Store, Value};
 use site_base::Text;
 use std::alloc::Global;
+use wildcards::matches;
 
 /// `match(pattern, value)`: whether the pattern describes a text, a number's text or, for null, the empty
 /// text; or each element of an array, of which there has to be one.

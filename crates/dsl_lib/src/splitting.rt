@@ -7,9 +7,9 @@ ghost use Rattle.dsl_lib.specs.Texts.{pieces as pieces_of, split as split_answer
 
 use crate::LibFault;
 use crate::args::{text, two};
-use crate::characters::{first, has_char};
+use crate::characters::has_char;
 use dsl_value::{Store, Value};
-use site_base::{OutOfMemory, Row, Text};
+use site_base::{OutOfMemory, Row, Text, first_character};
 use std::alloc::Global;
 use std::mem;
 
@@ -31,7 +31,7 @@ fn pieces(alloc: Global, text: &str, separators: &str) -> Result<Row<Value>, Out
     let mut pieces = Row::new(alloc);
     let mut piece = Text::new(alloc);
     let mut rest = text;
-    while let Some((c, others)) = first(rest) {
+    while let Some((c, others)) = first_character(rest) {
         if has_char(separators, c) {
             pieces.push(Value::Str(mem::replace(&mut piece, Text::new(alloc))))?;
         } else {

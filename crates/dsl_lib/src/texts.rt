@@ -7,11 +7,10 @@ ghost use Rattle.dsl_lib.specs.Texts.{len as len_answer, has_part, contains as c
 
 use crate::LibFault;
 use crate::args::{one, text, two};
-use crate::characters::first;
 use crate::scalars::whole;
 use crate::trimming::trimmed;
 use dsl_value::Value;
-use site_base::{OutOfMemory, Text};
+use site_base::{OutOfMemory, Text, first_character};
 use std::alloc::Global;
 
 /// `text.len()`: its bytes.
@@ -51,7 +50,7 @@ fn lowered(alloc: Global, text: &str) -> Result<Text, OutOfMemory>
 {
     let mut lowered = Text::new(alloc);
     let mut rest = text;
-    while let Some((c, others)) = first(rest) {
+    while let Some((c, others)) = first_character(rest) {
         lowered.push(c.to_ascii_lowercase())?;
         rest = others;
     }
@@ -72,7 +71,7 @@ fn raised(alloc: Global, text: &str) -> Result<Text, OutOfMemory>
 {
     let mut raised = Text::new(alloc);
     let mut rest = text;
-    while let Some((c, others)) = first(rest) {
+    while let Some((c, others)) = first_character(rest) {
         raised.push(c.to_ascii_uppercase())?;
         rest = others;
     }

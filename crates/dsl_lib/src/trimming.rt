@@ -3,7 +3,8 @@ ghost use Rattle.std.specs.Prelude.{◌≡◌, reverse};
 ghost use Rattle.std.specs.Str.{chars};
 ghost use Rattle.dsl_lib.specs.Texts.{is_blank as is_blank_char, skip_blanks, by_chars, trimmed as trimmed_chars};
 
-use crate::characters::{first, last};
+use crate::characters::last;
+use site_base::first_character;
 
 /// A text without the blanks and newlines at both ends.
 pub(crate) fn trimmed(text: &str) -> &str
@@ -16,7 +17,7 @@ fn trimmed_start(text: &str) -> &str
     ensures { chars result.now ≡ skip_blanks (chars text.now) }
 {
     let mut rest = text;
-    while let Some((c, others)) = first(rest) {
+    while let Some((c, others)) = first_character(rest) {
         if !is_blank(c) {
             return rest;
         }

@@ -7,10 +7,10 @@ use Rattle.std.specs.Option.{option_zip}
 use Rattle.std.specs.List.{filter, list_any}
 use Rattle.std.specs.declared.cmp.Ordering.{Ordering}
 use Rattle.site_base.specs.Numbers.{number_text, ranged, is_zero, sum_of, difference_of, product_of, quotient_of, rest_of}
-use Rattle.site_base.specs.declared.syntax.un_op.UnOp.{UnOp}
-use Rattle.site_base.specs.declared.syntax.un_op.UnOp.TheVariants as un
-use Rattle.site_base.specs.declared.syntax.bin_op.BinOp.{BinOp}
-use Rattle.site_base.specs.declared.syntax.bin_op.BinOp.TheVariants as bin
+use Rattle.dsl_syntax.specs.declared.un_op.UnOp.{UnOp}
+use Rattle.dsl_syntax.specs.declared.un_op.UnOp.TheVariants as un
+use Rattle.dsl_syntax.specs.declared.bin_op.BinOp.{BinOp}
+use Rattle.dsl_syntax.specs.declared.bin_op.BinOp.TheVariants as bin
 use Rattle.dsl_value.specs.Pairs.{Pairs, dict_of}
 use Rattle.dsl_value.specs.Contents.{PlainCell}
 use Rattle.dsl_value.specs.Contents as cell

@@ -10,8 +10,9 @@ use crate::arithmetic::negated;
 use crate::bits::bits_not;
 use crate::operand::{Operand, operand_of};
 use crate::truths::truth;
+use dsl_syntax::UnOp;
 use dsl_value::{Store, Value};
-use site_base::{Num, UnOp};
+use site_base::Num;
 
 /// What an operator before its operand gives: `!` not the truth of any value, `+` a number itself, `-` its
 /// negation, and `~` the complement of a whole number in 64 bits. `WrongType` where the operand is

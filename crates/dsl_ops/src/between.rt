@@ -18,8 +18,8 @@ use crate::made::{Made, made_number, made_truth, put_in};
 use crate::membership::{is_in, is_not_in, minus_or_without};
 use crate::operand::operand_of;
 use crate::truths::truth;
+use dsl_syntax::BinOp;
 use dsl_value::{Store, Value, equal};
-use site_base::BinOp;
 use std::alloc::Global;
 
 /// What an operator between two operands gives (Icinga 2 documentation, Language Reference, Operators). A

@@ -16,8 +16,6 @@ mod made;
 mod membership;
 mod op_fault;
 mod operand;
-#[cfg(test)]
-mod tests;
 mod truths;
 
 pub use before::unary;

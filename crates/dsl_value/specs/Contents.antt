@@ -1,7 +1,7 @@
 -- Cells, functions and stores as plain values.
 use Rattle.std.specs.Prelude.{ℕ, Bool, List, [], ◌∷◌, ◌++◌, slice_set, slice_index_or, slice_get, true, false, T, Option}
 use Rattle.std.specs.Arc.{arc_value}
-use Rattle.site_base.specs.declared.syntax.func.Func.{Func}
+use Rattle.dsl_syntax.specs.declared.func.Func.{Func}
 use Rattle.dsl_value.specs.Pairs.{Pairs, is_sorted, put, without}
 use Rattle.dsl_value.specs.declared.value.Value.{Value}
 use Rattle.dsl_value.specs.declared.cell.Cell.{Cell}

@@ -21,7 +21,7 @@ pub(crate) struct Frozen {
 impl Model for Frozen {
     ghost use Rattle.dsl_value.specs.Contents.{Contained};
     ghost use Rattle.dsl_value.specs.Parts.{all_of, AreCounted};
-    ghost use Rattle.site_base.specs.contracts.syntax.func.Func as func;
+    ghost use Rattle.dsl_syntax.specs.contracts.func.Func as func;
     ghost use Rattle.std.specs.Coded.{codes};
 
     ghost Value = { Contained };

@@ -1,6 +1,7 @@
 // Functions.
 use crate::Value;
-use site_base::{Func, Text};
+use dsl_syntax::Func;
+use site_base::Text;
 use std::sync::Arc;
 
 /// A function with the names that it captured, in order, and their values.

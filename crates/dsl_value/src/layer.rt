@@ -20,7 +20,7 @@ pub(crate) struct Layer {
 impl Model for Layer {
     ghost use Rattle.dsl_value.specs.Contents.{Contained};
     ghost use Rattle.dsl_value.specs.Parts.{contained};
-    ghost use Rattle.site_base.specs.contracts.syntax.func.Func as func;
+    ghost use Rattle.dsl_syntax.specs.contracts.func.Func as func;
     ghost use Rattle.std.specs.Coded.{codes};
 
     ghost Value = { Contained };

@@ -16,7 +16,8 @@ use crate::loading::make_tree;
 use crate::pairs::{sorted_pairs, value_of};
 use crate::walking::walk_value;
 use crate::{Cell, Function, SetFault, TreeFault, Value};
-use site_base::{Func, OutOfMemory, Row, Text, Tree};
+use dsl_syntax::Func;
+use site_base::{OutOfMemory, Row, Text, Tree};
 use std::alloc::Global;
 use std::marker::Model;
 use std::mem;
@@ -39,7 +40,7 @@ impl Model for Store {
     ghost use Rattle.std.specs.Prelude.{◌++◌};
     ghost use Rattle.dsl_value.specs.Contents.{Contents};
     ghost use Rattle.dsl_value.specs.Whole.{IsKept};
-    ghost use Rattle.site_base.specs.contracts.syntax.func.Func as func;
+    ghost use Rattle.dsl_syntax.specs.contracts.func.Func as func;
     ghost use Rattle.std.specs.Coded.{codes};
 
     ghost Value = { Contents };

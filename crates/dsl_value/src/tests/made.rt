@@ -4,7 +4,8 @@ ghost use Rattle.dsl_value.specs.Whole.{Names};
 ghost use Rattle.dsl_value.specs.Contents.{plain};
 
 use crate::{Cell, Store, Value};
-use site_base::{Func, Num, OutOfMemory, Row, Text};
+use dsl_syntax::Func;
+use site_base::{Num, OutOfMemory, Row, Text};
 use std::alloc::Global;
 use std::sync::Arc;
 

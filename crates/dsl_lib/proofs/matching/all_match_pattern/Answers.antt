@@ -1,5 +1,5 @@
 use Rattle.std.proofs.Common.{arith, ◌++◌, ◌∷◌, [], not, ◌==◌, length, refl}
-use Rattle.dsl_lib.specs.Wildcards.{matches}
+use Rattle.wildcards.specs.Wildcards.{matches}
 use Rattle.dsl_lib.specs.Matching.{matched_text}
 use Rattle.dsl_lib.proofs.AllIn.{front_step}
 use Rattle.dsl_lib.proofs.Matched.{option_some, all_more}

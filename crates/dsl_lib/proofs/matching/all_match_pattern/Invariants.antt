@@ -1,6 +1,6 @@
 use Rattle.std.proofs.Common.{◌≡◌, ◌&&◌, ◌==◌, ℕ, List, drop, length, not}
 use Rattle.std.specs.List.{list_all}
-use Rattle.dsl_lib.specs.Wildcards.{matches}
+use Rattle.wildcards.specs.Wildcards.{matches}
 use Rattle.dsl_lib.specs.Matching.{matched_text}
 use Rattle.dsl_lib.specs.Arrays.{all_in}
 use Rattle.dsl_lib.proofs.AllIn.{with_front}

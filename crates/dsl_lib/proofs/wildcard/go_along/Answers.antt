@@ -1,8 +1,0 @@
-use Rattle.std.proofs.Common.{rules, eqb, ◌≡◌, false}
-use Rattle.dsl_lib.proofs.Along.{along_more}
-use Rattle.dsl_lib.proofs.wildcard.go_along.Goals as goal
-
-pub loop-part-preserved : goal.loop-part-preserved
-loop-part-preserved c =
-    let single : eqb c.in-Some.part 42 ≡ false = search rules in
-    (search rules, search rules, along_more _ _ _ _ _ _ _ _ c.loop-part.invariant.2 c.in-Some.ensures single c.in-Some-first.ensures (search rules))
