@@ -10,7 +10,9 @@ pub mod EndLaws
 pub mod StringLaws
 pub mod BodyLaws
 pub mod NumberLaws
+pub mod FileTokens
 pub mod FirstBytes
+pub mod FirstMarks
 pub mod StepReads
 pub mod LexLaws
 pub mod ListLaws

@@ -1,5 +1,5 @@
 -- The classes of bytes.
-use Rattle.std.specs.Prelude.{ℕ, List, [], ◌∷◌, ◌==◌, ◌||◌, ◌&&◌, nat_le, not, Bool, false, Option, Some, None, if◌then◌else◌}
+use Rattle.std.specs.Prelude.{ℕ, List, [], ◌∷◌, ◌==◌, ◌||◌, ◌&&◌, nat_le, not, Bool, true, false, Option, Some, None, if◌then◌else◌}
 use Rattle.std.specs.Char.{is_ascii_alphabetic, is_ascii_alphanumeric}
 
 -- space, tab and carriage return
@@ -22,6 +22,11 @@ follows p (b ∷ bs) = p b
 -- a text that begins with a letter, a digit or `_`
 abbrev pub goes_on : List ℕ → Bool
 goes_on text = follows is_name_byte text
+
+-- no other byte stands first in a text
+abbrev pub starts_with : ℕ → List ℕ → Bool
+starts_with b [] = true
+starts_with b (c ∷ cs) = c == b
 
 -- a byte of the same line
 abbrev pub is_inner : ℕ → Bool

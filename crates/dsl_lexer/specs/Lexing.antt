@@ -1,7 +1,9 @@
 -- The tokens of a whole text, read byte by byte.
-use Rattle.std.specs.Prelude.{◌≡◌, ℕ, zero, suc, List, [], ◌∷◌, ◌++◌, take, drop, length, Result, Ok, Err}
+use Rattle.std.specs.Prelude.{◌≡◌, ℕ, zero, suc, List, [], ◌∷◌, ◌++◌, take, drop, length, Result, Ok, Err, if◌then◌else◌}
+use Rattle.std.specs.Str.{is_utf8}
+use Rattle.std.specs.Str.Lossy.{utf8_valid_len}
 use Rattle.site_base.specs.declared.place.Place.{Place}
-use Rattle.dsl_lexer.specs.Places.{place_behind}
+use Rattle.dsl_lexer.specs.Places.{start_of, place_behind}
 use Rattle.dsl_lexer.specs.Brackets.{keeps, opened}
 use Rattle.dsl_lexer.specs.Tokens.{token}
 use Rattle.dsl_lexer.specs.Steps.{step_at}
@@ -40,3 +42,7 @@ abbrev pub Gives : Result (List Token) LexError → Lexed → Type 0
 Gives (Ok ts) r = r ≡ all ts
 Gives (Err (error.Fault f)) r = r ≡ bad f.place
 Gives (Err error.OutOfMemory) r = Unit {0}
+
+-- the tokens of the bytes of a file, or the place of what begins none; bytes that aren't UTF-8 go wrong where they stop to be
+abbrev pub file_tokens : ℕ → List ℕ → Lexed
+file_tokens file bytes = if is_utf8 bytes then lexed (start_of file) bytes else bad (place_behind (take (utf8_valid_len bytes) bytes) (start_of file))

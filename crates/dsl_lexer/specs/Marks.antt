@@ -1,7 +1,7 @@
 -- What signs, strings and comments begin with.
-use Rattle.std.specs.Prelude.{ℕ, List, [], ◌∷◌, ◌&&◌, not, Bool, true, false, codes, length, take, drop, Option, Some, None, if◌then◌else◌}
+use Rattle.std.specs.Prelude.{ℕ, List, [], ◌∷◌, ◌&&◌, not, Bool, true, false, codes, filter, length, take, drop, Option, Some, None, if◌then◌else◌}
 use Rattle.std.specs.Str.{bytes_eq}
-use Rattle.dsl_lexer.specs.Letters.{goes_on}
+use Rattle.dsl_lexer.specs.Letters.{goes_on, starts_with}
 use Rattle.dsl_lexer.specs.Signs.{sign_spelling}
 use Rattle.dsl_lexer.specs.declared.sign.Sign.TheVariants as sign
 use Rattle.dsl_lexer.specs.declared.mark.Mark.{Mark}
@@ -29,6 +29,10 @@ begins m text =
 abbrev pub all_marks : List Mark
 all_marks =
     mark.LongString ∷ mark.Sign sign.NotIn ∷ mark.DoubleSlash ∷ mark.BlockComment ∷ mark.Sign sign.AddSet ∷ mark.Sign sign.SubtractSet ∷ mark.Sign sign.MultiplySet ∷ mark.Sign sign.DivideSet ∷ mark.Sign sign.Arrow ∷ mark.Sign sign.Equal ∷ mark.Sign sign.NotEqual ∷ mark.Sign sign.AtMost ∷ mark.Sign sign.AtLeast ∷ mark.Sign sign.ShiftLeft ∷ mark.Sign sign.ShiftRight ∷ mark.Sign sign.And ∷ mark.Sign sign.Or ∷ mark.Hash ∷ mark.Quote ∷ mark.Sign sign.OpenParen ∷ mark.Sign sign.CloseParen ∷ mark.Sign sign.OpenBracket ∷ mark.Sign sign.CloseBracket ∷ mark.Sign sign.OpenBrace ∷ mark.Sign sign.CloseBrace ∷ mark.Sign sign.Dot ∷ mark.Sign sign.Comma ∷ mark.Sign sign.Semicolon ∷ mark.Sign sign.Set ∷ mark.Sign sign.Plus ∷ mark.Sign sign.Minus ∷ mark.Sign sign.Star ∷ mark.Sign sign.Slash ∷ mark.Sign sign.Percent ∷ mark.Sign sign.Not ∷ mark.Sign sign.Tilde ∷ mark.Sign sign.Less ∷ mark.Sign sign.Greater ∷ mark.Sign sign.BitAnd ∷ mark.Sign sign.BitXor ∷ mark.Sign sign.BitOr ∷ []
+
+-- those that begin with this byte
+abbrev pub marks_from : ℕ → List Mark
+marks_from b = filter (λ m. starts_with b (mark_spelling m)) all_marks
 
 -- the first mark of these that a text begins with
 abbrev pub mark_among : List Mark → List ℕ → Option Mark

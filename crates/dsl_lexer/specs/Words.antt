@@ -1,6 +1,7 @@
 -- How reserved words are written.
-use Rattle.std.specs.Prelude.{ℕ, List, [], ◌∷◌, codes, Option, Some, None, if◌then◌else◌}
+use Rattle.std.specs.Prelude.{ℕ, List, [], ◌∷◌, codes, filter, Option, Some, None, if◌then◌else◌}
 use Rattle.std.specs.Str.{bytes_eq}
+use Rattle.dsl_lexer.specs.Letters.{starts_with}
 use Rattle.dsl_lexer.specs.declared.word.Word.{Word}
 use Rattle.dsl_lexer.specs.declared.word.Word.TheVariants as word
 
@@ -47,6 +48,10 @@ word_spelling word.IncludeZones = codes "include_zones"
 abbrev pub all_words : List Word
 all_words =
     word.Object ∷ word.Template ∷ word.Apply ∷ word.To ∷ word.For ∷ word.In ∷ word.Use ∷ word.Where ∷ word.Assign ∷ word.Ignore ∷ word.Import ∷ word.Include ∷ word.IncludeRecursive ∷ word.Const ∷ word.Var ∷ word.Function ∷ word.Return ∷ word.Break ∷ word.Continue ∷ word.If ∷ word.Else ∷ word.While ∷ word.Throw ∷ word.True ∷ word.False ∷ word.Null ∷ word.This ∷ word.Globals ∷ word.Try ∷ word.Except ∷ word.Namespace ∷ word.Using ∷ word.Locals ∷ word.Debugger ∷ word.IgnoreOnError ∷ word.Library ∷ word.IncludeZones ∷ []
+
+-- those that begin with this byte
+abbrev pub words_from : ℕ → List Word
+words_from b = filter (λ w. starts_with b (word_spelling w)) all_words
 
 -- the first word of these that is written so
 abbrev pub word_among : List Word → List ℕ → Option Word

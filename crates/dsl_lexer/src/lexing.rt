@@ -8,7 +8,7 @@ ghost use Rattle.dsl_lexer.specs.Longest.{IsSpelling};
 ghost use Rattle.dsl_lexer.specs.declared.token.Token.{Token};
 ghost use Rattle.dsl_lexer.specs.declared.token_kind.TokenKind.{TokenKind};
 ghost use Rattle.site_base.specs.declared.place.Place.{Place};
-ghost use Rattle.dsl_lexer.specs.Lexing.{Gives, lexed};
+ghost use Rattle.dsl_lexer.specs.Lexing.{Gives, all, bad, file_tokens, lexed};
 
 use crate::step::Step;
 use crate::stepping::next_step;
@@ -66,6 +66,15 @@ pub fn tokens_are_one()
 pub fn tokens_are_longest()
     ensures { (is_token : Bool) (k other : TokenKind) (text rest longer behind : List ℕ) → IsToken is_token k text rest → text ++ rest ≡ longer ++ behind
         → IsSpelling other longer behind → length longer ≤ length text }
+{}
+
+/// What is read of the bytes of a file, byte by byte, is the tokens that they have or their fault, and
+/// they have no other. This call does nothing: its contract says so.
+pub fn what_is_read_are_the_tokens()
+    ensures tokens { (file : ℕ) (bytes : List ℕ) (ts : List Token) → HasTokens file bytes ts → file_tokens file bytes ≡ all ts }
+    ensures read { (file : ℕ) (bytes : List ℕ) (ts : List Token) → file_tokens file bytes ≡ all ts → HasTokens file bytes ts }
+    ensures fault { (file : ℕ) (bytes : List ℕ) (place : Place) → HasFault file bytes place → file_tokens file bytes ≡ bad place }
+    ensures stopped { (file : ℕ) (bytes : List ℕ) (place : Place) → file_tokens file bytes ≡ bad place → HasFault file bytes place }
 {}
 
 fn fault(place: Place) -> LexError

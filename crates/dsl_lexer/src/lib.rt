@@ -15,8 +15,6 @@ mod spans;
 mod step;
 mod stepping;
 mod strings;
-#[cfg(test)]
-mod tests;
 mod token;
 mod token_kind;
 mod unit;
@@ -24,7 +22,7 @@ mod word;
 mod words;
 
 pub use lex_error::{LexError, LexFault};
-pub use lexing::{lex, tokens_are_longest, tokens_are_one};
+pub use lexing::{lex, tokens_are_longest, tokens_are_one, what_is_read_are_the_tokens};
 pub use sign::Sign;
 pub use token::Token;
 pub use token_kind::TokenKind;

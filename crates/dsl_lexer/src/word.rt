@@ -48,47 +48,6 @@ pub enum Word {
     IncludeZones,
 }
 
-/// All of them.
-pub(crate) static WORDS: [Word; 37] = [
-    Word::Object,
-    Word::Template,
-    Word::Apply,
-    Word::To,
-    Word::For,
-    Word::In,
-    Word::Use,
-    Word::Where,
-    Word::Assign,
-    Word::Ignore,
-    Word::Import,
-    Word::Include,
-    Word::IncludeRecursive,
-    Word::Const,
-    Word::Var,
-    Word::Function,
-    Word::Return,
-    Word::Break,
-    Word::Continue,
-    Word::If,
-    Word::Else,
-    Word::While,
-    Word::Throw,
-    Word::True,
-    Word::False,
-    Word::Null,
-    Word::This,
-    Word::Globals,
-    Word::Try,
-    Word::Except,
-    Word::Namespace,
-    Word::Using,
-    Word::Locals,
-    Word::Debugger,
-    Word::IgnoreOnError,
-    Word::Library,
-    Word::IncludeZones,
-];
-
 impl Word {
     /// How it is written.
     pub fn spelling(self) -> &'static str

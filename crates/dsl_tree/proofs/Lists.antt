@@ -3,12 +3,12 @@ use Rattle.std.proofs.Common.{rules, ◌≡◌, ◌≢◌, ℕ, ◌+◌, ◌<◌
 use Rattle.std.specs.List.{slice_get}
 use Rattle.std.proofs.lemmas.List.{drop_more}
 use Rattle.std.proofs.lemmas.Option.{slice_get_within}
-use Rattle.site_base.specs.Syntax.{Arms}
-use Rattle.site_base.specs.SyntaxView.{expr_view, uses_view, stmts_view, arms_view, arm_then}
-use Rattle.site_base.specs.declared.syntax.arm.Arm.{Arm, out-Arm}
-use Rattle.site_base.specs.declared.syntax.stmt.Stmt.{Stmt}
-use Rattle.site_base.specs.declared.syntax.used.Use.{Use}
-use Rattle.site_base.proofs.SyntaxRows.{use_fields, arm_fields}
+use Rattle.dsl_syntax.specs.Syntax.{Arms}
+use Rattle.dsl_syntax.specs.SyntaxView.{expr_view, uses_view, stmts_view, arms_view, arm_then}
+use Rattle.dsl_syntax.specs.declared.arm.Arm.{Arm, out-Arm}
+use Rattle.dsl_syntax.specs.declared.stmt.Stmt.{Stmt}
+use Rattle.dsl_syntax.specs.declared.used.Use.{Use}
+use Rattle.dsl_syntax.proofs.SyntaxRows.{use_fields, arm_fields}
 use Rattle.dsl_tree.specs.Spelling.{expr_text, else_if, arm_text, arms_text, uses_text, captures_text, else_text, stmts_text, braced}
 
 pub uses_are : (us : List Use) → length us ≢ 0 → uses_text (uses_view us) ≡ codes " use (" ++ captures_text false (uses_view us)

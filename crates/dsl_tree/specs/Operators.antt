@@ -1,11 +1,11 @@
 -- How operators are written.
 use Rattle.std.specs.Prelude.{ℕ, List, codes}
-use Rattle.site_base.specs.declared.syntax.un_op.UnOp.{UnOp}
-use Rattle.site_base.specs.declared.syntax.un_op.UnOp.TheVariants as unary
-use Rattle.site_base.specs.declared.syntax.bin_op.BinOp.{BinOp}
-use Rattle.site_base.specs.declared.syntax.bin_op.BinOp.TheVariants as binary
-use Rattle.site_base.specs.declared.syntax.set_op.SetOp.{SetOp}
-use Rattle.site_base.specs.declared.syntax.set_op.SetOp.TheVariants as set
+use Rattle.dsl_syntax.specs.declared.un_op.UnOp.{UnOp}
+use Rattle.dsl_syntax.specs.declared.un_op.UnOp.TheVariants as unary
+use Rattle.dsl_syntax.specs.declared.bin_op.BinOp.{BinOp}
+use Rattle.dsl_syntax.specs.declared.bin_op.BinOp.TheVariants as binary
+use Rattle.dsl_syntax.specs.declared.set_op.SetOp.{SetOp}
+use Rattle.dsl_syntax.specs.declared.set_op.SetOp.TheVariants as set
 
 abbrev pub unary_text : UnOp → List ℕ
 unary_text unary.Not = codes "!"

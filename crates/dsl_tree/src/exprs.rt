@@ -1,16 +1,17 @@
 // The print of expressions.
 ghost use Rattle.std.specs.Prelude.{◌≡◌, ◌++◌, ◌∷◌, [], false, codes, OnOk};
-ghost use Rattle.site_base.specs.SyntaxView.{expr_view, func_view, exprs_view, entries_view, uses_view, each_view, maybe_expr_view};
+ghost use Rattle.dsl_syntax.specs.SyntaxView.{expr_view, func_view, exprs_view, entries_view, uses_view, each_view, maybe_expr_view};
 ghost use Rattle.dsl_tree.specs.Operators.{binary_text};
 ghost use Rattle.dsl_tree.specs.Spelling.{expr_text, operand_text, exprs_text, entries_text, function_text, uses_text, captures_text, given_text, loop_text, params_text, in_parentheses};
 
 use crate::operators::{binary_sign, unary_sign};
 use crate::shapes::is_compound;
 use crate::stmts::push_block;
-use site_base::{BinOp, Each, Expr, ExprKind, Func, OutOfMemory, Text, Use, push_quoted};
+use dsl_syntax::{BinOp, Each, Expr, ExprKind, Func, Use};
+use site_base::{OutOfMemory, Text, push_quoted};
 
 #[cycle(print)]
-#[tactic(auto, using(site_base::proofs::SyntaxKinds::kind_array, site_base::proofs::SyntaxKinds::kind_dict, site_base::proofs::SyntaxKinds::kind_call))]
+#[tactic(auto, using(dsl_syntax::proofs::SyntaxKinds::kind_array, dsl_syntax::proofs::SyntaxKinds::kind_dict, dsl_syntax::proofs::SyntaxKinds::kind_call))]
 pub(crate) fn push_expr(out: &mut Text, expr: &Expr) -> Result<(), OutOfMemory>
     ensures { OnOk result (out.new ≡ out.old ++ expr_text (expr_view expr.now)) }
 {
@@ -128,7 +129,7 @@ fn push_dict(out: &mut Text, pairs: &[(Text, Expr)]) -> Result<(), OutOfMemory>
 
 /// A function's parameters, captured names and block.
 #[cycle(print)]
-#[tactic(auto, using(site_base::proofs::SyntaxRows::func_fields))]
+#[tactic(auto, using(dsl_syntax::proofs::SyntaxRows::func_fields))]
 pub(crate) fn push_func(out: &mut Text, func: &Func) -> Result<(), OutOfMemory>
     ensures { OnOk result (out.new ≡ out.old ++ function_text (func_view func.now)) }
 {
@@ -165,7 +166,7 @@ pub(crate) fn push_uses(out: &mut Text, uses: &[Use]) -> Result<(), OutOfMemory>
 
 /// The names of a `use` list and the closing parenthesis.
 #[cycle(print)]
-#[tactic(auto, using(site_base::proofs::SyntaxRows::use_fields))]
+#[tactic(auto, using(dsl_syntax::proofs::SyntaxRows::use_fields))]
 fn push_captures(out: &mut Text, uses: &[Use]) -> Result<(), OutOfMemory>
     ensures { OnOk result (out.new ≡ out.old ++ captures_text false (uses_view uses.now)) }
 {

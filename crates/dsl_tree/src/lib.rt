@@ -6,11 +6,9 @@ mod operators;
 mod printing;
 mod shapes;
 mod stmts;
-#[cfg(test)]
-mod tests;
 
-pub use printing::print;
-pub use site_base::{
+pub use dsl_syntax::{
     Arm, Base, BinOp, Block, Each, Expr, ExprKind, File, Func, SetOp, Step, Stmt, StmtKind, UnOp,
     Use,
 };
+pub use printing::print;

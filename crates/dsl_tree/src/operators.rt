@@ -2,7 +2,7 @@
 ghost use Rattle.std.specs.Prelude.{◌≡◌};
 ghost use Rattle.dsl_tree.specs.Operators.{unary_text, binary_text, set_text};
 
-use site_base::{BinOp, SetOp, UnOp};
+use dsl_syntax::{BinOp, SetOp, UnOp};
 
 /// An operator before its operand.
 pub(crate) fn unary_sign(op: UnOp) -> &'static str

@@ -1,10 +1,11 @@
 // The print of a file.
 ghost use Rattle.std.specs.Prelude.{◌≡◌, IfOk};
-ghost use Rattle.site_base.specs.SyntaxView.{file_view};
+ghost use Rattle.dsl_syntax.specs.SyntaxView.{file_view};
 ghost use Rattle.dsl_tree.specs.Spelling.{file_text};
 
 use crate::stmts::push_stmts;
-use site_base::{File, OutOfMemory, Text};
+use dsl_syntax::File;
+use site_base::{OutOfMemory, Text};
 use std::alloc::Global;
 
 /// The one spelling of a file: one statement a line, and parentheses round each operand that isn't a

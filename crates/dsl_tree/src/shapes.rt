@@ -1,9 +1,9 @@
 // What decides where parentheses stand.
 ghost use Rattle.std.specs.Prelude.{◌≡◌};
-ghost use Rattle.site_base.specs.SyntaxView.{expr_view, expr_kind_view};
+ghost use Rattle.dsl_syntax.specs.SyntaxView.{expr_view, expr_kind_view};
 ghost use Rattle.dsl_tree.specs.Spelling.{is_compound, is_dictionary, begins_with_brace};
 
-use site_base::{Expr, ExprKind};
+use dsl_syntax::{Expr, ExprKind};
 
 /// Whether the expression is no primary, and so stands in parentheses as an operand.
 pub(crate) fn is_compound(expr: &Expr) -> bool

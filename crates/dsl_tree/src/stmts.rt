@@ -1,18 +1,17 @@
 // The print of statements.
 ghost use Rattle.std.specs.Prelude.{◌≡◌, ◌++◌, ◌∷◌, [], false, codes, OnOk};
 ghost use Rattle.site_base.specs.Quoted.{quoted};
-ghost use Rattle.site_base.specs.SyntaxView.{expr_view, stmt_view, uses_view, steps_view, arms_view, stmts_view, each_view, maybe_expr_view, maybe_each_view, base_view, block_view, func_view};
-ghost use Rattle.site_base.specs.declared.syntax.arm.Arm.{out-Arm};
+ghost use Rattle.dsl_syntax.specs.SyntaxView.{expr_view, stmt_view, uses_view, steps_view, arms_view, stmts_view, each_view, maybe_expr_view, maybe_each_view, base_view, block_view, func_view};
+ghost use Rattle.dsl_syntax.specs.declared.arm.Arm.{out-Arm};
 ghost use Rattle.dsl_tree.specs.Operators.{set_text};
 ghost use Rattle.dsl_tree.specs.Spelling.{expr_text, function_text, uses_text, given_text, returned_text, loop_text, stmts_text, stmt_text, steps_text, arm_text, arms_text, else_if, else_text, apply_name_text, apply_loop_text, root_text, target_text, braced};
 
 use crate::exprs::{push_behind, push_expr, push_func, push_given, push_loop, push_uses};
 use crate::operators::set_sign;
 use crate::shapes::begins_with_brace;
-use site_base::{
-    Arm, Base, Block, Each, Expr, Func, OutOfMemory, SetOp, Step, Stmt, StmtKind, Text, Use,
-    push_quoted,
-};
+use dsl_syntax::{Arm, Base, Block, Each, Expr, Func, SetOp, Step, Stmt, StmtKind, Use};
+use site_base::{OutOfMemory, Text, push_quoted};
+use std::sync::Arc;
 
 /// A block, behind the words before it.
 #[cycle(print)]
@@ -38,7 +37,7 @@ pub(crate) fn push_stmts(out: &mut Text, statements: &[Stmt]) -> Result<(), OutO
 }
 
 #[cycle(print)]
-#[tactic(auto, using(site_base::proofs::SyntaxKinds::kind_object, site_base::proofs::SyntaxKinds::kind_template, site_base::proofs::SyntaxKinds::kind_apply, site_base::proofs::SyntaxKinds::kind_var, site_base::proofs::SyntaxKinds::kind_set, site_base::proofs::SyntaxKinds::kind_if, site_base::proofs::SyntaxKinds::kind_while, site_base::proofs::SyntaxKinds::kind_for, site_base::proofs::SyntaxKinds::kind_return))]
+#[tactic(auto, using(dsl_syntax::proofs::SyntaxKinds::kind_object, dsl_syntax::proofs::SyntaxKinds::kind_template, dsl_syntax::proofs::SyntaxKinds::kind_apply, dsl_syntax::proofs::SyntaxKinds::kind_var, dsl_syntax::proofs::SyntaxKinds::kind_set, dsl_syntax::proofs::SyntaxKinds::kind_if, dsl_syntax::proofs::SyntaxKinds::kind_while, dsl_syntax::proofs::SyntaxKinds::kind_for, dsl_syntax::proofs::SyntaxKinds::kind_return))]
 fn push_stmt(out: &mut Text, statement: &Stmt) -> Result<(), OutOfMemory>
     ensures { OnOk result (out.new ≡ out.old ++ stmt_text (stmt_view statement.now)) }
 {
@@ -132,7 +131,7 @@ fn push_head(out: &mut Text, word: &str, kind: &Text, name: &Expr) -> Result<(),
 
 /// The body of an object, a template or an `apply`.
 #[cycle(print)]
-#[tactic(auto, using(site_base::proofs::SyntaxRows::block_fields))]
+#[tactic(auto, using(dsl_syntax::proofs::SyntaxRows::block_fields))]
 fn push_body(out: &mut Text, body: &Block) -> Result<(), OutOfMemory>
     ensures { OnOk result (out.new ≡ out.old ++ 32 ∷ braced (stmts_text (block_view body.now))) }
 {
@@ -215,7 +214,7 @@ fn push_target(out: &mut Text, to: &Option<Text>) -> Result<(), OutOfMemory>
 }
 
 #[cycle(print)]
-fn push_apply_loop(out: &mut Text, each: &Option<Each>) -> Result<(), OutOfMemory>
+fn push_apply_loop(out: &mut Text, each: &Option<Arc<Each>>) -> Result<(), OutOfMemory>
     ensures { OnOk result (out.new ≡ out.old ++ apply_loop_text (maybe_each_view each.now)) }
 {
     match each {

@@ -2,10 +2,10 @@ use Rattle.std.proofs.Common.{rules, ◌≡◌, ◌≢◌, ◌++◌, ◌∷◌, 
 use Rattle.std.specs.Prelude.{OnOk, drop, ◌+◌}
 use Rattle.std.proofs.lemmas.List.{drop_more}
 use Rattle.std.specs.Arc.{arc_value}
-use Rattle.site_base.specs.Syntax.{apply, while}
-use Rattle.site_base.specs.SyntaxView.{expr_view, exprs_view, uses_view, steps_view, arms_view, stmts_view, stmt_kind_view, each_view, maybe_expr_view, maybe_each_view, base_view, block_view}
-use Rattle.site_base.proofs.SyntaxKinds.{kind_while, kind_apply}
-use Rattle.site_base.proofs.SyntaxRows.{func_fields, exprs_vec, uses_vec, steps_vec, arms_vec, stmts_vec}
+use Rattle.dsl_syntax.specs.Syntax.{apply, while}
+use Rattle.dsl_syntax.specs.SyntaxView.{expr_view, exprs_view, uses_view, steps_view, arms_view, stmts_view, stmt_kind_view, each_view, maybe_expr_view, maybe_each_view, base_view, block_view}
+use Rattle.dsl_syntax.proofs.SyntaxKinds.{kind_while, kind_apply}
+use Rattle.dsl_syntax.proofs.SyntaxRows.{func_fields, exprs_vec, uses_vec, steps_vec, arms_vec, stmts_vec}
 use Rattle.dsl_tree.specs.Operators.{set_text}
 use Rattle.dsl_tree.specs.Spelling.{expr_text, operand_text, exprs_text, params_text, uses_text, captures_text, steps_text, arms_text, else_text, loop_text, apply_name_text, apply_loop_text, target_text, root_text, stmts_text, stmt_kind_text, braced}
 use Rattle.dsl_tree.proofs.Appends.{joined, regrouped}

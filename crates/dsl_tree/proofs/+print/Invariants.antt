@@ -1,5 +1,5 @@
 use Rattle.std.proofs.Common.{◌≡◌, ◌++◌, ◌∷◌, false, nat_lt, drop}
-use Rattle.site_base.specs.SyntaxView.{exprs_view, entries_view, uses_view, steps_view, arms_view, stmts_view}
+use Rattle.dsl_syntax.specs.SyntaxView.{exprs_view, entries_view, uses_view, steps_view, arms_view, stmts_view}
 use Rattle.dsl_tree.specs.Spelling.{exprs_text, entries_text, captures_text, steps_text, arms_text, stmts_text}
 use Rattle.dsl_tree.proofs.+print.Given as goal
 
