@@ -1,29 +1,26 @@
 // Apply rules.
-ghost use Rattle.std.specs.Prelude.{◌≡◌, ◌<◌};
+ghost use Rattle.std.specs.Prelude.{◌<◌};
 ghost use Rattle.dsl_rules.specs.Grammar.{made};
-ghost use Rattle.dsl_rules.specs.Rules.{may};
-ghost use Rattle.dsl_parser.specs.Codes.{sorts};
-ghost use Rattle.dsl_parser.specs.Gives.{Gives};
-ghost use Rattle.dsl_parser.specs.Grammar.{AnyHead, ApplyHeads, ApplyName, ApplyStatement, HeadedBody, add_head, applied, head_for, head_to, may_head};
-ghost use Rattle.dsl_parser.specs.NamedView.{headed_view, heads_view, head_sorts};
-ghost use Rattle.dsl_parser.specs.Reading.{read_by};
-ghost use Rattle.site_base.specs.SyntaxView.{each_view, maybe_expr_view, stmt_kind_view};
+ghost use Rattle.dsl_parts.specs.Gives.{Gives};
+ghost use Rattle.dsl_grammar.specs.Grammar.{AnyHead, ApplyHeads, ApplyName, ApplyStatement, HeadedBody, add_head};
+ghost use Rattle.dsl_parts.specs.NamedView.{headed_view, heads_view};
+ghost use Rattle.dsl_grammar.specs.Reading.{read_by};
+ghost use Rattle.dsl_syntax.specs.SyntaxView.{maybe_expr_view, stmt_kind_view};
 
-use crate::begins::at_apply_name;
 use crate::exprs::expr;
-use crate::headed::Headed;
-use crate::heads::Heads;
 use crate::loops::loop_head;
-use crate::next::{after_first, at_word, ident, word};
 use crate::objects::use_body;
-use crate::stop::Stop;
 use dsl_lexer::{Token, Word};
-use site_base::{Each, Expr, StmtKind, Text};
+use dsl_parts::applies::{Headed, Heads, apply_of, at_head, with_loop, with_target};
+use dsl_parts::begins::at_apply_name;
+use dsl_parts::next::{after_first, at_word, ident, word};
+use dsl_parts::stop::Stop;
+use dsl_syntax::{Expr, StmtKind};
 use std::alloc::Global;
 
 /// An apply rule: `"apply" IDENT [expr] heads [use] body`, where the expression doesn't begin with `{`.
 #[cycle(parse)]
-#[tactic(auto, unfolding(crate::specs::Grammar::ApplyStatement))]
+#[tactic(auto, unfolding(dsl_grammar::specs::Grammar::ApplyStatement))]
 pub(crate) fn apply_statement<'a>(
     alloc: Global,
     most: usize,
@@ -58,7 +55,7 @@ fn apply_name<'a>(
 
 /// Heads and a body: `heads [use] body`.
 #[cycle(parse)]
-#[tactic(auto, unfolding(crate::specs::Grammar::HeadedBody))]
+#[tactic(auto, unfolding(dsl_grammar::specs::Grammar::HeadedBody))]
 fn headed_body<'a>(
     alloc: Global,
     most: usize,
@@ -74,7 +71,7 @@ fn headed_body<'a>(
 
 /// At most one `"to" IDENT` and at most one `"for" loop`, in either order.
 #[cycle(parse)]
-#[tactic(auto, unfolding(crate::specs::Grammar::ApplyHeads))]
+#[tactic(auto, unfolding(dsl_grammar::specs::Grammar::ApplyHeads))]
 fn apply_heads<'a>(
     alloc: Global,
     most: usize,
@@ -99,19 +96,9 @@ fn apply_heads<'a>(
     Ok((heads, rest))
 }
 
-/// If a head that isn't there yet begins here.
-fn at_head(heads: &Heads, tokens: &[Token]) -> bool
-    ensures { result ≡ may sorts head_sorts (may_head (heads_view heads.now)) tokens.now }
-{
-    if at_word(Word::To, tokens) {
-        return heads.to.is_none();
-    }
-    at_word(Word::For, tokens) && heads.each.is_none()
-}
-
 /// These heads and the one that begins here: `"to" IDENT | "for" loop`.
 #[cycle(parse)]
-#[tactic(auto, unfolding(crate::specs::Grammar::AnyHead))]
+#[tactic(auto, unfolding(dsl_grammar::specs::Grammar::AnyHead))]
 fn more_heads<'a>(
     alloc: Global,
     most: usize,
@@ -127,39 +114,5 @@ fn more_heads<'a>(
     }
     let (_, begin) = word(Word::For, tokens)?;
     let (each, rest) = loop_head(alloc, most, begin)?;
-    Ok((with_loop(heads, each), rest))
-}
-
-/// These heads, with the type of the targets.
-fn with_target(heads: Heads, to: Text) -> Heads
-    ensures { heads_view result ≡ add_head (heads_view heads) (head_to to) }
-{
-    Heads {
-        to: Some(to),
-        each: heads.each,
-    }
-}
-
-/// These heads, with the loop.
-fn with_loop(heads: Heads, each: Each) -> Heads
-    ensures { heads_view result ≡ add_head (heads_view heads) (head_for (each_view each)) }
-{
-    Heads {
-        to: heads.to,
-        each: Some(each),
-    }
-}
-
-/// An apply rule.
-fn apply_of(kind: Text, name: Option<Expr>, headed: Headed) -> StmtKind
-    ensures { stmt_kind_view result ≡ applied kind (maybe_expr_view name) (headed_view headed) }
-{
-    StmtKind::Apply {
-        kind,
-        name,
-        to: headed.heads.to,
-        each: headed.heads.each,
-        uses: headed.bodied.uses,
-        body: headed.bodied.body,
-    }
+    Ok((with_loop(alloc, heads, each)?, rest))
 }

@@ -1,25 +1,25 @@
 // Arrays.
 ghost use Rattle.std.specs.Prelude.{◌<◌, true};
-ghost use Rattle.site_base.specs.SyntaxView.{expr_view, maybe_expr_view};
+ghost use Rattle.dsl_syntax.specs.SyntaxView.{expr_view, maybe_expr_view};
 ghost use Rattle.dsl_rules.specs.Grammar.{made};
-ghost use Rattle.dsl_parser.specs.ExprParts.{slots_view};
-ghost use Rattle.dsl_parser.specs.Gives.{Gives};
-ghost use Rattle.dsl_parser.specs.Grammar.{Slot, CommaSlot, Elements, BracketedElements, Array, add_slot};
-ghost use Rattle.dsl_parser.specs.Reading.{read_by};
+ghost use Rattle.dsl_parts.specs.ExprParts.{slots_view};
+ghost use Rattle.dsl_parts.specs.Gives.{Gives};
+ghost use Rattle.dsl_grammar.specs.Grammar.{Slot, CommaSlot, Elements, BracketedElements, Array, add_slot};
+ghost use Rattle.dsl_grammar.specs.Reading.{read_by};
 
-use crate::begins::at_expr;
 use crate::exprs::expr;
-use crate::next::sign;
-use crate::nodes::array_at;
-use crate::slots::{Slots, at_slot, with_slot};
-use crate::stop::Stop;
 use dsl_lexer::{Sign, Token};
-use site_base::Expr;
+use dsl_parts::begins::at_expr;
+use dsl_parts::next::sign;
+use dsl_parts::nodes::array_at;
+use dsl_parts::slots::{Slots, at_slot, with_slot};
+use dsl_parts::stop::Stop;
+use dsl_syntax::Expr;
 use std::alloc::Global;
 
 /// An array, "[" [ expr { "," expr } [","] ] "]".
 #[cycle(parse)]
-#[tactic(auto, unfolding(crate::specs::Grammar::Array))]
+#[tactic(auto, unfolding(dsl_grammar::specs::Grammar::Array))]
 pub(crate) fn array<'a>(
     alloc: Global,
     most: usize,
@@ -40,7 +40,7 @@ pub(crate) fn array<'a>(
 
 /// Elements in brackets.
 #[cycle(parse)]
-#[tactic(auto, unfolding(crate::specs::Grammar::BracketedElements))]
+#[tactic(auto, unfolding(dsl_grammar::specs::Grammar::BracketedElements))]
 fn bracketed<'a>(
     alloc: Global,
     most: usize,
@@ -57,7 +57,7 @@ fn bracketed<'a>(
 
 /// Any number of expressions with commas between them, and maybe one behind the last, [ expr { "," expr } [","] ].
 #[cycle(parse)]
-#[tactic(auto, unfolding(crate::specs::Grammar::Elements))]
+#[tactic(auto, unfolding(dsl_grammar::specs::Grammar::Elements))]
 fn elements<'a>(
     alloc: Global,
     most: usize,
@@ -114,7 +114,7 @@ fn with_comma_slot<'a>(
 
 /// A slot behind its comma.
 #[cycle(parse)]
-#[tactic(auto, unfolding(crate::specs::Grammar::CommaSlot))]
+#[tactic(auto, unfolding(dsl_grammar::specs::Grammar::CommaSlot))]
 fn comma_slot<'a>(
     alloc: Global,
     most: usize,
@@ -129,7 +129,7 @@ fn comma_slot<'a>(
 
 /// An expression, or none, [ expr ].
 #[cycle(parse)]
-#[tactic(auto, unfolding(crate::specs::Grammar::Slot))]
+#[tactic(auto, unfolding(dsl_grammar::specs::Grammar::Slot))]
 pub(crate) fn slot<'a>(
     alloc: Global,
     most: usize,

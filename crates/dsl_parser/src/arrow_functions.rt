@@ -1,24 +1,24 @@
 // Functions with "=>".
-ghost use Rattle.std.specs.Prelude.{◌≡◌, ◌<◌, IfOk};
-ghost use Rattle.site_base.specs.Syntax.{statement, return, some_expression, more_statements, no_statements};
-ghost use Rattle.site_base.specs.SyntaxView.{expr_view, func_view, stmts_view};
-ghost use Rattle.dsl_parser.specs.Gives.{Gives};
-ghost use Rattle.dsl_parser.specs.Grammar.{Returned, LambdaBody, LambdaFunc, Lambda, begins_lambda as begins_plain};
-ghost use Rattle.dsl_parser.specs.Reading.{read_by};
+ghost use Rattle.std.specs.Prelude.{◌<◌};
+ghost use Rattle.dsl_syntax.specs.SyntaxView.{expr_view, func_view, stmts_view};
+ghost use Rattle.dsl_parts.specs.Gives.{Gives};
+ghost use Rattle.dsl_grammar.specs.Grammar.{Returned, LambdaBody, LambdaFunc, Lambda};
+ghost use Rattle.dsl_grammar.specs.Reading.{read_by};
 
 use crate::blocks::block;
 use crate::exprs::expr;
-use crate::functions::params;
-use crate::next::{after_first, at_ident, at_sign, sign};
-use crate::nodes::{func_of, function_at};
-use crate::stop::Stop;
 use dsl_lexer::{Sign, Token};
-use site_base::{Expr, Func, Place, Stmt, StmtKind};
-use std::alloc::{AllocFailed, Global};
+use dsl_parts::arrow_functions::return_of;
+use dsl_parts::functions::params;
+use dsl_parts::next::{at_sign, sign};
+use dsl_parts::nodes::{func_of, function_at};
+use dsl_parts::stop::Stop;
+use dsl_syntax::{Expr, Func, Stmt};
+use std::alloc::Global;
 
 /// A function with "=>", params "=>" ( block | expr ).
 #[cycle(parse)]
-#[tactic(auto, unfolding(crate::specs::Grammar::Lambda))]
+#[tactic(auto, unfolding(dsl_grammar::specs::Grammar::Lambda))]
 pub(crate) fn lambda<'a>(
     alloc: Global,
     most: usize,
@@ -39,7 +39,7 @@ pub(crate) fn lambda<'a>(
 
 /// The parameters and the body of a function with "=>".
 #[cycle(parse)]
-#[tactic(auto, unfolding(crate::specs::Grammar::LambdaFunc))]
+#[tactic(auto, unfolding(dsl_grammar::specs::Grammar::LambdaFunc))]
 fn lambda_func<'a>(
     alloc: Global,
     most: usize,
@@ -56,7 +56,7 @@ fn lambda_func<'a>(
 
 /// The body of a function with "=>", block | expr.
 #[cycle(parse)]
-#[tactic(auto, unfolding(crate::specs::Grammar::LambdaBody))]
+#[tactic(auto, unfolding(dsl_grammar::specs::Grammar::LambdaBody))]
 fn lambda_body<'a>(
     alloc: Global,
     most: usize,
@@ -75,7 +75,7 @@ fn lambda_body<'a>(
 
 /// An expression that doesn't begin with `{`, as the body that returns it.
 #[cycle(parse)]
-#[tactic(auto, unfolding(crate::specs::Grammar::Returned))]
+#[tactic(auto, unfolding(dsl_grammar::specs::Grammar::Returned))]
 fn returned<'a>(
     alloc: Global,
     most: usize,
@@ -92,34 +92,4 @@ fn returned<'a>(
         }
         _ => Err(Stop::Fault(tokens)),
     }
-}
-
-/// The body that returns an expression.
-fn return_of(alloc: Global, place: Place, value: Expr) -> Result<Vec<Stmt>, AllocFailed<Stmt>>
-    ensures { IfOk result
-        (λ b. stmts_view b.items ≡ more_statements (statement place (return (some_expression (expr_view value)))) no_statements) }
-{
-    let kind = StmtKind::Return { expr: Some(value) };
-    let mut body = Vec::new(alloc);
-    body.push(Stmt { place, kind })?;
-    Ok(body)
-}
-
-/// If the tokens begin a function with "=>": with `( )`, `( IDENT ,` or `( IDENT ) =>`.
-pub(crate) fn begins_lambda(tokens: &[Token]) -> bool
-    ensures { result ≡ begins_plain tokens.now }
-{
-    if !at_sign(Sign::OpenParen, tokens) {
-        return false;
-    }
-    let inner = after_first(tokens);
-    if at_sign(Sign::CloseParen, inner) {
-        return true;
-    }
-    if !at_ident(inner) {
-        return false;
-    }
-    let behind = after_first(inner);
-    at_sign(Sign::Comma, behind)
-        || at_sign(Sign::CloseParen, behind) && at_sign(Sign::Arrow, after_first(behind))
 }

@@ -1,19 +1,19 @@
 // Blocks, and the statements in them.
 ghost use Rattle.std.specs.Prelude.{◌<◌};
 ghost use Rattle.dsl_rules.specs.Grammar.{made};
-ghost use Rattle.dsl_parser.specs.Gives.{Gives};
-ghost use Rattle.dsl_parser.specs.Grammar.{AnyStatement, BlockStatements, Braced, MaybeStatement};
-ghost use Rattle.dsl_parser.specs.Lists.{add_statement};
-ghost use Rattle.dsl_parser.specs.Reading.{reads, read_by};
-ghost use Rattle.dsl_parser.specs.Terms.{add_turn, block};
-ghost use Rattle.site_base.specs.SyntaxView.{stmt_view, stmts_view};
+ghost use Rattle.dsl_parts.specs.Gives.{Gives};
+ghost use Rattle.dsl_grammar.specs.Grammar.{AnyStatement, BlockStatements, Braced, MaybeStatement};
+ghost use Rattle.dsl_syntax.specs.Lists.{add_statement};
+ghost use Rattle.dsl_grammar.specs.Reading.{reads, read_by};
+ghost use Rattle.dsl_grammar.specs.Terms.{add_turn, block};
+ghost use Rattle.dsl_syntax.specs.SyntaxView.{stmt_view, stmts_view};
 
-use crate::begins::{at_separator, at_statement};
-use crate::next::{after_first, sign};
 use crate::objects::statement_kind;
-use crate::stop::Stop;
 use dsl_lexer::{Sign, Token};
-use site_base::Stmt;
+use dsl_parts::begins::{at_separator, at_statement};
+use dsl_parts::next::{after_first, sign};
+use dsl_parts::stop::Stop;
+use dsl_syntax::Stmt;
 use std::alloc::Global;
 
 /// A block, with at most `most` tokens.
@@ -33,7 +33,7 @@ pub(crate) fn block<'a>(
 
 /// Statements in braces: `"{" {sep} [ stmt { sep {sep} stmt } {sep} ] "}"`.
 #[cycle(parse)]
-#[tactic(auto, unfolding(crate::specs::Grammar::Braced))]
+#[tactic(auto, unfolding(dsl_grammar::specs::Grammar::Braced))]
 fn braced<'a>(
     alloc: Global,
     most: usize,
@@ -50,7 +50,7 @@ fn braced<'a>(
 
 /// The statements of a block: `{sep} [ stmt { sep {sep} stmt } {sep} ]`.
 #[cycle(parse)]
-#[tactic(auto, unfolding(crate::specs::Grammar::BlockStatements))]
+#[tactic(auto, unfolding(dsl_grammar::specs::Grammar::BlockStatements))]
 fn block_statements<'a>(
     alloc: Global,
     most: usize,
@@ -93,7 +93,7 @@ fn maybe_statement<'a>(
 
 /// A statement of a block, at its place.
 #[cycle(parse)]
-#[tactic(auto, unfolding(crate::specs::Grammar::AnyStatement))]
+#[tactic(auto, unfolding(dsl_grammar::specs::Grammar::AnyStatement))]
 fn any_statement<'a>(
     alloc: Global,
     most: usize,

@@ -1,25 +1,25 @@
 // Bodies of objects, templates and apply rules.
 ghost use Rattle.std.specs.Prelude.{◌<◌};
 ghost use Rattle.dsl_rules.specs.Grammar.{made};
-ghost use Rattle.dsl_parser.specs.Gives.{Gives};
-ghost use Rattle.dsl_parser.specs.Grammar.{AssignStatement, Body, BodyKind, BodyStatement, BodyStatements, IgnoreStatement, MaybeBodyStatement};
-ghost use Rattle.dsl_parser.specs.Lists.{add_statement};
-ghost use Rattle.dsl_parser.specs.Reading.{read_by};
-ghost use Rattle.dsl_parser.specs.Terms.{add_turn};
-ghost use Rattle.site_base.specs.SyntaxView.{stmt_kind_view, stmt_view, stmts_view};
+ghost use Rattle.dsl_parts.specs.Gives.{Gives};
+ghost use Rattle.dsl_grammar.specs.Grammar.{AssignStatement, Body, BodyKind, BodyStatement, BodyStatements, IgnoreStatement, MaybeBodyStatement};
+ghost use Rattle.dsl_syntax.specs.Lists.{add_statement};
+ghost use Rattle.dsl_grammar.specs.Reading.{read_by};
+ghost use Rattle.dsl_grammar.specs.Terms.{add_turn};
+ghost use Rattle.dsl_syntax.specs.SyntaxView.{stmt_kind_view, stmt_view, stmts_view};
 
-use crate::begins::{at_body_separator, at_body_statement};
 use crate::common::common;
 use crate::exprs::expr;
-use crate::next::{after_first, at_word, sign, word};
-use crate::stop::Stop;
 use dsl_lexer::{Sign, Token, Word};
-use site_base::{Stmt, StmtKind};
+use dsl_parts::begins::{at_body_separator, at_body_statement};
+use dsl_parts::next::{after_first, at_word, sign, word};
+use dsl_parts::stop::Stop;
+use dsl_syntax::{Stmt, StmtKind};
 use std::alloc::Global;
 
 /// A body: `"{" {bsep} [ bst { bsep {bsep} bst } {bsep} ] "}"`.
 #[cycle(parse)]
-#[tactic(auto, unfolding(crate::specs::Grammar::Body))]
+#[tactic(auto, unfolding(dsl_grammar::specs::Grammar::Body))]
 pub(crate) fn body<'a>(
     alloc: Global,
     most: usize,
@@ -36,7 +36,7 @@ pub(crate) fn body<'a>(
 
 /// The statements of a body: `{bsep} [ bst { bsep {bsep} bst } {bsep} ]`.
 #[cycle(parse)]
-#[tactic(auto, unfolding(crate::specs::Grammar::BodyStatements))]
+#[tactic(auto, unfolding(dsl_grammar::specs::Grammar::BodyStatements))]
 fn body_statements<'a>(
     alloc: Global,
     most: usize,
@@ -79,7 +79,7 @@ fn maybe_body_statement<'a>(
 
 /// A statement of a body, at its place.
 #[cycle(parse)]
-#[tactic(auto, unfolding(crate::specs::Grammar::BodyStatement))]
+#[tactic(auto, unfolding(dsl_grammar::specs::Grammar::BodyStatement))]
 fn body_statement<'a>(
     alloc: Global,
     most: usize,
@@ -100,7 +100,7 @@ fn body_statement<'a>(
 
 /// What a statement of a body is: `"assign" "where" expr | "ignore" "where" expr | common`.
 #[cycle(parse)]
-#[tactic(auto, unfolding(crate::specs::Grammar::BodyKind, crate::specs::Grammar::AssignStatement, crate::specs::Grammar::IgnoreStatement))]
+#[tactic(auto, unfolding(dsl_grammar::specs::Grammar::BodyKind, dsl_grammar::specs::Grammar::AssignStatement, dsl_grammar::specs::Grammar::IgnoreStatement))]
 fn body_kind<'a>(
     alloc: Global,
     most: usize,
@@ -120,7 +120,7 @@ fn body_kind<'a>(
 
 /// What targets are taken: `"assign" "where" expr`.
 #[cycle(parse)]
-#[tactic(auto, unfolding(crate::specs::Grammar::AssignStatement))]
+#[tactic(auto, unfolding(dsl_grammar::specs::Grammar::AssignStatement))]
 fn assign_statement<'a>(
     alloc: Global,
     most: usize,
@@ -137,7 +137,7 @@ fn assign_statement<'a>(
 
 /// What targets are left out: `"ignore" "where" expr`.
 #[cycle(parse)]
-#[tactic(auto, unfolding(crate::specs::Grammar::IgnoreStatement))]
+#[tactic(auto, unfolding(dsl_grammar::specs::Grammar::IgnoreStatement))]
 fn ignore_statement<'a>(
     alloc: Global,
     most: usize,

@@ -1,76 +1,24 @@
 // The statement `if`.
-ghost use Rattle.std.specs.Prelude.{◌≡◌, ◌<◌, ℕ, IfOk, [], ◌∷◌};
-ghost use Rattle.dsl_lexer.specs.declared.word.Word.TheVariants.{Else as else_word};
-ghost use Rattle.site_base.specs.SyntaxView.{stmt_kind_view};
-ghost use Rattle.dsl_parser.specs.Codes.{sorts, word_sort};
-ghost use Rattle.dsl_parser.specs.Gives.{Gives};
-ghost use Rattle.dsl_parser.specs.Grammar.{Else, FirstChoice, Choices, IfStatement, first_arm, add_else, choice_value, may_else};
-ghost use Rattle.dsl_parser.specs.Parts.{armed_view, choice_view, otherwise_view};
-ghost use Rattle.dsl_parser.specs.Reading.{read_by};
+ghost use Rattle.std.specs.Prelude.{◌<◌};
+ghost use Rattle.dsl_syntax.specs.SyntaxView.{stmt_kind_view};
+ghost use Rattle.dsl_parts.specs.Gives.{Gives};
+ghost use Rattle.dsl_grammar.specs.Grammar.{Else, FirstChoice, Choices, IfStatement, add_else};
+ghost use Rattle.dsl_parts.specs.Parts.{choice_view, otherwise_view};
+ghost use Rattle.dsl_grammar.specs.Reading.{read_by};
 ghost use Rattle.dsl_rules.specs.Grammar.{made};
-ghost use Rattle.dsl_rules.specs.Rules.{may};
 
 use crate::blocks::block;
-use crate::choice::Choice;
 use crate::loops::guarded;
-use crate::next::{at_word, skip_lines, word};
-use crate::otherwise::Otherwise;
-use crate::stop::Stop;
 use dsl_lexer::{Token, Word};
-use site_base::{Arm, StmtKind};
-use std::alloc::{AllocFailed, Global};
-
-/// The choice of one arm.
-fn choice_of(alloc: Global, arm: Arm) -> Result<Choice, AllocFailed<Arm>>
-    ensures { IfOk result (λ c. choice_view c ≡ first_arm (armed_view arm)) }
-{
-    let mut arms = Vec::new(alloc);
-    arms.push(arm)?;
-    Ok(Choice {
-        arms,
-        other: Vec::new(alloc),
-        more: true,
-    })
-}
-
-/// The choice with what stands behind an `else`.
-fn with_else(choice: Choice, otherwise: Otherwise) -> Result<Choice, AllocFailed<Arm>>
-    ensures { IfOk result (λ c. choice_view c ≡ add_else (choice_view choice) (otherwise_view otherwise)) }
-{
-    let Choice {
-        mut arms,
-        other,
-        ..
-    } = choice;
-    match otherwise {
-        Otherwise::If(arm) => {
-            arms.push(arm)?;
-            Ok(Choice {
-                arms,
-                other,
-                more: true,
-            })
-        }
-        Otherwise::Block(other) => Ok(Choice {
-            arms,
-            other,
-            more: false,
-        }),
-    }
-}
-
-/// The statement of a choice.
-#[tactic(auto, using(site_base::proofs::SyntaxKinds::kind_if))]
-fn if_of(choice: Choice) -> StmtKind
-    ensures { stmt_kind_view result ≡ choice_value (choice_view choice) }
-{
-    let Choice { arms, other, .. } = choice;
-    StmtKind::If { arms, other }
-}
+use dsl_parts::choices::{Choice, Otherwise, choice_of, goes_on, if_of, with_else};
+use dsl_parts::next::{at_word, skip_lines, word};
+use dsl_parts::stop::Stop;
+use dsl_syntax::StmtKind;
+use std::alloc::Global;
 
 /// `"else"`, and an `if` or a block.
 #[cycle(parse)]
-#[tactic(auto, unfolding(crate::specs::Grammar::Else, crate::specs::Grammar::ElseIf))]
+#[tactic(auto, unfolding(dsl_grammar::specs::Grammar::Else, dsl_grammar::specs::Grammar::ElseIf))]
 fn otherwise<'a>(
     alloc: Global,
     most: usize,
@@ -92,7 +40,7 @@ fn otherwise<'a>(
 
 /// The first arm: `"if" "(" expr ")" block`.
 #[cycle(parse)]
-#[tactic(auto, unfolding(crate::specs::Grammar::FirstChoice))]
+#[tactic(auto, unfolding(dsl_grammar::specs::Grammar::FirstChoice))]
 fn first_choice<'a>(
     alloc: Global,
     most: usize,
@@ -123,17 +71,9 @@ fn more_choice<'a>(
     Ok((choice, rest))
 }
 
-/// If one more `else` stands here.
-#[tactic(auto, using(crate::proofs::Arms::may_follow))]
-fn goes_on(choice: &Choice, tokens: &[Token]) -> bool
-    ensures { result ≡ may sorts (word_sort else_word ∷ []) (may_else (choice_view choice.now)) tokens.now }
-{
-    at_word(Word::Else, tokens) && choice.more
-}
-
 /// All arms, each `else` behind any number of newlines.
 #[cycle(parse)]
-#[tactic(auto, unfolding(crate::specs::Grammar::Choices))]
+#[tactic(auto, unfolding(dsl_grammar::specs::Grammar::Choices))]
 fn choices<'a>(
     alloc: Global,
     most: usize,
@@ -157,7 +97,7 @@ fn choices<'a>(
 
 /// The statement `"if" "(" expr ")" block { nl "else" "if" "(" expr ")" block } [ nl "else" block ]`.
 #[cycle(parse)]
-#[tactic(auto, unfolding(crate::specs::Grammar::IfStatement))]
+#[tactic(auto, unfolding(dsl_grammar::specs::Grammar::IfStatement))]
 pub(crate) fn if_statement<'a>(
     alloc: Global,
     most: usize,

@@ -1,12 +1,12 @@
 // The statements that may stand in blocks and in bodies.
-ghost use Rattle.std.specs.Prelude.{◌≡◌, ◌<◌, ℕ, IfOk, Some, None};
+ghost use Rattle.std.specs.Prelude.{◌<◌, Some, None};
 ghost use Rattle.dsl_lexer.specs.declared.sign.Sign.TheVariants.{Set};
-ghost use Rattle.site_base.specs.Syntax.{some_expression, no_expression, define};
-ghost use Rattle.site_base.specs.SyntaxView.{func_view, maybe_expr_view, stmt_kind_view};
-ghost use Rattle.dsl_parser.specs.Gives.{Gives};
-ghost use Rattle.dsl_parser.specs.Grammar.{Expr as ExprRule, VarStatement, ImportStatement, ThrowStatement, ReturnStatement, Define, DefineOrSet, Common, begins_define};
-ghost use Rattle.dsl_parser.specs.Reading.{read_by};
-ghost use Rattle.dsl_parser.specs.Terms.{behind, maybe, nl, sign as sign_rule};
+ghost use Rattle.dsl_syntax.specs.Syntax.{some_expression, no_expression};
+ghost use Rattle.dsl_syntax.specs.SyntaxView.{maybe_expr_view, stmt_kind_view};
+ghost use Rattle.dsl_parts.specs.Gives.{Gives};
+ghost use Rattle.dsl_grammar.specs.Grammar.{Expr as ExprRule, VarStatement, ImportStatement, ThrowStatement, ReturnStatement, Define, DefineOrSet, Common};
+ghost use Rattle.dsl_grammar.specs.Reading.{read_by};
+ghost use Rattle.dsl_grammar.specs.Terms.{behind, maybe, nl, sign as sign_rule};
 
 use crate::arrays::slot;
 use crate::assignments::{expr_behind_lines, set_or_eval};
@@ -14,12 +14,12 @@ use crate::choices::if_statement;
 use crate::exprs::expr;
 use crate::functions::func;
 use crate::loops::{for_statement, while_statement};
-use crate::next::{after_first, at_ident, at_sign, at_word, ident, sign, word};
-use crate::stop::Stop;
 use dsl_lexer::{Sign, Token, Word};
-use site_base::{Expr, Func, OutOfMemory, StmtKind, Text};
+use dsl_parts::functions::{at_define, define_of};
+use dsl_parts::next::{after_first, at_sign, at_word, ident, sign, word};
+use dsl_parts::stop::Stop;
+use dsl_syntax::{Expr, StmtKind};
 use std::alloc::Global;
-use std::sync::Arc;
 
 /// An expression behind `=`, if there is one: `[ "=" nl expr ]`.
 #[cycle(parse)]
@@ -41,7 +41,7 @@ fn maybe_value<'a>(
 
 /// The statement `"var" IDENT [ "=" nl expr ]`.
 #[cycle(parse)]
-#[tactic(auto, unfolding(crate::specs::Grammar::VarStatement), using(site_base::proofs::SyntaxKinds::kind_var))]
+#[tactic(auto, unfolding(dsl_grammar::specs::Grammar::VarStatement), using(dsl_syntax::proofs::SyntaxKinds::kind_var))]
 fn var_statement<'a>(
     alloc: Global,
     most: usize,
@@ -58,7 +58,7 @@ fn var_statement<'a>(
 
 /// The statement `"import" expr`.
 #[cycle(parse)]
-#[tactic(auto, unfolding(crate::specs::Grammar::ImportStatement))]
+#[tactic(auto, unfolding(dsl_grammar::specs::Grammar::ImportStatement))]
 fn import_statement<'a>(
     alloc: Global,
     most: usize,
@@ -74,7 +74,7 @@ fn import_statement<'a>(
 
 /// The statement `"throw" expr`.
 #[cycle(parse)]
-#[tactic(auto, unfolding(crate::specs::Grammar::ThrowStatement))]
+#[tactic(auto, unfolding(dsl_grammar::specs::Grammar::ThrowStatement))]
 fn throw_statement<'a>(
     alloc: Global,
     most: usize,
@@ -90,7 +90,7 @@ fn throw_statement<'a>(
 
 /// The statement `"return" [expr]`.
 #[cycle(parse)]
-#[tactic(auto, unfolding(crate::specs::Grammar::ReturnStatement), using(site_base::proofs::SyntaxKinds::kind_return))]
+#[tactic(auto, unfolding(dsl_grammar::specs::Grammar::ReturnStatement), using(dsl_syntax::proofs::SyntaxKinds::kind_return))]
 fn return_statement<'a>(
     alloc: Global,
     most: usize,
@@ -104,17 +104,9 @@ fn return_statement<'a>(
     Ok((StmtKind::Return { expr }, rest))
 }
 
-/// The statement that defines a function.
-fn define_of(alloc: Global, name: Text, func: Func) -> Result<StmtKind, OutOfMemory>
-    ensures { IfOk result (λ k. stmt_kind_view k ≡ define name (func_view func)) }
-{
-    let func = Arc::new(alloc, func)?;
-    Ok(StmtKind::Define { name, func })
-}
-
 /// The statement `"function" IDENT params [use] block`.
 #[cycle(parse)]
-#[tactic(auto, unfolding(crate::specs::Grammar::Define))]
+#[tactic(auto, unfolding(dsl_grammar::specs::Grammar::Define))]
 fn define_statement<'a>(
     alloc: Global,
     most: usize,
@@ -130,16 +122,9 @@ fn define_statement<'a>(
     Ok((kind, rest))
 }
 
-/// If a definition stands here: `function` is else that of an expression.
-fn at_define(tokens: &[Token]) -> bool
-    ensures { result ≡ begins_define tokens.now }
-{
-    at_word(Word::Function, tokens) && at_ident(after_first(tokens))
-}
-
 /// A definition, an assignment or an expression.
 #[cycle(parse)]
-#[tactic(auto, unfolding(crate::specs::Grammar::DefineOrSet))]
+#[tactic(auto, unfolding(dsl_grammar::specs::Grammar::DefineOrSet))]
 fn define_or_set<'a>(
     alloc: Global,
     most: usize,

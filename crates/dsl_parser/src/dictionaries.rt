@@ -1,29 +1,28 @@
 // Dictionaries.
-ghost use Rattle.std.specs.Prelude.{◌≡◌, ◌<◌, [], ◌∷◌, IfOk};
-ghost use Rattle.site_base.specs.SyntaxView.{expr_view, entries_view};
+ghost use Rattle.std.specs.Prelude.{◌<◌, []};
+ghost use Rattle.dsl_syntax.specs.SyntaxView.{expr_view, entries_view, entry_view};
 ghost use Rattle.dsl_lexer.specs.declared.sign.Sign.TheVariants as signs;
-ghost use Rattle.dsl_rules.specs.Alphabet.{at};
 ghost use Rattle.dsl_rules.specs.Grammar.{made, one};
-ghost use Rattle.dsl_rules.specs.Reading.{one_read};
-ghost use Rattle.dsl_parser.specs.Codes.{sorts, ident_sort, string_sort};
-ghost use Rattle.dsl_parser.specs.ExprParts.{entry_view, maybe_entry_view};
-ghost use Rattle.dsl_parser.specs.Gives.{Gives};
-ghost use Rattle.dsl_parser.specs.Grammar.{Expr as ExprRule, Dict, BracedPairs, Pairs, MaybePair, Pair as PairRule, add_pair};
-ghost use Rattle.dsl_parser.specs.Reading.{read_by};
-ghost use Rattle.dsl_parser.specs.Terms.{behind, nl, sign as sign_rule, text, bsep, add_turn};
+ghost use Rattle.dsl_parts.specs.ExprParts.{maybe_entry_view};
+ghost use Rattle.dsl_parts.specs.Gives.{Gives};
+ghost use Rattle.dsl_grammar.specs.Grammar.{Expr as ExprRule, Dict, BracedPairs, Pairs, MaybePair, Pair as PairRule, add_pair};
+ghost use Rattle.dsl_grammar.specs.Reading.{read_by};
+ghost use Rattle.dsl_grammar.specs.Terms.{behind, nl, sign as sign_rule, bsep, add_turn};
 
-use crate::begins::at_body_separator;
 use crate::exprs::expr;
-use crate::next::{at_ident, ident, newlines, sign, string};
-use crate::nodes::{dictionary_at, with_entry};
-use crate::stop::Stop;
-use dsl_lexer::{Sign, Token, TokenKind};
-use site_base::{Expr, Place, Text};
-use std::alloc::{AllocFailed, Global};
+use dsl_lexer::{Sign, Token};
+use dsl_parts::begins::at_body_separator;
+use dsl_parts::dictionaries::{at_key, key, separator, with_maybe_entry};
+use dsl_parts::next::{newlines, sign};
+use dsl_parts::nodes::dictionary_at;
+use dsl_parts::stop::Stop;
+use dsl_syntax::Expr;
+use site_base::Text;
+use std::alloc::Global;
 
 /// A dictionary, "{" {bsep} [ pair { bsep {bsep} pair } {bsep} ] "}".
 #[cycle(parse)]
-#[tactic(auto, unfolding(crate::specs::Grammar::Dict))]
+#[tactic(auto, unfolding(dsl_grammar::specs::Grammar::Dict))]
 pub(crate) fn dictionary<'a>(
     alloc: Global,
     most: usize,
@@ -44,7 +43,7 @@ pub(crate) fn dictionary<'a>(
 
 /// Pairs in braces.
 #[cycle(parse)]
-#[tactic(auto, unfolding(crate::specs::Grammar::BracedPairs))]
+#[tactic(auto, unfolding(dsl_grammar::specs::Grammar::BracedPairs))]
 fn braced<'a>(
     alloc: Global,
     most: usize,
@@ -61,7 +60,7 @@ fn braced<'a>(
 
 /// Pairs with separators between them, before them and behind them, {bsep} [ pair { bsep {bsep} pair } {bsep} ].
 #[cycle(parse)]
-#[tactic(auto, unfolding(crate::specs::Grammar::Pairs))]
+#[tactic(auto, unfolding(dsl_grammar::specs::Grammar::Pairs))]
 fn pairs<'a>(
     alloc: Global,
     most: usize,
@@ -116,7 +115,7 @@ fn with_next_pair<'a>(
 
 /// A pair, or none.
 #[cycle(parse)]
-#[tactic(auto, unfolding(crate::specs::Grammar::MaybePair, crate::specs::Grammar::Pair))]
+#[tactic(auto, unfolding(dsl_grammar::specs::Grammar::MaybePair, dsl_grammar::specs::Grammar::Pair))]
 fn maybe_pair<'a>(
     alloc: Global,
     most: usize,
@@ -135,7 +134,7 @@ fn maybe_pair<'a>(
 
 /// A key and its value, ( IDENT | STRING ) "=" nl expr.
 #[cycle(parse)]
-#[tactic(auto, unfolding(crate::specs::Grammar::Pair))]
+#[tactic(auto, unfolding(dsl_grammar::specs::Grammar::Pair))]
 fn pair<'a>(
     alloc: Global,
     most: usize,
@@ -161,54 +160,4 @@ fn set_value<'a>(
 {
     let (_, inner) = sign(Sign::Set, tokens)?;
     expr(alloc, most - 1, newlines(most, inner))
-}
-
-/// A key: an identifier or a string.
-fn key<'a>(tokens: &'a [Token]) -> Result<(Text, &'a [Token]), Stop<'a>>
-    ensures { Gives (λ t. t) result (one_read sorts (ident_sort ∷ string_sort ∷ []) text tokens.now) }
-{
-    if at_ident(tokens) {
-        ident(tokens)
-    } else {
-        string(tokens)
-    }
-}
-
-/// If the next token is a key.
-fn at_key(tokens: &[Token]) -> bool
-    ensures { result ≡ at sorts (ident_sort ∷ string_sort ∷ []) tokens.now }
-{
-    matches!(
-        tokens,
-        [
-            Token {
-                kind: TokenKind::Ident(_) | TokenKind::Str(_),
-                ..
-            },
-            ..
-        ]
-    )
-}
-
-/// The tokens behind a newline, a semicolon or a comma that must stand here.
-fn separator<'a>(tokens: &'a [Token]) -> Result<(Place, &'a [Token]), Stop<'a>>
-    ensures { Gives (λ p. p) result (one_read sorts bsep (λ t. t.place) tokens.now) }
-{
-    match tokens {
-        [token, rest @ ..] if at_body_separator(tokens) => Ok((token.place, rest)),
-        _ => Err(Stop::Fault(tokens)),
-    }
-}
-
-/// The entries with the one that may be there behind them.
-fn with_maybe_entry(
-    entries: Vec<(Text, Expr)>,
-    entry: Option<(Text, Expr)>,
-) -> Result<Vec<(Text, Expr)>, AllocFailed<(Text, Expr)>>
-    ensures { IfOk result (λ ps. entries_view ps.items ≡ add_turn add_pair (entries_view entries.items) (maybe_entry_view entry)) }
-{
-    match entry {
-        Some(entry) => with_entry(entries, entry),
-        None => Ok(entries),
-    }
 }

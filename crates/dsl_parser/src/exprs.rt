@@ -1,16 +1,17 @@
 // Expressions.
 ghost use Rattle.std.specs.Prelude.{◌<◌};
-ghost use Rattle.site_base.specs.SyntaxView.{expr_view};
-ghost use Rattle.dsl_parser.specs.Gives.{Gives};
-ghost use Rattle.dsl_parser.specs.Grammar.{Whole};
-ghost use Rattle.dsl_parser.specs.Reading.{reads, read_by};
-ghost use Rattle.dsl_parser.specs.Terms.{expr as expr_name};
+ghost use Rattle.dsl_syntax.specs.SyntaxView.{expr_view};
+ghost use Rattle.dsl_parts.specs.Gives.{Gives};
+ghost use Rattle.dsl_grammar.specs.Grammar.{Whole};
+ghost use Rattle.dsl_grammar.specs.Reading.{reads, read_by};
+ghost use Rattle.dsl_grammar.specs.Terms.{expr as expr_name};
 
-use crate::arrow_functions::{begins_lambda, lambda};
+use crate::arrow_functions::lambda;
 use crate::levels::operation;
-use crate::stop::Stop;
 use dsl_lexer::Token;
-use site_base::Expr;
+use dsl_parts::arrow_functions::begins_lambda;
+use dsl_parts::stop::Stop;
+use dsl_syntax::Expr;
 use std::alloc::Global;
 
 /// An expression at the front of the tokens, of which there are at most `most`.
@@ -31,7 +32,7 @@ pub(crate) fn expr<'a>(
 
 /// A function with "=>", or operands between operators, params "=>" ( block | expr ) | level13.
 #[cycle(parse)]
-#[tactic(auto, unfolding(crate::specs::Grammar::Whole))]
+#[tactic(auto, unfolding(dsl_grammar::specs::Grammar::Whole))]
 fn whole<'a>(
     alloc: Global,
     most: usize,

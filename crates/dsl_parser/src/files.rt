@@ -1,24 +1,24 @@
 // The statements of files.
 ghost use Rattle.std.specs.Prelude.{◌<◌};
 ghost use Rattle.dsl_rules.specs.Grammar.{made};
-ghost use Rattle.dsl_parser.specs.Gives.{Gives};
-ghost use Rattle.dsl_parser.specs.Grammar.{FileStatements, MaybeTop, Top, TopKind};
-ghost use Rattle.dsl_parser.specs.Lists.{add_statement};
-ghost use Rattle.dsl_parser.specs.Reading.{read_by};
-ghost use Rattle.dsl_parser.specs.Terms.{add_turn};
-ghost use Rattle.site_base.specs.SyntaxView.{stmt_kind_view, stmt_view, stmts_view};
+ghost use Rattle.dsl_parts.specs.Gives.{Gives};
+ghost use Rattle.dsl_grammar.specs.Grammar.{FileStatements, MaybeTop, Top, TopKind};
+ghost use Rattle.dsl_syntax.specs.Lists.{add_statement};
+ghost use Rattle.dsl_grammar.specs.Reading.{read_by};
+ghost use Rattle.dsl_grammar.specs.Terms.{add_turn};
+ghost use Rattle.dsl_syntax.specs.SyntaxView.{stmt_kind_view, stmt_view, stmts_view};
 
-use crate::begins::{at_inclusion, at_separator, at_top};
-use crate::inclusions::inclusion;
-use crate::next::after_first;
 use crate::objects::statement_kind;
-use crate::stop::Stop;
 use dsl_lexer::Token;
-use site_base::{Stmt, StmtKind};
+use dsl_parts::begins::{at_inclusion, at_separator, at_top};
+use dsl_parts::inclusions::inclusion;
+use dsl_parts::next::after_first;
+use dsl_parts::stop::Stop;
+use dsl_syntax::{Stmt, StmtKind};
 use std::alloc::Global;
 
 /// The statements of a file: `{sep} [ top { sep {sep} top } {sep} ]`.
-#[tactic(auto, unfolding(crate::specs::Grammar::FileStatements))]
+#[tactic(auto, unfolding(dsl_grammar::specs::Grammar::FileStatements))]
 pub(crate) fn file_statements<'a>(
     alloc: Global,
     most: usize,
@@ -59,7 +59,7 @@ fn maybe_top<'a>(
 }
 
 /// A statement of a file, at its place.
-#[tactic(auto, unfolding(crate::specs::Grammar::Top))]
+#[tactic(auto, unfolding(dsl_grammar::specs::Grammar::Top))]
 fn top<'a>(alloc: Global, most: usize, tokens: &'a [Token]) -> Result<(Stmt, &'a [Token]), Stop<'a>>
     requires { 0 < most }
     ensures { Gives stmt_view result (read_by most Top tokens.now) }
@@ -75,7 +75,7 @@ fn top<'a>(alloc: Global, most: usize, tokens: &'a [Token]) -> Result<(Stmt, &'a
 }
 
 /// What a statement of a file is: an inclusion, or what may stand in a block.
-#[tactic(auto, unfolding(crate::specs::Grammar::TopKind, crate::specs::Grammar::Inclusion, crate::specs::Grammar::Included, crate::specs::Grammar::IncludedAll))]
+#[tactic(auto, unfolding(dsl_grammar::specs::Grammar::TopKind, dsl_grammar::specs::Grammar::Inclusion, dsl_grammar::specs::Grammar::Included, dsl_grammar::specs::Grammar::IncludedAll))]
 fn top_kind<'a>(
     alloc: Global,
     most: usize,

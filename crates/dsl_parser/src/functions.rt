@@ -1,27 +1,29 @@
 // Functions: their parameters and the names that they capture.
-ghost use Rattle.std.specs.Prelude.{◌<◌, []};
-ghost use Rattle.site_base.specs.SyntaxView.{func_view, uses_view, maybe_expr_view};
-ghost use Rattle.site_base.specs.Syntax.{no_expression, some_expression};
+ghost use Rattle.std.specs.Prelude.{◌<◌};
+ghost use Rattle.dsl_syntax.specs.SyntaxView.{func_view, uses_view, maybe_expr_view};
+ghost use Rattle.dsl_syntax.specs.Syntax.{no_expression, some_expression};
 ghost use Rattle.dsl_lexer.specs.declared.sign.Sign.TheVariants as signs;
 ghost use Rattle.dsl_rules.specs.Grammar.{made};
-ghost use Rattle.dsl_parser.specs.ExprParts.{capture_view, read_flat};
-ghost use Rattle.dsl_parser.specs.Gives.{Gives};
-ghost use Rattle.dsl_parser.specs.Grammar.{Expr as ExprRule, Names, Params, OneUse, UseNames, UseList, MaybeUse, Func as FuncRule, add_name, add_captured};
-ghost use Rattle.dsl_parser.specs.Reading.{read_by};
-ghost use Rattle.dsl_parser.specs.Terms.{behind, maybe, sign as sign_rule, IDENT};
+ghost use Rattle.dsl_parts.specs.ExprParts.{capture_view};
+ghost use Rattle.dsl_parts.specs.Gives.{Gives};
+ghost use Rattle.dsl_grammar.specs.Grammar.{Expr as ExprRule, OneUse, UseNames, UseList, MaybeUse, Func as FuncRule, add_captured};
+ghost use Rattle.dsl_grammar.specs.Reading.{read_by};
+ghost use Rattle.dsl_grammar.specs.Terms.{behind, maybe, sign as sign_rule};
 
 use crate::blocks::block;
 use crate::exprs::expr;
-use crate::next::{at_ident, at_sign, at_word, ident, sign, word};
-use crate::nodes::{func_of, with_use};
-use crate::stop::Stop;
 use dsl_lexer::{Sign, Token, Word};
-use site_base::{Expr, Func, Text, Texts, Use};
+use dsl_parts::functions::params;
+use dsl_parts::next::{at_sign, at_word, ident, sign, word};
+use dsl_parts::nodes::{func_of, with_use};
+use dsl_parts::stop::Stop;
+use dsl_syntax::{Expr, Func, Use};
+use site_base::Text;
 use std::alloc::Global;
 
 /// A function behind its word or name, params [use] block.
 #[cycle(parse)]
-#[tactic(auto, unfolding(crate::specs::Grammar::Func))]
+#[tactic(auto, unfolding(dsl_grammar::specs::Grammar::Func))]
 pub(crate) fn func<'a>(
     alloc: Global,
     most: usize,
@@ -38,7 +40,7 @@ pub(crate) fn func<'a>(
 
 /// The names that a body captures, if it names any.
 #[cycle(parse)]
-#[tactic(auto, unfolding(crate::specs::Grammar::MaybeUse, crate::specs::Grammar::UseList))]
+#[tactic(auto, unfolding(dsl_grammar::specs::Grammar::MaybeUse, dsl_grammar::specs::Grammar::UseList))]
 pub(crate) fn maybe_use<'a>(
     alloc: Global,
     most: usize,
@@ -57,7 +59,7 @@ pub(crate) fn maybe_use<'a>(
 
 /// The names that a body captures, "use" "(" IDENT [ "=" expr ] { "," IDENT [ "=" expr ] } ")".
 #[cycle(parse)]
-#[tactic(auto, unfolding(crate::specs::Grammar::UseList))]
+#[tactic(auto, unfolding(dsl_grammar::specs::Grammar::UseList))]
 fn use_list<'a>(
     alloc: Global,
     most: usize,
@@ -75,7 +77,7 @@ fn use_list<'a>(
 
 /// One or more captured names, with commas between them.
 #[cycle(parse)]
-#[tactic(auto, unfolding(crate::specs::Grammar::UseNames))]
+#[tactic(auto, unfolding(dsl_grammar::specs::Grammar::UseNames))]
 fn use_names<'a>(
     alloc: Global,
     most: usize,
@@ -131,7 +133,7 @@ fn with_next_use<'a>(
 
 /// A captured name, and what it stands for if that is said, IDENT [ "=" expr ].
 #[cycle(parse)]
-#[tactic(auto, unfolding(crate::specs::Grammar::OneUse))]
+#[tactic(auto, unfolding(dsl_grammar::specs::Grammar::OneUse))]
 fn one_use<'a>(
     alloc: Global,
     most: usize,
@@ -163,83 +165,4 @@ fn maybe_value<'a>(
     } else {
         Ok((None, tokens))
     }
-}
-
-/// The parameters of a function, "(" [ IDENT { "," IDENT } ] ")".
-#[tactic(auto, unfolding(crate::specs::Grammar::Params, crate::specs::Grammar::Names))]
-pub(crate) fn params<'a>(
-    alloc: Global,
-    most: usize,
-    tokens: &'a [Token],
-) -> Result<(Texts, &'a [Token]), Stop<'a>>
-    ensures { Gives (λ ps. ps) result (read_by most Params tokens.now) }
-{
-    let (_, inner) = sign(Sign::OpenParen, tokens)?;
-    let (names, after) = maybe_names(alloc, most, inner)?;
-    let (_, rest) = sign(Sign::CloseParen, after)?;
-    Ok((names, rest))
-}
-
-/// Any number of names, with commas between them.
-#[tactic(auto, unfolding(crate::specs::Grammar::Names))]
-fn maybe_names<'a>(
-    alloc: Global,
-    most: usize,
-    tokens: &'a [Token],
-) -> Result<(Texts, &'a [Token]), Stop<'a>>
-    ensures { Gives (λ ps. ps) result (read_by most (maybe (λ ns. ns) [] Names) tokens.now) }
-{
-    if at_ident(tokens) {
-        let (list, rest) = names(alloc, most, tokens)?;
-        Ok((list, rest))
-    } else {
-        Ok((Texts::new(alloc), tokens))
-    }
-}
-
-/// One or more names, with commas between them.
-#[tactic(auto, unfolding(crate::specs::Grammar::Names))]
-fn names<'a>(
-    alloc: Global,
-    most: usize,
-    tokens: &'a [Token],
-) -> Result<(Texts, &'a [Token]), Stop<'a>>
-    ensures { Gives (λ ps. ps) result (read_by most Names tokens.now) }
-{
-    let (mut list, mut rest) = with_next_name(Texts::new(alloc), tokens)?;
-    for _ in 0..most {
-        if !at_sign(Sign::Comma, rest) {
-            break;
-        }
-        let (longer, after) = with_comma_name(list, rest)?;
-        list = longer;
-        rest = after;
-    }
-    Ok((list, rest))
-}
-
-/// The names, and the one that must stand next behind a comma.
-fn with_comma_name<'a>(
-    mut list: Texts,
-    tokens: &'a [Token],
-) -> Result<(Texts, &'a [Token]), Stop<'a>>
-    ensures { Gives (λ ps. ps) result
-        (read_flat (made (add_name list) (behind (sign_rule signs.Comma) IDENT)) tokens.now) }
-{
-    let (_, inner) = sign(Sign::Comma, tokens)?;
-    let (name, rest) = ident(inner)?;
-    list.push(name)?;
-    Ok((list, rest))
-}
-
-/// The names, and the one that must stand next.
-fn with_next_name<'a>(
-    mut list: Texts,
-    tokens: &'a [Token],
-) -> Result<(Texts, &'a [Token]), Stop<'a>>
-    ensures { Gives (λ ps. ps) result (read_flat (made (add_name list) IDENT) tokens.now) }
-{
-    let (name, rest) = ident(tokens)?;
-    list.push(name)?;
-    Ok((list, rest))
 }

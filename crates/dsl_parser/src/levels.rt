@@ -1,21 +1,20 @@
 // Expressions of operators: those before an operand, and those between two, level by level.
 ghost use Rattle.std.specs.Prelude.{◌<◌, ◌≤◌};
-ghost use Rattle.site_base.specs.SyntaxView.{expr_view};
+ghost use Rattle.dsl_syntax.specs.SyntaxView.{expr_view};
 ghost use Rattle.dsl_rules.specs.Grammar.{made, both, pair, chain, fold_pair};
-ghost use Rattle.dsl_parser.specs.ExprParts.{operand_view};
-ghost use Rattle.dsl_parser.specs.Gives.{Gives};
-ghost use Rattle.dsl_parser.specs.Grammar.{Level, Operator, Unary, Prefixed, joined as joined_plain};
-ghost use Rattle.dsl_parser.specs.Operators.{level_sorts};
-ghost use Rattle.dsl_parser.specs.Reading.{read_by};
+ghost use Rattle.dsl_parts.specs.ExprParts.{operand_view};
+ghost use Rattle.dsl_parts.specs.Gives.{Gives};
+ghost use Rattle.dsl_grammar.specs.Grammar.{Level, Operator, Unary, Prefixed, joined as joined_plain};
+ghost use Rattle.dsl_grammar.specs.Operators.{level_sorts};
+ghost use Rattle.dsl_grammar.specs.Reading.{read_by};
 
-use crate::nodes::joined;
-use crate::operand::Operand;
-use crate::operators::{at_operator, at_prefix, operator};
-use crate::prefixes::{applied, prefixes};
-use crate::stop::Stop;
 use crate::tails::postfix;
 use dsl_lexer::Token;
-use site_base::Expr;
+use dsl_parts::nodes::{Operand, joined};
+use dsl_parts::operators::{at_operator, at_prefix, operator};
+use dsl_parts::prefixes::{applied, prefixes};
+use dsl_parts::stop::Stop;
+use dsl_syntax::Expr;
 use std::alloc::Global;
 
 /// Operands between operators of the levels below this one, of which each binds tighter than the next; at the
@@ -84,7 +83,7 @@ fn with_next_operand<'a>(
 
 /// An operand, and where it begins.
 #[cycle(parse)]
-#[tactic(auto, unfolding(crate::specs::Grammar::Unary))]
+#[tactic(auto, unfolding(dsl_grammar::specs::Grammar::Unary))]
 fn unary<'a>(
     alloc: Global,
     most: usize,
@@ -105,7 +104,7 @@ fn unary<'a>(
 
 /// An operand with any number of operators before it.
 #[cycle(parse)]
-#[tactic(auto, unfolding(crate::specs::Grammar::Prefixed, crate::specs::Grammar::Prefixes))]
+#[tactic(auto, unfolding(dsl_grammar::specs::Grammar::Prefixed, dsl_grammar::specs::Grammar::Prefixes))]
 fn prefixed<'a>(
     alloc: Global,
     most: usize,

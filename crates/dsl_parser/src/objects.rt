@@ -1,28 +1,26 @@
 // Objects, templates and constants.
-ghost use Rattle.std.specs.Prelude.{◌≡◌, ◌<◌, IfOk};
-ghost use Rattle.dsl_parser.specs.Gives.{Gives};
-ghost use Rattle.dsl_parser.specs.Grammar.{ConstStatement, Kind, NamedBody, ObjectStatement, TemplateStatement, UseBody, bodied, object_named, template_named};
-ghost use Rattle.dsl_parser.specs.NamedView.{bodied_view, named_view};
-ghost use Rattle.dsl_parser.specs.Reading.{read_by};
-ghost use Rattle.site_base.specs.SyntaxView.{stmt_kind_view, stmts_view, uses_view};
+ghost use Rattle.std.specs.Prelude.{◌<◌};
+ghost use Rattle.dsl_parts.specs.Gives.{Gives};
+ghost use Rattle.dsl_grammar.specs.Grammar.{ConstStatement, Kind, NamedBody, ObjectStatement, TemplateStatement, UseBody, bodied};
+ghost use Rattle.dsl_parts.specs.NamedView.{bodied_view, named_view};
+ghost use Rattle.dsl_grammar.specs.Reading.{read_by};
+ghost use Rattle.dsl_syntax.specs.SyntaxView.{stmt_kind_view};
 
 use crate::applies::apply_statement;
-use crate::bodied::Bodied;
 use crate::bodies::body;
 use crate::common::common;
 use crate::exprs::expr;
 use crate::functions::maybe_use;
-use crate::named::Named;
-use crate::next::{at_word, ident, newlines, sign, word};
-use crate::stop::Stop;
 use dsl_lexer::{Sign, Token, Word};
-use site_base::{Block, Stmt, StmtKind, Use};
-use std::alloc::{AllocError, Global};
-use std::sync::Arc;
+use dsl_parts::next::{at_word, ident, newlines, sign, word};
+use dsl_parts::objects::{Bodied, Named, bodied_of, object_of, template_of};
+use dsl_parts::stop::Stop;
+use dsl_syntax::StmtKind;
+use std::alloc::Global;
 
 /// What a statement of a block is.
 #[cycle(parse)]
-#[tactic(auto, unfolding(crate::specs::Grammar::Kind, crate::specs::Grammar::ObjectStatement, crate::specs::Grammar::TemplateStatement, crate::specs::Grammar::ApplyStatement, crate::specs::Grammar::ConstStatement))]
+#[tactic(auto, unfolding(dsl_grammar::specs::Grammar::Kind, dsl_grammar::specs::Grammar::ObjectStatement, dsl_grammar::specs::Grammar::TemplateStatement, dsl_grammar::specs::Grammar::ApplyStatement, dsl_grammar::specs::Grammar::ConstStatement))]
 pub(crate) fn statement_kind<'a>(
     alloc: Global,
     most: usize,
@@ -48,7 +46,7 @@ pub(crate) fn statement_kind<'a>(
 
 /// An object: `"object" IDENT expr [use] body`.
 #[cycle(parse)]
-#[tactic(auto, unfolding(crate::specs::Grammar::ObjectStatement))]
+#[tactic(auto, unfolding(dsl_grammar::specs::Grammar::ObjectStatement))]
 fn object_statement<'a>(
     alloc: Global,
     most: usize,
@@ -64,7 +62,7 @@ fn object_statement<'a>(
 
 /// A template: `"template" IDENT expr [use] body`.
 #[cycle(parse)]
-#[tactic(auto, unfolding(crate::specs::Grammar::TemplateStatement))]
+#[tactic(auto, unfolding(dsl_grammar::specs::Grammar::TemplateStatement))]
 fn template_statement<'a>(
     alloc: Global,
     most: usize,
@@ -80,7 +78,7 @@ fn template_statement<'a>(
 
 /// A constant: `"const" IDENT "=" nl expr`.
 #[cycle(parse)]
-#[tactic(auto, unfolding(crate::specs::Grammar::ConstStatement))]
+#[tactic(auto, unfolding(dsl_grammar::specs::Grammar::ConstStatement))]
 fn const_statement<'a>(
     alloc: Global,
     most: usize,
@@ -98,7 +96,7 @@ fn const_statement<'a>(
 
 /// A type, a name and a body: `IDENT expr [use] body`.
 #[cycle(parse)]
-#[tactic(auto, unfolding(crate::specs::Grammar::NamedBody))]
+#[tactic(auto, unfolding(dsl_grammar::specs::Grammar::NamedBody))]
 fn named_body<'a>(
     alloc: Global,
     most: usize,
@@ -115,7 +113,7 @@ fn named_body<'a>(
 
 /// Captured names and a body: `[use] body`.
 #[cycle(parse)]
-#[tactic(auto, unfolding(crate::specs::Grammar::UseBody))]
+#[tactic(auto, unfolding(dsl_grammar::specs::Grammar::UseBody))]
 pub(crate) fn use_body<'a>(
     alloc: Global,
     most: usize,
@@ -127,36 +125,4 @@ pub(crate) fn use_body<'a>(
     let (uses, begin) = maybe_use(alloc, most, tokens)?;
     let (statements, rest) = body(alloc, most, begin)?;
     Ok((bodied_of(alloc, uses, statements)?, rest))
-}
-
-/// Captured names and the body of these statements.
-fn bodied_of(alloc: Global, uses: Vec<Use>, statements: Vec<Stmt>) -> Result<Bodied, AllocError>
-    ensures { IfOk result (λ b. bodied_view b ≡ bodied (uses_view uses.items) (stmts_view statements.items)) }
-{
-    let body = Arc::new(alloc, Block { statements })?;
-    Ok(Bodied { uses, body })
-}
-
-/// An object.
-fn object_of(named: Named) -> StmtKind
-    ensures { stmt_kind_view result ≡ object_named (named_view named) }
-{
-    StmtKind::Object {
-        kind: named.kind,
-        name: named.name,
-        uses: named.bodied.uses,
-        body: named.bodied.body,
-    }
-}
-
-/// A template.
-fn template_of(named: Named) -> StmtKind
-    ensures { stmt_kind_view result ≡ template_named (named_view named) }
-{
-    StmtKind::Template {
-        kind: named.kind,
-        name: named.name,
-        uses: named.bodied.uses,
-        body: named.bodied.body,
-    }
 }

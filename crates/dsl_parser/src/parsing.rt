@@ -1,15 +1,16 @@
 // The trees of files.
 ghost use Rattle.std.specs.Prelude.{◌≡◌, ◌<◌, length};
 ghost use Rattle.dsl_lexer.specs.Lists.{IsWhole};
-ghost use Rattle.dsl_parser.specs.Files.{file_outcome, head_place};
-ghost use Rattle.dsl_parser.specs.Parsing.{Answers, GivesTree, IsShallow, GivesOnly, GivesFault};
+ghost use Rattle.dsl_grammar.specs.Files.{file_outcome, head_place};
+ghost use Rattle.dsl_grammar.specs.Parsing.{Answers, GivesTree, IsShallow, GivesOnly, GivesFault};
 
-use crate::depth::too_deep;
 use crate::files::file_statements;
-use crate::parse_error::ParseError;
-use crate::stop::Stop;
+use dsl_depth::too_deep;
+use dsl_grammar::ParseError;
 use dsl_lexer::Token;
-use site_base::{File, Place};
+use dsl_parts::stop::Stop;
+use dsl_syntax::File;
+use site_base::Place;
 use std::alloc::Global;
 
 /// The one tree of a file's tokens, of which the last is the end token and no other is, and the places rise: what `lex`

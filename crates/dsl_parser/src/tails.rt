@@ -1,31 +1,29 @@
 // What stands behind primary expressions: members, elements and calls.
-ghost use Rattle.std.specs.Prelude.{◌≡◌, ◌<◌};
-ghost use Rattle.site_base.specs.SyntaxView.{exprs_view};
+ghost use Rattle.std.specs.Prelude.{◌<◌};
+ghost use Rattle.dsl_syntax.specs.SyntaxView.{exprs_view};
 ghost use Rattle.dsl_lexer.specs.declared.sign.Sign.TheVariants as signs;
-ghost use Rattle.dsl_rules.specs.Alphabet.{at};
 ghost use Rattle.dsl_rules.specs.Grammar.{made};
-ghost use Rattle.dsl_parser.specs.Codes.{sorts};
-ghost use Rattle.dsl_parser.specs.ExprParts.{operand_view, read_flat};
-ghost use Rattle.dsl_parser.specs.Gives.{Gives};
-ghost use Rattle.dsl_parser.specs.Grammar.{Expr as ExprRule, BegunPrim, Postfix, OneTail, Arguments, Listed, tail_sorts, with_tail, member_tail, index_tail, call_tail};
-ghost use Rattle.dsl_parser.specs.Lists.{add_expression};
-ghost use Rattle.dsl_parser.specs.Reading.{read_by};
-ghost use Rattle.dsl_parser.specs.Terms.{behind, before, sign as sign_rule, IDENT};
+ghost use Rattle.dsl_parts.specs.ExprParts.{operand_view};
+ghost use Rattle.dsl_parts.specs.Gives.{Gives};
+ghost use Rattle.dsl_grammar.specs.Grammar.{Expr as ExprRule, BegunPrim, Postfix, OneTail, Arguments, Listed, with_tail, index_tail, call_tail};
+ghost use Rattle.dsl_syntax.specs.Lists.{add_expression};
+ghost use Rattle.dsl_grammar.specs.Reading.{read_by};
+ghost use Rattle.dsl_grammar.specs.Terms.{behind, before, sign as sign_rule};
 
-use crate::begins::at_expr;
 use crate::exprs::expr;
-use crate::next::{at_sign, ident, sign};
-use crate::nodes::{with_call, with_expr, with_index, with_member};
-use crate::operand::Operand;
 use crate::primaries::primary;
-use crate::stop::Stop;
 use dsl_lexer::{Sign, Token};
-use site_base::Expr;
+use dsl_parts::begins::at_expr;
+use dsl_parts::next::{at_sign, sign};
+use dsl_parts::nodes::{Operand, with_call, with_expr, with_index};
+use dsl_parts::stop::Stop;
+use dsl_parts::tails::{at_tail, next_member};
+use dsl_syntax::Expr;
 use std::alloc::Global;
 
 /// A primary expression with what stands behind it, prim { "." IDENT | "[" expr "]" | "(" [ expr { "," expr } ] ")" }.
 #[cycle(parse)]
-#[tactic(auto, unfolding(crate::specs::Grammar::Postfix))]
+#[tactic(auto, unfolding(dsl_grammar::specs::Grammar::Postfix))]
 pub(crate) fn postfix<'a>(
     alloc: Global,
     most: usize,
@@ -48,7 +46,7 @@ pub(crate) fn postfix<'a>(
 
 /// A primary expression, with where it begins.
 #[cycle(parse)]
-#[tactic(auto, unfolding(crate::specs::Grammar::BegunPrim))]
+#[tactic(auto, unfolding(dsl_grammar::specs::Grammar::BegunPrim))]
 fn begun_primary<'a>(
     alloc: Global,
     most: usize,
@@ -69,7 +67,7 @@ fn begun_primary<'a>(
 
 /// The operand with the tail that must stand next.
 #[cycle(parse)]
-#[tactic(auto, unfolding(crate::specs::Grammar::OneTail))]
+#[tactic(auto, unfolding(dsl_grammar::specs::Grammar::OneTail))]
 fn with_next_tail<'a>(
     alloc: Global,
     most: usize,
@@ -86,20 +84,6 @@ fn with_next_tail<'a>(
     } else {
         next_call(alloc, most, operand, tokens)
     }
-}
-
-/// The operand's member whose name stands next, "." IDENT.
-fn next_member<'a>(
-    alloc: Global,
-    operand: Operand,
-    tokens: &'a [Token],
-) -> Result<(Operand, &'a [Token]), Stop<'a>>
-    ensures { Gives operand_view result
-        (read_flat (made (with_tail (operand_view operand)) (made member_tail (behind (sign_rule signs.Dot) IDENT))) tokens.now) }
-{
-    let (_, inner) = sign(Sign::Dot, tokens)?;
-    let (name, rest) = ident(inner)?;
-    Ok((with_member(alloc, operand, name)?, rest))
 }
 
 /// The operand's element whose index stands next, "[" expr "]".
@@ -140,7 +124,7 @@ fn next_call<'a>(
 
 /// Any number of expressions, with commas between them, [ expr { "," expr } ].
 #[cycle(parse)]
-#[tactic(auto, unfolding(crate::specs::Grammar::Arguments, crate::specs::Grammar::Listed))]
+#[tactic(auto, unfolding(dsl_grammar::specs::Grammar::Arguments, dsl_grammar::specs::Grammar::Listed))]
 fn arguments<'a>(
     alloc: Global,
     most: usize,
@@ -159,7 +143,7 @@ fn arguments<'a>(
 
 /// One or more expressions, with commas between them, expr { "," expr }.
 #[cycle(parse)]
-#[tactic(auto, unfolding(crate::specs::Grammar::Listed))]
+#[tactic(auto, unfolding(dsl_grammar::specs::Grammar::Listed))]
 fn listed<'a>(
     alloc: Global,
     most: usize,
@@ -211,13 +195,4 @@ fn with_next_expr<'a>(
 {
     let (argument, rest) = expr(alloc, most - 1, tokens)?;
     Ok((with_expr(list, argument)?, rest))
-}
-
-/// If the next token begins a tail.
-fn at_tail(tokens: &[Token]) -> bool
-    ensures { result ≡ at sorts tail_sorts tokens.now }
-{
-    at_sign(Sign::Dot, tokens)
-        || at_sign(Sign::OpenBracket, tokens)
-        || at_sign(Sign::OpenParen, tokens)
 }

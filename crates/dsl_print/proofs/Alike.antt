@@ -1,7 +1,7 @@
 -- What is but for places: the wanted part of a tree, and what was read for it.
 use Rattle.std.specs.Prelude.{◌≡◌}
-use Rattle.site_base.specs.Syntax.{Expression, Expressions, MaybeExpression, Uses, Function, Loop, Statement, StatementKind, Statements}
-use Rattle.dsl_parser.specs.Grammar.{Begun, begun_expression}
+use Rattle.dsl_syntax.specs.Syntax.{Expression, Expressions, MaybeExpression, Uses, Function, Loop, Statement, StatementKind, Statements}
+use Rattle.dsl_grammar.specs.Grammar.{Begun, begun_expression}
 use Rattle.dsl_print.specs.Bare.{bare_expression, bare_expressions, bare_maybe, bare_uses, bare_function, bare_loop, bare_statement, bare_statement_kind, bare_statements}
 
 abbrev pub Is : Expression → Expression → Type 0

@@ -3,15 +3,15 @@ use Rattle.std.proofs.Common.{◌≡◌, ℕ, List, [], ◌∷◌, ◌++◌, Boo
 use Rattle.std.proofs.lemmas.Bool.Decides.{nat_tests}
 use Rattle.std.specs.Prelude.{codes, nat_eq}
 use Rattle.site_base.specs.declared.place.Place.{Place}
-use Rattle.site_base.specs.Syntax.{Expression, MaybeExpression, no_expression, some_expression, Loop, MaybeLoop, no_loop, some_loop, Uses, no_uses, more_uses, Statements, apply}
+use Rattle.dsl_syntax.specs.Syntax.{Expression, MaybeExpression, no_expression, some_expression, Loop, MaybeLoop, no_loop, some_loop, Uses, no_uses, more_uses, Statements, apply}
 use Rattle.dsl_lexer.specs.Letters.{goes_on}
 use Rattle.dsl_lexer.specs.declared.sign.Sign.{Sign}
 use Rattle.dsl_lexer.specs.declared.sign.Sign.TheVariants as signs
 use Rattle.dsl_lexer.specs.declared.token.Token.{Token}
 use Rattle.dsl_lexer.specs.declared.word.Word.TheVariants as words
 use Rattle.dsl_rules.specs.Alphabet.{Sort, among}
-use Rattle.dsl_parser.specs.Codes.{sorts, sign_sort, word_sort}
-use Rattle.dsl_parser.specs.Grammar.{Whole, MaybeUse, Body, LoopHead, bodied, Heads, heads, OneHead, head_to, head_for, may_head, add_head, AnyHead, ApplyHeads, Headed, headed, applied, ApplyName, HeadedBody, ApplyStatement, Kind}
+use Rattle.dsl_grammar.specs.Codes.{sorts, sign_sort, word_sort}
+use Rattle.dsl_grammar.specs.Grammar.{Whole, MaybeUse, Body, LoopHead, bodied, Heads, heads, OneHead, head_to, head_for, may_head, add_head, AnyHead, ApplyHeads, Headed, headed, applied, ApplyName, HeadedBody, ApplyStatement, Kind}
 use Rattle.dsl_tree.specs.Spelling.{target_text, uses_text, apply_name_text, apply_loop_text}
 use Rattle.dsl_print.specs.Bare.{bare_maybe_loop}
 use Rattle.dsl_print.proofs.Good.{IsIdent, IsMaybeIdent}

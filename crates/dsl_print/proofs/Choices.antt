@@ -2,18 +2,19 @@
 use Rattle.std.proofs.Common.{◌≡◌, ℕ, List, [], ◌∷◌, ◌++◌, true, refl, sym, ap, ◌∙◌, subst, append_assoc}
 use Rattle.std.specs.Prelude.{codes}
 use Rattle.site_base.specs.declared.place.Place.{Place}
-use Rattle.site_base.specs.Syntax.{Expression, Arms, no_arms, more_arms, Statements, no_statements, StatementKind, choose}
+use Rattle.dsl_syntax.specs.Syntax.{Expression, Arms, no_arms, more_arms, Statements, no_statements, StatementKind, choose}
 use Rattle.dsl_lexer.specs.declared.sign.Sign.{Sign}
 use Rattle.dsl_lexer.specs.declared.sign.Sign.TheVariants as signs
 use Rattle.dsl_lexer.specs.declared.word.Word.TheVariants as words
-use Rattle.dsl_parser.specs.Codes.{word_sort}
-use Rattle.dsl_parser.specs.Lists.{add_arm}
-use Rattle.dsl_parser.specs.Grammar.{Expr, Block, armed, Choice, choice, choice_value, may_else, Otherwise, else_if, else_block, first_arm, add_else, ElseIf, Else, FirstChoice, Choices, IfStatement, Common}
+use Rattle.dsl_grammar.specs.Codes.{word_sort}
+use Rattle.dsl_syntax.specs.Lists.{add_arm, armed, join_arms}
+use Rattle.dsl_grammar.specs.Grammar.{Expr, Block, Choice, choice, choice_value, may_else, Otherwise, else_if, else_block, first_arm, add_else, ElseIf, Else, FirstChoice, Choices, IfStatement, Common}
 use Rattle.dsl_print.specs.Bare.{bare_expression, bare_arms, bare_statements, bare_statement_kind}
 use Rattle.dsl_print.proofs.Printed.{Front, one_of, Prints, prints_both, prints_made, prints_left, prints_right, prints_blank, prints_text}
 use Rattle.dsl_print.proofs.Loops.{Further, turns_end, turns_more, turns_last, prints_loop}
 use Rattle.dsl_print.proofs.Spelled.{prints_word}
-use Rattle.dsl_print.proofs.Joins.{join_arms, bare_add_arm, join_add_arm, join_no_arms}
+use Rattle.dsl_print.proofs.Joins.{bare_add_arm}
+use Rattle.dsl_syntax.proofs.SyntaxLists.{join_add_arm, join_no_arms}
 use Rattle.dsl_print.proofs.Statements.{IsArmed, guarded_prints}
 use Rattle.dsl_print.proofs.Alike.{Is, IsKind, IsBlock}
 

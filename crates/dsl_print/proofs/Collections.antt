@@ -3,17 +3,17 @@ use Rattle.std.proofs.Common.{◌≡◌, ℕ, List, [], ◌∷◌, ◌++◌, tru
 use Rattle.std.specs.Str.{IsUtf8}
 use Rattle.site_base.specs.declared.place.Place.{Place}
 use Rattle.site_base.specs.Quoted.{quoted}
-use Rattle.site_base.specs.Syntax.{Expression, expression, Expressions, no_expressions, MaybeExpression, no_expression, some_expression, Entries, no_entries, call, array, dictionary}
+use Rattle.dsl_syntax.specs.Syntax.{Expression, expression, Expressions, no_expressions, MaybeExpression, no_expression, some_expression, Entries, no_entries, call, array, dictionary}
 use Rattle.dsl_lexer.specs.declared.sign.Sign.{Sign}
 use Rattle.dsl_lexer.specs.declared.sign.Sign.TheVariants as signs
 use Rattle.dsl_lexer.specs.declared.token_kind.TokenKind.TheVariants as kinds
 use Rattle.dsl_lexer.specs.Brackets.{keeps}
 use Rattle.dsl_lexer.specs.Tokens.{quotes}
 use Rattle.dsl_rules.specs.Grammar.{one, always}
-use Rattle.dsl_parser.specs.Codes.{sign_sort, string_sort}
-use Rattle.dsl_parser.specs.Lists.{add_expression, add_entry}
-use Rattle.dsl_parser.specs.Terms.{sign, behind, bsep, add_turn, Turn, nothing, thing}
-use Rattle.dsl_parser.specs.Grammar.{Expr, Whole, Prim, Array, BracketedElements, Elements, Slots, slots, slots_value, may_follow, add_slot, Slot, CommaSlot, Dict, BracedPairs, Pairs, MaybePair, Pair, Entry, entry, add_pair, Postfix, BegunPrim, OneTail, Arguments, Listed}
+use Rattle.dsl_grammar.specs.Codes.{sign_sort, string_sort}
+use Rattle.dsl_syntax.specs.Lists.{add_expression, add_entry, Entry, entry}
+use Rattle.dsl_grammar.specs.Terms.{sign, behind, bsep, add_turn, Turn, nothing, thing}
+use Rattle.dsl_grammar.specs.Grammar.{Expr, Whole, Prim, Array, BracketedElements, Elements, Slots, slots, slots_value, may_follow, add_slot, Slot, CommaSlot, Dict, BracedPairs, Pairs, MaybePair, Pair, add_pair, Postfix, BegunPrim, OneTail, Arguments, Listed}
 use Rattle.dsl_print.specs.Bare.{bare_expressions, bare_entries, nowhere}
 use Rattle.dsl_print.proofs.SignTokens.{comma_token}
 use Rattle.dsl_print.proofs.Strings.{quoted_string, quoted_utf8}

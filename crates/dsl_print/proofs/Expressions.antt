@@ -1,7 +1,7 @@
 -- Productions of expressions, printed from their parts.
 use Rattle.std.proofs.Common.{◌≡◌, ℕ, zero, suc, List, [], ◌∷◌, ◌++◌, true, false, refl, ap, ◌∙◌, append_assoc}
 use Rattle.site_base.specs.declared.place.Place.{Place}
-use Rattle.site_base.specs.Syntax.{Expression, expression, ExpressionKind, Expressions, member, index, call}
+use Rattle.dsl_syntax.specs.Syntax.{Expression, expression, ExpressionKind, Expressions, member, index, call}
 use Rattle.dsl_lexer.specs.declared.sign.Sign.{Sign}
 use Rattle.dsl_lexer.specs.declared.sign.Sign.TheVariants as signs
 use Rattle.dsl_lexer.specs.Brackets.{keeps, opened}
@@ -10,8 +10,8 @@ use Rattle.dsl_lexer.specs.Tokens.{IsToken}
 use Rattle.dsl_lexer.specs.declared.token_kind.TokenKind.{TokenKind}
 use Rattle.std.specs.Str.{IsUtf8}
 use Rattle.dsl_rules.specs.Alphabet.{among}
-use Rattle.dsl_parser.specs.Codes.{kind_sort, sign_sort}
-use Rattle.dsl_parser.specs.Grammar.{Literal, literal_sorts, literal_kind, Whole, Prim, Paren, Postfix, BegunPrim, OneTail, Tail, member_tail, index_tail, call_tail, with_tail, Unary, Prefixed, Level, Begun, begun, begun_expression}
+use Rattle.dsl_grammar.specs.Codes.{kind_sort, sign_sort}
+use Rattle.dsl_grammar.specs.Grammar.{Literal, literal_sorts, literal_kind, Whole, Prim, Paren, Postfix, BegunPrim, OneTail, Tail, member_tail, index_tail, call_tail, with_tail, Unary, Prefixed, Level, Begun, begun, begun_expression}
 use Rattle.dsl_print.specs.Bare.{bare_expression, bare_expression_kind, bare_expressions, nowhere}
 use Rattle.dsl_print.proofs.Good.{IsIdent}
 use Rattle.dsl_print.proofs.Printed.{Front, one_of, has_some, Prints, prints_both, prints_made, prints_left, prints_right, prints_ahead_right, prints_here, prints_rec, prints_rest, prints_one, prints_brackets}

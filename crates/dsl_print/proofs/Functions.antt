@@ -1,17 +1,17 @@
 -- Parameters, captured names, functions and the heads of loops, printed from their parts.
 use Rattle.std.proofs.Common.{◌≡◌, ℕ, List, [], ◌∷◌, ◌++◌, true, false, codes, Option, Some, None, refl, sym, ap, ◌∙◌, subst, append_assoc, append-nil}
 use Rattle.site_base.specs.declared.place.Place.{Place}
-use Rattle.site_base.specs.Syntax.{Expression, expression, MaybeExpression, no_expression, some_expression, Function, function, function_value, Uses, no_uses, Statements, loop as a_loop}
+use Rattle.dsl_syntax.specs.Syntax.{Expression, expression, MaybeExpression, no_expression, some_expression, Function, function, function_value, Uses, no_uses, Statements, loop as a_loop}
 use Rattle.dsl_tree.specs.Spelling.{names_text, params_text}
 use Rattle.dsl_lexer.specs.Letters.{goes_on}
 use Rattle.dsl_lexer.specs.declared.sign.Sign.{Sign}
 use Rattle.dsl_lexer.specs.declared.sign.Sign.TheVariants as signs
 use Rattle.dsl_lexer.specs.declared.word.Word.TheVariants as words
 use Rattle.dsl_rules.specs.Grammar.{Pair, left, right, always}
-use Rattle.dsl_parser.specs.Codes.{sign_sort, word_sort, ident_sort}
-use Rattle.dsl_parser.specs.Lists.{add_use}
-use Rattle.dsl_parser.specs.Terms.{Rule, sign, behind, maybe, IDENT}
-use Rattle.dsl_parser.specs.Grammar.{Expr, Block, Whole, Prim, FunctionLiteral, FunctionFunc, Func, Params, Names, add_name, MaybeUse, UseList, UseNames, OneUse, Captured, captured, add_captured, Valued, LoopHead}
+use Rattle.dsl_grammar.specs.Codes.{sign_sort, word_sort, ident_sort}
+use Rattle.dsl_syntax.specs.Lists.{add_use, Captured, captured}
+use Rattle.dsl_grammar.specs.Terms.{Rule, sign, behind, maybe, IDENT}
+use Rattle.dsl_grammar.specs.Grammar.{Expr, Block, Whole, Prim, FunctionLiteral, FunctionFunc, Func, Params, Names, add_name, MaybeUse, UseList, UseNames, OneUse, add_captured, Valued, LoopHead}
 use Rattle.dsl_print.specs.Bare.{bare_expression, bare_uses, bare_statements, nowhere}
 use Rattle.dsl_print.proofs.Good.{IsIdent, AreIdents}
 use Rattle.dsl_print.proofs.Printed.{Front, anything, some, one_of, opens_some, Prints, prints_both, prints_made, prints_left, prints_right, prints_here, prints_rec, prints_blank, prints_empty, prints_text, prints_wide}

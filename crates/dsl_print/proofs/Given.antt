@@ -2,13 +2,13 @@
 use Rattle.std.proofs.Common.{◌≡◌, ℕ, zero, suc, List, [], ◌∷◌, ◌++◌, refl, sym, ap, ◌∙◌, subst, append_assoc, append-nil}
 use Rattle.std.specs.Str.{IsUtf8}
 use Rattle.std.specs.Prelude.{codes}
-use Rattle.site_base.specs.Syntax.{Statements, no_statements}
+use Rattle.dsl_syntax.specs.Syntax.{Statements, no_statements}
 use Rattle.dsl_lexer.specs.Lists.{HasTokens}
 use Rattle.dsl_lexer.specs.declared.token.Token.{Token}
 use Rattle.dsl_rules.specs.Grammar.{Rules, rec}
-use Rattle.dsl_parser.specs.Files.{Parses}
-use Rattle.dsl_parser.specs.Grammar.{Expr, Block, names, production, dashed, Located, located, Dashed, AngledName, LibraryName, LocatedString, included, included_library, included_all, Included, IncludedAll, Inclusion, TopKind, Top, MaybeTop, FileStatements, AnyStatement, MaybeStatement, BlockStatements, Braced}
-use Rattle.dsl_parser.specs.Terms.{Name, expr, block, Value, kind_text}
+use Rattle.dsl_grammar.specs.Files.{Parses}
+use Rattle.dsl_grammar.specs.Grammar.{Expr, Block, names, production, dashed, Located, located, Dashed, AngledName, LibraryName, LocatedString, included, included_library, included_all, Included, IncludedAll, Inclusion, TopKind, Top, MaybeTop, FileStatements, AnyStatement, MaybeStatement, BlockStatements, Braced}
+use Rattle.dsl_grammar.specs.Terms.{Name, expr, block, Value, kind_text}
 use Rattle.dsl_print.proofs.Good.{IsIdent, dashes, IsLibrary, in_file, in_block, Good, GoodStatement, GoodStatements, GoodStatementKind}
 use Rattle.dsl_print.proofs.Keeping.{Keeps, OfTurn, lexed_good, keeps_one, keeps_token, keeps_both, keeps_behind, keeps_before, keeps_either, keeps_made, keeps_here, keeps_maybe, keeps_loop, keeps_row, keeps_thing}
 use Rattle.dsl_print.proofs.GivenExpressions.{ident_text, string_text, idents_more, keeps_IDENT, keeps_STRING, keeps_Whole}

@@ -1,18 +1,18 @@
 -- Expressions that the grammar gives can be printed.
 use Rattle.std.proofs.Common.{◌≡◌, ℕ, zero, suc, List, [], ◌∷◌, ◌++◌, true}
 use Rattle.std.specs.Str.{IsUtf8}
-use Rattle.site_base.specs.declared.syntax.bin_op.BinOp.{BinOp}
-use Rattle.site_base.specs.Syntax.{Expression, Expressions, no_expressions, more_expressions, Entries, no_entries, more_entries, MaybeExpression, no_expression, some_expression, function, Uses, no_uses, more_uses, loop as a_loop}
+use Rattle.dsl_syntax.specs.declared.bin_op.BinOp.{BinOp}
+use Rattle.dsl_syntax.specs.Syntax.{Expression, Expressions, no_expressions, more_expressions, Entries, no_entries, more_entries, MaybeExpression, no_expression, some_expression, function, Uses, no_uses, more_uses, loop as a_loop}
 use Rattle.dsl_lexer.specs.declared.token.Token.{Token}
 use Rattle.dsl_lexer.specs.declared.token_kind.TokenKind.{TokenKind}
 use Rattle.dsl_lexer.specs.declared.token_kind.TokenKind.TheVariants as kinds
 use Rattle.dsl_lexer.specs.declared.word.Word.TheVariants as words
 use Rattle.dsl_rules.specs.Alphabet.{among}
 use Rattle.dsl_rules.specs.Grammar.{Rules}
-use Rattle.dsl_parser.specs.Codes.{kind_sort, ident_sort, string_sort}
-use Rattle.dsl_parser.specs.Grammar.{Expr, Block, Names, Params, Captured, captured, add_captured, OneUse, UseNames, UseList, MaybeUse, Func, Valued, LoopHead, Begun, begun, begun_expression, literal_kind, Literal, Paren, Slots, slots, slots_value, add_slot, Slot, CommaSlot, Elements, BracketedElements, Array, Entry, entry, add_pair, Pair, MaybePair, Pairs, BracedPairs, Dict, FunctionFunc, FunctionLiteral, Prim, Tail, member_tail, index_tail, call_tail, with_tail, Listed, Arguments, OneTail, BegunPrim, Postfix, Prefix, prefix, with_prefixes, Prefixes, Prefixed, Unary, joined, Operator, Level, Returned, LambdaBody, LambdaFunc, Lambda, Whole}
-use Rattle.dsl_parser.specs.Lists.{add_expression, add_entry, add_use}
-use Rattle.dsl_parser.specs.Terms.{Name, Value, kind_text, IDENT, STRING}
+use Rattle.dsl_grammar.specs.Codes.{kind_sort, ident_sort, string_sort}
+use Rattle.dsl_grammar.specs.Grammar.{Expr, Block, Names, Params, add_captured, OneUse, UseNames, UseList, MaybeUse, Func, Valued, LoopHead, Begun, begun, begun_expression, literal_kind, Literal, Paren, Slots, slots, slots_value, add_slot, Slot, CommaSlot, Elements, BracketedElements, Array, add_pair, Pair, MaybePair, Pairs, BracedPairs, Dict, FunctionFunc, FunctionLiteral, Prim, Tail, member_tail, index_tail, call_tail, with_tail, Listed, Arguments, OneTail, BegunPrim, Postfix, Prefix, prefix, with_prefixes, Prefixes, Prefixed, Unary, joined, Operator, Level, Returned, LambdaBody, LambdaFunc, Lambda, Whole}
+use Rattle.dsl_syntax.specs.Lists.{Captured, captured, Entry, entry, add_expression, add_entry, add_use}
+use Rattle.dsl_grammar.specs.Terms.{Name, Value, kind_text, IDENT, STRING}
 use Rattle.dsl_print.proofs.Good.{IsIdent, AreIdents, IsMaybeIdent, Good, GoodKind, GoodAll, GoodEntries, GoodMaybe, GoodLoop, GoodFunction, GoodUses, GoodStatements, in_block}
 use Rattle.dsl_print.proofs.Keeping.{GoodTokenKind, Keeps, Any, OfTurn, keeps_one, keeps_token, keeps_both, keeps_behind, keeps_before, keeps_three, keeps_either, keeps_ahead, keeps_made, keeps_here, keeps_maybe, keeps_loop, keeps_nl, keeps_listed, keeps_row, keeps_thing, keeps_chain, keeps_rec_not}
 use Rattle.dsl_print.proofs.Ascii.{names_utf8}

@@ -1,16 +1,16 @@
 -- Statements that the grammar gives can be printed.
 use Rattle.std.proofs.Common.{◌≡◌, ℕ, List, Bool, true, false, cond, Option, Some, None, refl, subst}
-use Rattle.site_base.specs.Syntax.{at_name, at_this, at_globals, Expression, expression, ExpressionKind, this, globals, name, member, index, MaybeExpression, Steps, no_steps, member_step, index_step, Arms, no_arms, more_arms, Statement, Statements, no_statements, more_statements}
+use Rattle.dsl_syntax.specs.Syntax.{at_name, at_this, at_globals, Expression, expression, ExpressionKind, this, globals, name, member, index, MaybeExpression, Steps, no_steps, member_step, index_step, Arms, no_arms, more_arms, Statement, Statements, no_statements, more_statements}
 use Rattle.dsl_lexer.specs.declared.sign.Sign.TheVariants as signs
 use Rattle.dsl_lexer.specs.declared.token.Token.{Token}
 use Rattle.dsl_rules.specs.Alphabet.{same}
 use Rattle.dsl_rules.specs.Grammar.{Rules}
-use Rattle.dsl_parser.specs.Codes.{kind_sort, sign_sort}
-use Rattle.dsl_parser.specs.Grammar.{Expr, Block, Target, target, target_of, target_of_kind, stepped, Maybe_set, maybe_set, set_value, evaluated, Setting, setting, assigned, SetTo, SetOrEval, VarStatement, Armed, armed, while_armed, Guarded, Choice, choice, choice_value, Otherwise, else_if, else_block, first_arm, add_else, ElseIf, Else, FirstChoice, Choices, IfStatement, WhileStatement, ForStatement, Define, ReturnStatement, DefineOrSet, ImportStatement, ThrowStatement, Common, AssignStatement, IgnoreStatement, BodyKind, BodyStatement, MaybeBodyStatement, BodyStatements, Body, Bodied, bodied, UseBody, Named, named, NamedBody, object_named, template_named, Heads, heads, OneHead, head_to, head_for, add_head, AnyHead, ApplyHeads, Headed, headed, applied, ApplyName, HeadedBody, ApplyStatement, ConstStatement, ObjectStatement, TemplateStatement, Kind}
-use Rattle.dsl_parser.specs.Lists.{add_member, add_index, add_arm, add_statement}
-use Rattle.dsl_parser.specs.Table.{to_member, to_index, step_on}
-use Rattle.dsl_parser.specs.Terms.{Name, Value}
-use Rattle.dsl_parser.proofs.Leading.{member_before, index_before, stepped_some}
+use Rattle.dsl_grammar.specs.Codes.{kind_sort, sign_sort}
+use Rattle.dsl_grammar.specs.Grammar.{Expr, Block, Target, target, target_of, target_of_kind, stepped, Maybe_set, maybe_set, set_value, evaluated, Setting, setting, assigned, SetTo, SetOrEval, VarStatement, while_armed, Guarded, Choice, choice, choice_value, Otherwise, else_if, else_block, first_arm, add_else, ElseIf, Else, FirstChoice, Choices, IfStatement, WhileStatement, ForStatement, Define, ReturnStatement, DefineOrSet, ImportStatement, ThrowStatement, Common, AssignStatement, IgnoreStatement, BodyKind, BodyStatement, MaybeBodyStatement, BodyStatements, Body, Bodied, bodied, UseBody, Named, named, NamedBody, object_named, template_named, Heads, heads, OneHead, head_to, head_for, add_head, AnyHead, ApplyHeads, Headed, headed, applied, ApplyName, HeadedBody, ApplyStatement, ConstStatement, ObjectStatement, TemplateStatement, Kind}
+use Rattle.dsl_syntax.specs.Lists.{Armed, armed, add_member, add_index, add_arm, add_statement, to_member, to_index}
+use Rattle.dsl_grammar.specs.Table.{step_on}
+use Rattle.dsl_grammar.specs.Terms.{Name, Value}
+use Rattle.dsl_grammar.proofs.Leading.{member_before, index_before, stepped_some}
 use Rattle.dsl_print.proofs.Good.{IsIdent, IsMaybeIdent, Where, in_block, in_body, is_body, has_arm, GoodRoot, Good, GoodKind, GoodMaybe, GoodMaybeLoop, GoodLoop, GoodUses, GoodSteps, GoodArms, GoodStatement, GoodStatements, GoodStatementKind}
 use Rattle.dsl_print.proofs.Keeping.{Keeps, Any, OfTurn, keeps_token, keeps_empty, keeps_both, keeps_behind, keeps_before, keeps_three, keeps_either, keeps_ahead, keeps_made, keeps_here, keeps_maybe, keeps_loop, keeps_nl, keeps_row, keeps_thing, keeps_rec_not}
 use Rattle.dsl_print.proofs.GivenExpressions.{keeps_IDENT, keeps_MaybeUse, keeps_Func, keeps_LoopHead, keeps_Slot}

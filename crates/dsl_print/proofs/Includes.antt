@@ -4,7 +4,7 @@ use Rattle.std.specs.Prelude.{codes}
 use Rattle.std.specs.Str.{IsUtf8}
 use Rattle.site_base.specs.Quoted.{quoted}
 use Rattle.site_base.specs.declared.place.Place.{Place}
-use Rattle.site_base.specs.Syntax.{include, include_library, include_all}
+use Rattle.dsl_syntax.specs.Syntax.{include, include_library, include_all}
 use Rattle.dsl_lexer.specs.Brackets.{keeps}
 use Rattle.dsl_lexer.specs.Letters.{goes_on}
 use Rattle.dsl_lexer.specs.Tokens.{quotes, IsToken}
@@ -13,9 +13,9 @@ use Rattle.dsl_lexer.specs.declared.sign.Sign.TheVariants as signs
 use Rattle.dsl_lexer.specs.declared.token_kind.TokenKind.TheVariants as kinds
 use Rattle.dsl_lexer.specs.declared.word.Word.TheVariants as words
 use Rattle.dsl_rules.specs.Grammar.{always}
-use Rattle.dsl_parser.specs.Codes.{sign_sort, word_sort, string_sort, ident_sort}
-use Rattle.dsl_parser.specs.Terms.{sign, IDENT, behind}
-use Rattle.dsl_parser.specs.Grammar.{dashed, Located, located, Dashed, AngledName, LibraryName, LocatedString, included, included_library, included_all, Included, IncludedAll, Inclusion}
+use Rattle.dsl_grammar.specs.Codes.{sign_sort, word_sort, string_sort, ident_sort}
+use Rattle.dsl_grammar.specs.Terms.{sign, IDENT, behind}
+use Rattle.dsl_grammar.specs.Grammar.{dashed, Located, located, Dashed, AngledName, LibraryName, LocatedString, included, included_library, included_all, Included, IncludedAll, Inclusion}
 use Rattle.dsl_print.specs.Bare.{bare_statement_kind}
 use Rattle.dsl_print.proofs.Good.{AreIdents, dashes, IsLibrary}
 use Rattle.dsl_print.proofs.Strings.{quoted_string, quoted_utf8}

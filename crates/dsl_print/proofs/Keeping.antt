@@ -11,8 +11,8 @@ use Rattle.dsl_lexer.specs.declared.token_kind.TokenKind.TheVariants as kinds
 use Rattle.dsl_rules.specs.Alphabet.{Sort, same, among, skip, over}
 use Rattle.dsl_rules.specs.Grammar.{Rules, Derives, one, empty, both, either, ahead, made, here, loop, chain, rec, rec_not, Pair, pair, left, right, always, fold_pair}
 use Rattle.dsl_rules.specs.Rules.{Rule as RuleOf, Turns}
-use Rattle.dsl_parser.specs.Codes.{sorts, line_sort}
-use Rattle.dsl_parser.specs.Terms.{Name, Value, Rule, behind, before, three, maybe, nl, listed, Turn, nothing, thing, add_turn, row_of}
+use Rattle.dsl_grammar.specs.Codes.{sorts, line_sort}
+use Rattle.dsl_grammar.specs.Terms.{Name, Value, Rule, behind, before, three, maybe, nl, listed, Turn, nothing, thing, add_turn, row_of}
 use Rattle.dsl_print.proofs.Good.{IsIdent, IsAmount}
 
 -- a token is good if it is a name that is no word, a number that some text stands for, a UTF-8 string, or of another kind

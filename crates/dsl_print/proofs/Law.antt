@@ -1,20 +1,20 @@
 -- A print is read back.
 use Rattle.std.proofs.Common.{◌≡◌, ℕ, List, [], ◌∷◌, ◌++◌, refl, sym, ap, ◌∙◌, subst, arith, append_assoc, append-nil}
-use Rattle.site_base.specs.Syntax.{Statements, no_statements, more_statements}
+use Rattle.dsl_syntax.specs.Syntax.{Statements, no_statements, more_statements}
 use Rattle.dsl_tree.specs.Spelling.{file_text, stmt_text, stmts_text}
 use Rattle.dsl_lexer.specs.Places.{start_of, place_behind}
 use Rattle.dsl_lexer.specs.Tokens.{Lexes, ends, token}
 use Rattle.dsl_lexer.specs.declared.token.Token.{Token}
 use Rattle.dsl_lexer.specs.declared.token_kind.TokenKind.TheVariants as kinds
 use Rattle.dsl_lexer.proofs.ListLaws.{lexes_whole, one_list}
-use Rattle.dsl_parser.specs.Files.{Outcome, tree_found, fault_at, deep_at_place, Parses, Holds, file_outcome}
-use Rattle.dsl_parser.specs.Parsing.{GivesTreeOrDeep}
-use Rattle.dsl_parser.specs.declared.parse_error.ParseError.{ParseError}
-use Rattle.dsl_parser.specs.declared.parse_error.ParseError.TheVariants as errors
-use Rattle.site_base.specs.declared.syntax.file.File.{File}
+use Rattle.dsl_grammar.specs.Files.{Outcome, tree_found, fault_at, deep_at_place, Parses, Holds, file_outcome}
+use Rattle.dsl_grammar.specs.Parsing.{GivesTreeOrDeep}
+use Rattle.dsl_grammar.specs.declared.parse_error.ParseError.{ParseError}
+use Rattle.dsl_grammar.specs.declared.parse_error.ParseError.TheVariants as errors
+use Rattle.dsl_syntax.specs.declared.file.File.{File}
 use Rattle.std.specs.Prelude.{Result, Ok, Err}
-use Rattle.dsl_parser.specs.Grammar.{FileStatements}
-use Rattle.dsl_parser.proofs.Place.{file_holds}
+use Rattle.dsl_grammar.specs.Grammar.{FileStatements}
+use Rattle.dsl_grammar.proofs.Place.{file_holds}
 use Rattle.dsl_print.specs.Bare.{bare_statements}
 use Rattle.dsl_print.specs.Printing.{HasTree, IsAlike, PrintIsTree, ComesTo, IsReadBack, GivesBack, IsParsedBack}
 use Rattle.dsl_print.proofs.Good.{GoodStatements, in_file}

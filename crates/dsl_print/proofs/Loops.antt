@@ -12,9 +12,9 @@ use Rattle.dsl_lexer.specs.declared.token.Token.{Token}
 use Rattle.dsl_rules.specs.Alphabet.{Sort, sort, same, among, at, skip, over, and}
 use Rattle.dsl_rules.specs.Grammar.{Derives, both, loop, chain, always, fold_pair, pair}
 use Rattle.dsl_rules.specs.Rules.{Turns, may}
-use Rattle.dsl_parser.specs.Codes.{sorts, line_sort}
-use Rattle.dsl_parser.specs.Terms.{Rule}
-use Rattle.dsl_parser.specs.Grammar.{names}
+use Rattle.dsl_grammar.specs.Codes.{sorts, line_sort}
+use Rattle.dsl_grammar.specs.Terms.{Rule}
+use Rattle.dsl_grammar.specs.Grammar.{names}
 use Rattle.dsl_print.proofs.Printed.{Front, one_of, opens_more, Prints, spells_both}
 
 -- turns behind a value that stands already

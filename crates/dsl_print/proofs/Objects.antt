@@ -1,13 +1,13 @@
 -- Objects and templates, constants, and rules of bodies, printed from their parts.
 use Rattle.std.proofs.Common.{◌≡◌, ℕ, List, [], ◌∷◌, ◌++◌, refl, ap, append_assoc}
 use Rattle.std.specs.Prelude.{codes}
-use Rattle.site_base.specs.Syntax.{Expression, Uses, Statements, object, template, assign, ignore, const}
+use Rattle.dsl_syntax.specs.Syntax.{Expression, Uses, Statements, object, template, assign, ignore, const}
 use Rattle.dsl_lexer.specs.declared.sign.Sign.{Sign}
 use Rattle.dsl_lexer.specs.declared.word.Word.TheVariants as words
 use Rattle.dsl_rules.specs.Grammar.{Pair, pair, left, right}
-use Rattle.dsl_parser.specs.Codes.{word_sort, ident_sort}
-use Rattle.dsl_parser.specs.Terms.{Rule, three}
-use Rattle.dsl_parser.specs.Grammar.{Expr, MaybeUse, Body, Bodied, bodied, UseBody, Named, named, NamedBody, object_named, template_named, ObjectStatement, TemplateStatement, ConstStatement, Kind, AssignStatement, IgnoreStatement, BodyKind}
+use Rattle.dsl_grammar.specs.Codes.{word_sort, ident_sort}
+use Rattle.dsl_grammar.specs.Terms.{Rule, three}
+use Rattle.dsl_grammar.specs.Grammar.{Expr, MaybeUse, Body, Bodied, bodied, UseBody, Named, named, NamedBody, object_named, template_named, ObjectStatement, TemplateStatement, ConstStatement, Kind, AssignStatement, IgnoreStatement, BodyKind}
 use Rattle.dsl_print.proofs.Good.{IsIdent}
 use Rattle.dsl_print.proofs.Keeping.{OfPair}
 use Rattle.dsl_print.proofs.Printed.{Front, one_of, Prints, prints_both, prints_made, prints_left, prints_right, prints_blank, prints_rest}

@@ -2,11 +2,11 @@
 use Rattle.std.proofs.Common.{◌≡◌, ℕ, suc, List, [], ◌∷◌, ◌++◌, Bool, true, refl, ap, ◌∙◌, subst, append_assoc, append-nil}
 use Rattle.std.specs.List.{list_all}
 use Rattle.site_base.specs.declared.place.Place.{Place}
-use Rattle.site_base.specs.declared.syntax.bin_op.BinOp.{BinOp}
-use Rattle.site_base.specs.declared.syntax.bin_op.BinOp.TheVariants as binary_ops
-use Rattle.site_base.specs.declared.syntax.un_op.UnOp.{UnOp}
-use Rattle.site_base.specs.declared.syntax.un_op.UnOp.TheVariants as unary_ops
-use Rattle.site_base.specs.Syntax.{Expression, expression, unary, binary}
+use Rattle.dsl_syntax.specs.declared.bin_op.BinOp.{BinOp}
+use Rattle.dsl_syntax.specs.declared.bin_op.BinOp.TheVariants as binary_ops
+use Rattle.dsl_syntax.specs.declared.un_op.UnOp.{UnOp}
+use Rattle.dsl_syntax.specs.declared.un_op.UnOp.TheVariants as unary_ops
+use Rattle.dsl_syntax.specs.Syntax.{Expression, expression, unary, binary}
 use Rattle.dsl_tree.specs.Operators.{unary_text, binary_text}
 use Rattle.dsl_lexer.specs.Brackets.{keeps, opened, opened_by}
 use Rattle.dsl_lexer.specs.Tokens.{IsToken}
@@ -17,9 +17,9 @@ use Rattle.dsl_lexer.specs.declared.token_kind.TokenKind.{TokenKind}
 use Rattle.dsl_lexer.specs.declared.token_kind.TokenKind.TheVariants as kinds
 use Rattle.dsl_rules.specs.Alphabet.{among}
 use Rattle.dsl_rules.specs.Grammar.{Pair, pair, left, right, fold_pair}
-use Rattle.dsl_parser.specs.Codes.{kind_sort, sign_sort}
-use Rattle.dsl_parser.specs.Operators.{level_sorts, binary_of, unary_of as unary_named, unary_sorts}
-use Rattle.dsl_parser.specs.Grammar.{Whole, Prim, Unary, Prefixed, Prefixes, Prefix, prefix, with_prefixes, Level, Operator, Begun, begun, joined}
+use Rattle.dsl_grammar.specs.Codes.{kind_sort, sign_sort}
+use Rattle.dsl_grammar.specs.Operators.{level_sorts, binary_of, unary_of as unary_named, unary_sorts}
+use Rattle.dsl_grammar.specs.Grammar.{Whole, Prim, Unary, Prefixed, Prefixes, Prefix, prefix, with_prefixes, Level, Operator, Begun, begun, joined}
 use Rattle.dsl_print.specs.Bare.{bare_expression, nowhere}
 use Rattle.dsl_print.proofs.Signs.{unary_sign}
 use Rattle.dsl_print.proofs.SignTokens.{binary_token}

@@ -14,9 +14,9 @@ use Rattle.dsl_lexer.specs.declared.token.Token.{Token}
 use Rattle.dsl_lexer.specs.declared.token_kind.TokenKind.{TokenKind}
 use Rattle.dsl_rules.specs.Alphabet.{Sort, sort, among, at}
 use Rattle.dsl_rules.specs.Grammar.{Derives, one, empty, both, either, ahead, made, here, rec, rec_not}
-use Rattle.dsl_parser.specs.Codes.{sorts, kind_sort, sign_sort}
-use Rattle.dsl_parser.specs.Terms.{Name, Value, Rule}
-use Rattle.dsl_parser.specs.Grammar.{names, production}
+use Rattle.dsl_grammar.specs.Codes.{sorts, kind_sort, sign_sort}
+use Rattle.dsl_grammar.specs.Terms.{Name, Value, Rule}
+use Rattle.dsl_grammar.specs.Grammar.{names, production}
 use Rattle.dsl_print.proofs.Ascii.{ascii_utf8}
 
 pub self_among : (s : Sort) → among s (s ∷ []) ≡ true

@@ -1,16 +1,16 @@
 -- Where statements stand, and rows of statements, printed from their parts.
 use Rattle.std.proofs.Common.{◌≡◌, ℕ, List, [], ◌∷◌, ◌++◌, true, false, refl, sym, ap, ◌∙◌, subst}
 use Rattle.site_base.specs.declared.place.Place.{Place}
-use Rattle.site_base.specs.Syntax.{Statement, statement, Statements, no_statements, more_statements, StatementKind}
+use Rattle.dsl_syntax.specs.Syntax.{Statement, statement, Statements, no_statements, more_statements, StatementKind}
 use Rattle.dsl_lexer.specs.Brackets.{keeps}
 use Rattle.dsl_lexer.specs.declared.sign.Sign.{Sign}
 use Rattle.dsl_lexer.specs.declared.sign.Sign.TheVariants as signs
 use Rattle.dsl_rules.specs.Alphabet.{Sort, among}
 use Rattle.dsl_rules.specs.Grammar.{one, always}
-use Rattle.dsl_parser.specs.Codes.{sign_sort, line_sort}
-use Rattle.dsl_parser.specs.Lists.{add_statement}
-use Rattle.dsl_parser.specs.Terms.{Rule, behind, maybe, Turn, nothing, thing, add_turn, row_of, sep, bsep}
-use Rattle.dsl_parser.specs.Grammar.{Common, Kind, BodyKind, TopKind, Inclusion, AnyStatement, BodyStatement, Top, MaybeStatement, MaybeBodyStatement, MaybeTop, BlockStatements, BodyStatements, FileStatements, Braced, Body}
+use Rattle.dsl_grammar.specs.Codes.{sign_sort, line_sort}
+use Rattle.dsl_syntax.specs.Lists.{add_statement}
+use Rattle.dsl_grammar.specs.Terms.{Rule, behind, maybe, Turn, nothing, thing, add_turn, row_of, sep, bsep}
+use Rattle.dsl_grammar.specs.Grammar.{Common, Kind, BodyKind, TopKind, Inclusion, AnyStatement, BodyStatement, Top, MaybeStatement, MaybeBodyStatement, MaybeTop, BlockStatements, BodyStatements, FileStatements, Braced, Body}
 use Rattle.dsl_tree.specs.Spelling.{braced}
 use Rattle.dsl_print.specs.Bare.{nowhere, bare_statements}
 use Rattle.dsl_print.proofs.Good.{Where, in_file, in_block, in_body, is_file, is_body}

@@ -1,8 +1,8 @@
 -- Assignments, printed from their parts.
 use Rattle.std.proofs.Common.{◌≡◌, ℕ, List, [], ◌∷◌, ◌++◌, true, false, cond, Some, None, refl, ap, ◌∙◌, append_assoc}
-use Rattle.site_base.specs.declared.syntax.set_op.SetOp.{SetOp}
-use Rattle.site_base.specs.declared.syntax.set_op.SetOp.TheVariants as sets
-use Rattle.site_base.specs.Syntax.{Root, at_name, at_this, at_globals, Expression, Steps, no_steps, member_step, index_step, StatementKind, eval, set}
+use Rattle.dsl_syntax.specs.declared.set_op.SetOp.{SetOp}
+use Rattle.dsl_syntax.specs.declared.set_op.SetOp.TheVariants as sets
+use Rattle.dsl_syntax.specs.Syntax.{Root, at_name, at_this, at_globals, Expression, Steps, no_steps, member_step, index_step, StatementKind, eval, set}
 use Rattle.dsl_lexer.specs.Brackets.{keeps}
 use Rattle.dsl_lexer.specs.declared.sign.Sign.{Sign}
 use Rattle.dsl_lexer.specs.declared.sign.Sign.TheVariants as signs
@@ -10,9 +10,9 @@ use Rattle.dsl_lexer.specs.declared.token.Token.{Token}
 use Rattle.dsl_lexer.specs.declared.token_kind.TokenKind.TheVariants as kinds
 use Rattle.dsl_rules.specs.Alphabet.{same, among}
 use Rattle.dsl_rules.specs.Grammar.{one}
-use Rattle.dsl_parser.specs.Codes.{kind_sort, sign_sort}
-use Rattle.dsl_parser.specs.Operators.{set_sorts, set_of}
-use Rattle.dsl_parser.specs.Grammar.{Expr, target, target_of, stepped, Maybe_set, maybe_set, set_value, may_set, evaluated, Setting, setting, assigned, SetTo, SetOrEval, DefineOrSet, Common}
+use Rattle.dsl_grammar.specs.Codes.{kind_sort, sign_sort}
+use Rattle.dsl_grammar.specs.Operators.{set_sorts, set_of}
+use Rattle.dsl_grammar.specs.Grammar.{Expr, target, target_of, stepped, Maybe_set, maybe_set, set_value, may_set, evaluated, Setting, setting, assigned, SetTo, SetOrEval, DefineOrSet, Common}
 use Rattle.dsl_tree.specs.Operators.{set_text}
 use Rattle.dsl_tree.specs.Spelling.{root_text}
 use Rattle.dsl_print.specs.Bare.{bare_steps, bare_statement_kind}

@@ -3,20 +3,21 @@ use Rattle.std.proofs.Common.{◌≡◌, ℕ, List, [], ◌∷◌, ◌++◌, Boo
 use Rattle.std.specs.Char.{is_ascii_digit}
 use Rattle.site_base.specs.Quoted.{quoted}
 use Rattle.site_base.specs.declared.place.Place.{Place}
-use Rattle.site_base.specs.declared.syntax.un_op.UnOp.{UnOp}
-use Rattle.site_base.specs.declared.syntax.un_op.UnOp.TheVariants as unary_ops
-use Rattle.site_base.specs.Syntax.{Expression, expression, ExpressionKind, null, this, globals, boolean, number, string, name, array, dictionary, member, index, call, unary, binary, function_value, Expressions, no_expressions, more_expressions, Entries, no_entries, more_entries, MaybeExpression, no_expression, some_expression, Uses, no_uses, more_uses, Statement, Statements, more_statements}
+use Rattle.dsl_syntax.specs.declared.un_op.UnOp.{UnOp}
+use Rattle.dsl_syntax.specs.declared.un_op.UnOp.TheVariants as unary_ops
+use Rattle.dsl_syntax.specs.Syntax.{Expression, expression, ExpressionKind, null, this, globals, boolean, number, string, name, array, dictionary, member, index, call, unary, binary, function_value, Expressions, no_expressions, more_expressions, Entries, no_entries, more_entries, MaybeExpression, no_expression, some_expression, Uses, no_uses, more_uses, Statement, Statements, more_statements}
 use Rattle.dsl_tree.specs.Spelling.{is_compound, is_dictionary, begins_with_brace, in_parentheses, expr_text, expr_kind_text, operand_text, exprs_text, entries_text, given_text, captures_text, uses_text}
 use Rattle.dsl_lexer.specs.Letters.{goes_on, is_name_byte}
 use Rattle.dsl_lexer.specs.declared.sign.Sign.{Sign}
 use Rattle.dsl_lexer.specs.declared.sign.Sign.TheVariants as signs
 use Rattle.dsl_lexer.specs.declared.word.Word.TheVariants as words
 use Rattle.dsl_rules.specs.Alphabet.{Sort, among}
-use Rattle.dsl_parser.specs.Codes.{word_sort, sign_sort, ident_sort, number_sort, string_sort}
-use Rattle.dsl_parser.specs.Lists.{add_expression, add_entry, add_use, add_statement}
-use Rattle.dsl_parser.specs.Grammar.{Whole, Prim, Postfix}
+use Rattle.dsl_grammar.specs.Codes.{word_sort, sign_sort, ident_sort, number_sort, string_sort}
+use Rattle.dsl_syntax.specs.Lists.{add_expression, add_entry, add_use, add_statement, join_expressions, join_entries, join_uses, join_statements}
+use Rattle.dsl_grammar.specs.Grammar.{Whole, Prim, Postfix}
 use Rattle.dsl_print.specs.Bare.{bare_expression, bare_expressions, bare_entries, bare_maybe, bare_uses, bare_statement, bare_statements}
-use Rattle.dsl_print.proofs.Joins.{join_expressions, bare_add_expression, join_add_expression, join_entries, bare_add_entry, join_add_entry, join_uses, bare_add_use, join_add_use, join_statements, bare_add_statement, join_add_statement}
+use Rattle.dsl_print.proofs.Joins.{bare_add_expression, bare_add_entry, bare_add_use, bare_add_statement}
+use Rattle.dsl_syntax.proofs.SyntaxLists.{join_add_expression, join_add_entry, join_add_use, join_add_statement}
 use Rattle.dsl_print.proofs.Signs.{unary_sign}
 use Rattle.dsl_print.proofs.Printed.{Front, one_of, Prints}
 use Rattle.dsl_print.proofs.Spelled.{IsEnd}

@@ -1,9 +1,9 @@
 -- The signs of a print as tokens.
 use Rattle.std.proofs.Common.{◌≡◌, ℕ, List, [], ◌∷◌, ◌++◌, Bool, true, false, Some, refl}
-use Rattle.site_base.specs.Syntax.{Expression}
-use Rattle.site_base.specs.declared.syntax.un_op.UnOp.{UnOp}
-use Rattle.site_base.specs.declared.syntax.bin_op.BinOp.{BinOp}
-use Rattle.site_base.specs.declared.syntax.set_op.SetOp.{SetOp}
+use Rattle.dsl_syntax.specs.Syntax.{Expression}
+use Rattle.dsl_syntax.specs.declared.un_op.UnOp.{UnOp}
+use Rattle.dsl_syntax.specs.declared.bin_op.BinOp.{BinOp}
+use Rattle.dsl_syntax.specs.declared.set_op.SetOp.{SetOp}
 use Rattle.dsl_tree.specs.Operators.{unary_text, binary_text, set_text}
 use Rattle.dsl_tree.specs.Spelling.{operand_text}
 use Rattle.dsl_lexer.specs.declared.sign.Sign.{Sign}

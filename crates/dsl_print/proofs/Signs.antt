@@ -3,12 +3,12 @@
 use Rattle.std.proofs.Common.{◌≡◌, ℕ, List, [], ◌∷◌, ◌++◌, true, false, cond, ◌&&◌, ◌==◌, codes, Option, Some, None, refl, ap, ◌∙◌, subst, arith}
 use Rattle.std.proofs.lemmas.Bool.Decides.{nat_tests}
 use Rattle.std.specs.List.{list_all}
-use Rattle.site_base.specs.declared.syntax.un_op.UnOp.{UnOp}
-use Rattle.site_base.specs.declared.syntax.un_op.UnOp.TheVariants as unary
-use Rattle.site_base.specs.declared.syntax.bin_op.BinOp.{BinOp}
-use Rattle.site_base.specs.declared.syntax.bin_op.BinOp.TheVariants as binary
-use Rattle.site_base.specs.declared.syntax.set_op.SetOp.{SetOp}
-use Rattle.site_base.specs.declared.syntax.set_op.SetOp.TheVariants as set
+use Rattle.dsl_syntax.specs.declared.un_op.UnOp.{UnOp}
+use Rattle.dsl_syntax.specs.declared.un_op.UnOp.TheVariants as unary
+use Rattle.dsl_syntax.specs.declared.bin_op.BinOp.{BinOp}
+use Rattle.dsl_syntax.specs.declared.bin_op.BinOp.TheVariants as binary
+use Rattle.dsl_syntax.specs.declared.set_op.SetOp.{SetOp}
+use Rattle.dsl_syntax.specs.declared.set_op.SetOp.TheVariants as set
 use Rattle.dsl_tree.specs.Operators.{unary_text, binary_text, set_text}
 use Rattle.dsl_lexer.specs.declared.sign.Sign.{Sign}
 use Rattle.dsl_lexer.specs.declared.sign.Sign.TheVariants as sign

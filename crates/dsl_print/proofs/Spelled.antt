@@ -19,8 +19,8 @@ use Rattle.dsl_lexer.specs.declared.token_kind.TokenKind.TheVariants as kinds
 use Rattle.dsl_lexer.proofs.WordLaws.{word_is_name}
 use Rattle.dsl_rules.specs.Alphabet.{Sort, among}
 use Rattle.dsl_rules.specs.Grammar.{one}
-use Rattle.dsl_parser.specs.Codes.{word_sort, sign_sort, ident_sort, string_sort, line_sort}
-use Rattle.dsl_parser.specs.Terms.{word, sign, IDENT, STRING}
+use Rattle.dsl_grammar.specs.Codes.{word_sort, sign_sort, ident_sort, string_sort, line_sort}
+use Rattle.dsl_grammar.specs.Terms.{word, sign, IDENT, STRING}
 use Rattle.dsl_print.proofs.Good.{IsIdent}
 use Rattle.dsl_print.proofs.Strings.{quoted_string, quoted_utf8}
 use Rattle.dsl_print.proofs.SignTokens.{open_paren_token, close_paren_token, open_bracket_token, close_bracket_token, brace_line_token, brace_blank_token, close_brace_token, comma_token, dot_token, set_token, arrow_token}

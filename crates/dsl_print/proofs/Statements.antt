@@ -1,14 +1,15 @@
 -- Statements that may stand in any place, printed from their parts.
 use Rattle.std.proofs.Common.{◌≡◌, ℕ, List, [], ◌∷◌, ◌++◌, true, false, refl, ap, ◌∙◌, append_assoc}
 use Rattle.std.specs.Prelude.{codes}
-use Rattle.site_base.specs.Syntax.{Expression, no_expression, some_expression, Loop, Function, Statements, StatementKind, import, throw, eval, var, while, for, define, return, break, continue}
+use Rattle.dsl_syntax.specs.Syntax.{Expression, no_expression, some_expression, Loop, Function, Statements, StatementKind, import, throw, eval, var, while, for, define, return, break, continue}
 use Rattle.dsl_lexer.specs.Letters.{goes_on}
 use Rattle.dsl_lexer.specs.declared.sign.Sign.{Sign}
 use Rattle.dsl_lexer.specs.declared.sign.Sign.TheVariants as signs
 use Rattle.dsl_lexer.specs.declared.word.Word.TheVariants as words
-use Rattle.dsl_parser.specs.Codes.{sign_sort, word_sort}
-use Rattle.dsl_parser.specs.Terms.{sign, behind, nl}
-use Rattle.dsl_parser.specs.Grammar.{Expr, Block, Func, LoopHead, Slot, Armed, armed, Guarded, while_armed, VarStatement, ImportStatement, ThrowStatement, WhileStatement, ForStatement, Define, ReturnStatement, DefineOrSet, set_value, SetOrEval, Common}
+use Rattle.dsl_grammar.specs.Codes.{sign_sort, word_sort}
+use Rattle.dsl_grammar.specs.Terms.{sign, behind, nl}
+use Rattle.dsl_grammar.specs.Grammar.{Expr, Block, Func, LoopHead, Slot, Guarded, while_armed, VarStatement, ImportStatement, ThrowStatement, WhileStatement, ForStatement, Define, ReturnStatement, DefineOrSet, set_value, SetOrEval, Common}
+use Rattle.dsl_syntax.specs.Lists.{Armed, armed}
 use Rattle.dsl_print.specs.Bare.{bare_statement_kind}
 use Rattle.dsl_print.proofs.Good.{IsIdent}
 use Rattle.dsl_print.proofs.Printed.{Front, anything, one_of, has_some, Prints, prints_both, prints_made, prints_left, prints_right, prints_ahead_left, prints_ahead_right, prints_here, prints_blank, prints_empty, prints_text}

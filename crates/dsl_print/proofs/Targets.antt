@@ -2,7 +2,7 @@
 use Rattle.std.proofs.Common.{◌≡◌, ℕ, List, [], ◌∷◌, ◌++◌, true, false, Some, refl, sym, ap, ◌∙◌, subst, append_assoc}
 use Rattle.std.specs.Prelude.{codes}
 use Rattle.site_base.specs.declared.place.Place.{Place}
-use Rattle.site_base.specs.Syntax.{Root, at_name, at_this, at_globals, Expression, Steps, no_steps, member_step, index_step}
+use Rattle.dsl_syntax.specs.Syntax.{Root, at_name, at_this, at_globals, Expression, Steps, no_steps, member_step, index_step}
 use Rattle.dsl_lexer.specs.Letters.{goes_on}
 use Rattle.dsl_lexer.specs.declared.sign.Sign.{Sign}
 use Rattle.dsl_lexer.specs.declared.sign.Sign.TheVariants as signs
@@ -11,16 +11,17 @@ use Rattle.dsl_lexer.specs.declared.token_kind.TokenKind.{TokenKind}
 use Rattle.dsl_lexer.specs.declared.token_kind.TokenKind.TheVariants as kinds
 use Rattle.dsl_rules.specs.Alphabet.{Sort}
 use Rattle.dsl_rules.specs.Grammar.{always}
-use Rattle.dsl_parser.specs.Codes.{kind_sort, sign_sort}
-use Rattle.dsl_parser.specs.Lists.{add_member, add_index}
-use Rattle.dsl_parser.specs.Grammar.{Expr, Literal, Prim, BegunPrim, Begun, begun, begun_expression, Tail, member_tail, with_tail, tail_sorts, OneTail, Postfix, Prefixed, Unary, Level, Whole, target, target_of, with_member, with_index}
+use Rattle.dsl_grammar.specs.Codes.{kind_sort, sign_sort}
+use Rattle.dsl_syntax.specs.Lists.{add_member, add_index, join_steps}
+use Rattle.dsl_grammar.specs.Grammar.{Expr, Literal, Prim, BegunPrim, Begun, begun, begun_expression, Tail, member_tail, with_tail, tail_sorts, OneTail, Postfix, Prefixed, Unary, Level, Whole, target, target_of, with_member, with_index}
 use Rattle.dsl_tree.specs.Spelling.{root_text, steps_text}
 use Rattle.dsl_print.specs.Bare.{bare_expression, bare_steps}
 use Rattle.dsl_print.proofs.Good.{IsIdent, GoodRoot}
 use Rattle.dsl_print.proofs.Printed.{Front, one_of, has_some, Prints, prints_both, prints_made, prints_left, prints_right, prints_ahead_right, prints_here, prints_rec, prints_one}
 use Rattle.dsl_print.proofs.Loops.{Further, turns_end, turns_more, prints_loop}
 use Rattle.dsl_print.proofs.Spelled.{prints_ident, prints_open_bracket, prints_close_bracket, prints_dot}
-use Rattle.dsl_print.proofs.Joins.{join_steps, bare_add_member, bare_add_index, join_add_member, join_add_index, join_no_steps}
+use Rattle.dsl_print.proofs.Joins.{bare_add_member, bare_add_index}
+use Rattle.dsl_syntax.proofs.SyntaxLists.{join_add_member, join_add_index, join_no_steps}
 use Rattle.dsl_print.proofs.Expressions.{IsIndex, level_of}
 use Rattle.dsl_print.proofs.Ascii.{ascii_utf8, names_utf8}
 use Rattle.dsl_print.proofs.Alike.{Is}

@@ -3,7 +3,7 @@ use Rattle.std.proofs.Common.{◌≡◌, ℕ, List, [], ◌∷◌, ◌++◌, Boo
 use Rattle.site_base.specs.Numbers.{number_text}
 use Rattle.site_base.specs.Quoted.{quoted}
 use Rattle.site_base.specs.declared.place.Place.{Place}
-use Rattle.site_base.specs.Syntax.{Root, Expression, expression, ExpressionKind, null, this, globals, boolean, number, string, name, array, dictionary, member, index, call, unary, binary, function_value, Expressions, no_expressions, more_expressions, Entries, no_entries, more_entries, MaybeExpression, no_expression, some_expression, Loop, loop, MaybeLoop, no_loop, some_loop, Function, function, Uses, no_uses, more_uses, Steps, no_steps, member_step, index_step, Arms, no_arms, more_arms, Statement, statement, Statements, no_statements, more_statements, StatementKind, object, template, apply, assign, ignore, import, throw, eval, include, include_library, include_all, const, var, set, choose, while, for, define, return, break, continue}
+use Rattle.dsl_syntax.specs.Syntax.{Root, Expression, expression, ExpressionKind, null, this, globals, boolean, number, string, name, array, dictionary, member, index, call, unary, binary, function_value, Expressions, no_expressions, more_expressions, Entries, no_entries, more_entries, MaybeExpression, no_expression, some_expression, Loop, loop, MaybeLoop, no_loop, some_loop, Function, function, Uses, no_uses, more_uses, Steps, no_steps, member_step, index_step, Arms, no_arms, more_arms, Statement, statement, Statements, no_statements, more_statements, StatementKind, object, template, apply, assign, ignore, import, throw, eval, include, include_library, include_all, const, var, set, choose, while, for, define, return, break, continue}
 use Rattle.dsl_tree.specs.Operators.{binary_text, set_text}
 use Rattle.dsl_tree.specs.Spelling.{is_compound, begins_with_brace, in_parentheses, braced, target_text, apply_name_text, apply_loop_text, expr_text, operand_text, expr_kind_text, exprs_text, entries_text, function_text, uses_text, given_text, loop_text, steps_text, arms_text, else_text, stmts_text, stmt_text, stmt_kind_text}
 use Rattle.dsl_lexer.specs.Brackets.{keeps}
@@ -12,15 +12,15 @@ use Rattle.dsl_lexer.specs.declared.sign.Sign.{Sign}
 use Rattle.dsl_lexer.specs.declared.sign.Sign.TheVariants as signs
 use Rattle.dsl_lexer.specs.declared.word.Word.TheVariants as words
 use Rattle.dsl_lexer.specs.declared.token_kind.TokenKind.TheVariants as kinds
-use Rattle.dsl_parser.specs.Codes.{sign_sort}
-use Rattle.dsl_parser.specs.Lists.{add_expression, add_entry, add_use, add_statement}
-use Rattle.dsl_parser.specs.Grammar.{ApplyName, heads, Common, Kind, BodyKind, Inclusion, Begun, Expr, Block, Whole, Prim, Elements, slots, slots_value, Arguments, Pairs, Func, MaybeUse, LoopHead}
+use Rattle.dsl_grammar.specs.Codes.{sign_sort}
+use Rattle.dsl_syntax.specs.Lists.{add_expression, add_entry, add_use, add_statement, join_expressions, join_entries, join_uses, join_statements}
+use Rattle.dsl_grammar.specs.Grammar.{ApplyName, heads, Common, Kind, BodyKind, Inclusion, Begun, Expr, Block, Whole, Prim, Elements, slots, slots_value, Arguments, Pairs, Func, MaybeUse, LoopHead}
 use Rattle.dsl_print.specs.Bare.{bare_expressions, bare_entries, bare_uses, bare_statements}
 use Rattle.dsl_print.proofs.Good.{Good, GoodKind, GoodAll, GoodEntries, GoodMaybe, GoodLoop, GoodMaybeLoop, GoodFunction, GoodUses, GoodSteps, GoodArms, GoodStatement, GoodStatements, GoodStatementKind, Where, is_file, is_body, in_block, in_body}
 use Rattle.dsl_print.proofs.Strings.{quoted_string, quoted_utf8}
 use Rattle.dsl_print.proofs.Amounts.{amount_read, amount_utf8, amount_ends}
 use Rattle.dsl_print.proofs.SignTokens.{unary_token}
-use Rattle.dsl_print.proofs.Joins.{join_expressions, join_no_expressions, join_entries, join_no_entries, join_uses, join_no_uses, join_statements, join_no_statements}
+use Rattle.dsl_syntax.proofs.SyntaxLists.{join_no_expressions, join_no_entries, join_no_uses, join_no_statements}
 use Rattle.dsl_print.proofs.Printed.{Front, anything, some, no_brace, one_of, opens_some, Prints, prints_rec, prints_text, prints_wide}
 use Rattle.dsl_print.proofs.Loops.{turns_end}
 use Rattle.dsl_print.proofs.Spelled.{IsEnd, keeps_brace}

@@ -1,16 +1,16 @@
 -- What a print is when it is read again.
 use Rattle.std.specs.Prelude.{ℕ, ◌≡◌, List, None, Result, Ok, Err}
-use Rattle.site_base.specs.Syntax.{Statements}
-use Rattle.site_base.specs.SyntaxView.{file_view}
-use Rattle.site_base.specs.declared.syntax.file.File.{File}
+use Rattle.dsl_syntax.specs.Syntax.{Statements}
+use Rattle.dsl_syntax.specs.SyntaxView.{file_view}
+use Rattle.dsl_syntax.specs.declared.file.File.{File}
 use Rattle.dsl_tree.specs.Spelling.{file_text}
 use Rattle.dsl_lexer.specs.Lists.{HasTokens}
 use Rattle.dsl_lexer.specs.declared.token.Token.{Token}
-use Rattle.dsl_parser.specs.Depth.{IsFirstDeep}
-use Rattle.dsl_parser.specs.Files.{Outcome, tree_found, fault_at, deep_at_place, IsDeepFault, Parses, file_outcome}
-use Rattle.dsl_parser.specs.Parsing.{GivesOnly}
-use Rattle.dsl_parser.specs.declared.parse_error.ParseError.{ParseError}
-use Rattle.dsl_parser.specs.declared.parse_error.ParseError.TheVariants as errors
+use Rattle.dsl_depth.specs.Depth.{IsFirstDeep}
+use Rattle.dsl_grammar.specs.Files.{Outcome, tree_found, fault_at, deep_at_place, IsDeepFault, Parses, file_outcome}
+use Rattle.dsl_grammar.specs.Parsing.{GivesOnly}
+use Rattle.dsl_grammar.specs.declared.parse_error.ParseError.{ParseError}
+use Rattle.dsl_grammar.specs.declared.parse_error.ParseError.TheVariants as errors
 use Rattle.dsl_print.specs.Bare.{bare_statements}
 
 -- two trees that differ in places alone

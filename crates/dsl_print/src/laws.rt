@@ -1,6 +1,6 @@
 // The law of prints.
 ghost use Rattle.std.specs.Prelude.{List, ℕ};
-ghost use Rattle.site_base.specs.Syntax.{Statements};
+ghost use Rattle.dsl_syntax.specs.Syntax.{Statements};
 ghost use Rattle.dsl_print.specs.Printing.{HasTree, IsParsedBack, IsReadBack, PrintIsTree};
 
 /// The print of each tree that the grammar gives for a file is a file again: its tokens stand in the grammar's relation with

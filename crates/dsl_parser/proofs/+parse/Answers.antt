@@ -1,26 +1,26 @@
 use Rattle.std.proofs.Common.{rules, ◌≡◌, ◌+◌, ◌-◌, [], ◌∷◌, true, sym, subst, arith, suc, false, ◌∙◌, nat_eq, length, ap}
-use Rattle.site_base.specs.Syntax.{break, continue}
-use Rattle.site_base.specs.SyntaxView.{expr_view, exprs_view, entries_view, uses_view, maybe_expr_view, stmts_view}
+use Rattle.dsl_syntax.specs.Syntax.{break, continue}
+use Rattle.dsl_syntax.specs.SyntaxView.{expr_view, exprs_view, entries_view, uses_view, maybe_expr_view, stmts_view}
 use Rattle.dsl_rules.specs.Alphabet.{at, over}
 use Rattle.dsl_rules.specs.Grammar.{both, pair, fold_pair, one}
 use Rattle.dsl_rules.specs.Reading.{got, ◌>>=◌}
 use Rattle.dsl_rules.specs.Rules.{may}
-use Rattle.dsl_parser.proofs.Assigning.{eval_alone, set_read, set_target}
-use Rattle.dsl_parser.proofs.Commons.{read_common, one_word}
-use Rattle.dsl_parser.proofs.Firsts.{first_AnyStatement, first_BodyStatement}
-use Rattle.dsl_parser.proofs.LevelReads.{expr_none, expr_on, level_none, level_on}
-use Rattle.dsl_parser.proofs.MadeTurns.{step_at, step_may, turned}
-use Rattle.dsl_parser.proofs.Rows.{row_step, thing_read, thing_is, thing_absent, reads_none, reads_on, name_sorts, name_read, name_is, name_absent}
-use Rattle.dsl_parser.specs.Codes.{sorts, sign_sort, word_sort}
-use Rattle.dsl_parser.specs.ExprParts.{operand_view, slots_view}
-use Rattle.dsl_parser.specs.Gives.{Gives}
-use Rattle.dsl_parser.specs.Grammar.{Expr, OneTail, tail_sorts, with_tail, Level, Operator, joined, CommaSlot, add_slot, may_follow, MaybePair, add_pair, OneUse, add_captured, AnyHead, AnyStatement, BodyStatement, MaybeBodyStatement, MaybeStatement, add_head, body_sorts, may_head, statement_sorts, Else, may_else, add_else}
-use Rattle.dsl_parser.specs.Lists.{add_expression}
-use Rattle.dsl_parser.specs.NamedView.{head_sorts, heads_view}
-use Rattle.dsl_parser.specs.Operators.{level_sorts}
-use Rattle.dsl_parser.specs.Parts.{choice_view}
-use Rattle.dsl_parser.specs.Reading.{read_by}
-use Rattle.dsl_parser.specs.Terms.{behind, sign, bsep, add_turn, block, sep}
+use Rattle.dsl_parts.proofs.Assigning.{eval_alone, set_read, set_target}
+use Rattle.dsl_grammar.proofs.Commons.{read_common, one_word}
+use Rattle.dsl_grammar.proofs.Firsts.{first_AnyStatement, first_BodyStatement}
+use Rattle.dsl_grammar.proofs.LevelReads.{expr_none, expr_on, level_none, level_on}
+use Rattle.dsl_parts.proofs.MadeTurns.{step_at, step_may, turned}
+use Rattle.dsl_parts.proofs.Rows.{row_step, thing_read, thing_is, thing_absent, reads_none, reads_on, name_sorts, name_read, name_is, name_absent}
+use Rattle.dsl_grammar.specs.Codes.{sorts, sign_sort, word_sort}
+use Rattle.dsl_parts.specs.ExprParts.{operand_view, slots_view}
+use Rattle.dsl_parts.specs.Gives.{Gives}
+use Rattle.dsl_grammar.specs.Grammar.{Expr, OneTail, tail_sorts, with_tail, Level, Operator, joined, CommaSlot, add_slot, may_follow, MaybePair, add_pair, OneUse, add_captured, AnyHead, AnyStatement, BodyStatement, MaybeBodyStatement, MaybeStatement, add_head, body_sorts, may_head, statement_sorts, Else, may_else, add_else}
+use Rattle.dsl_syntax.specs.Lists.{add_expression}
+use Rattle.dsl_parts.specs.NamedView.{head_sorts, heads_view}
+use Rattle.dsl_grammar.specs.Operators.{level_sorts}
+use Rattle.dsl_parts.specs.Parts.{choice_view}
+use Rattle.dsl_grammar.specs.Reading.{read_by}
+use Rattle.dsl_grammar.specs.Terms.{behind, sign, bsep, add_turn, block, sep}
 use Rattle.dsl_lexer.specs.declared.sign.Sign.TheVariants as signs
 use Rattle.dsl_parser.proofs.+parse.Goals as goal
 use Rattle.dsl_lexer.specs.declared.word.Word.TheVariants as words

@@ -1,17 +1,17 @@
 use Rattle.std.proofs.Common.{◌≡◌, ◌+◌, ◌-◌, ◌*◌, [], ◌∷◌, false, true}
-use Rattle.site_base.specs.SyntaxView.{exprs_view, entries_view, uses_view, stmts_view}
+use Rattle.dsl_syntax.specs.SyntaxView.{exprs_view, entries_view, uses_view, stmts_view}
 use Rattle.dsl_rules.specs.Grammar.{always, fold_pair, both, pair, chain, one}
 use Rattle.dsl_rules.specs.Reading.{turns}
-use Rattle.dsl_parser.proofs.Rows.{row_from}
-use Rattle.dsl_parser.specs.Codes.{sorts, sign_sort, word_sort}
-use Rattle.dsl_parser.specs.ExprParts.{operand_view, slots_view}
-use Rattle.dsl_parser.specs.Grammar.{Expr, Postfix, OneTail, Listed, tail_sorts, with_tail, Level, Operator, joined, Elements, CommaSlot, add_slot, may_follow, Pairs, MaybePair, add_pair, UseNames, OneUse, add_captured, AnyHead, ApplyHeads, BlockStatements, BodyStatements, MaybeBodyStatement, MaybeStatement, add_head, may_head, Choices, Else, may_else, add_else}
-use Rattle.dsl_parser.specs.Lists.{add_expression}
-use Rattle.dsl_parser.specs.NamedView.{head_sorts, heads_view}
-use Rattle.dsl_parser.specs.Operators.{level_sorts}
-use Rattle.dsl_parser.specs.Parts.{choice_view}
-use Rattle.dsl_parser.specs.Reading.{read_by}
-use Rattle.dsl_parser.specs.Terms.{behind, sign, bsep, add_turn, sep}
+use Rattle.dsl_parts.proofs.Rows.{row_from}
+use Rattle.dsl_grammar.specs.Codes.{sorts, sign_sort, word_sort}
+use Rattle.dsl_parts.specs.ExprParts.{operand_view, slots_view}
+use Rattle.dsl_grammar.specs.Grammar.{Expr, Postfix, OneTail, Listed, tail_sorts, with_tail, Level, Operator, joined, Elements, CommaSlot, add_slot, may_follow, Pairs, MaybePair, add_pair, UseNames, OneUse, add_captured, AnyHead, ApplyHeads, BlockStatements, BodyStatements, MaybeBodyStatement, MaybeStatement, add_head, may_head, Choices, Else, may_else, add_else}
+use Rattle.dsl_syntax.specs.Lists.{add_expression}
+use Rattle.dsl_parts.specs.NamedView.{head_sorts, heads_view}
+use Rattle.dsl_grammar.specs.Operators.{level_sorts}
+use Rattle.dsl_parts.specs.Parts.{choice_view}
+use Rattle.dsl_grammar.specs.Reading.{read_by}
+use Rattle.dsl_grammar.specs.Terms.{behind, sign, bsep, add_turn, sep}
 use Rattle.dsl_lexer.specs.declared.sign.Sign.TheVariants as signs
 use Rattle.dsl_parser.proofs.+parse.Given as goal
 use Rattle.dsl_lexer.specs.declared.word.Word.TheVariants as words

@@ -1,10 +1,10 @@
 use Rattle.std.proofs.Common.{rules, ◌≡◌, ◌+◌, ◌-◌, suc, true, sym, ◌∙◌, arith}
-use Rattle.site_base.specs.SyntaxView.{stmts_view}
+use Rattle.dsl_syntax.specs.SyntaxView.{stmts_view}
 use Rattle.dsl_rules.specs.Alphabet.{at}
-use Rattle.dsl_parser.specs.Codes.{sorts}
-use Rattle.dsl_parser.specs.Grammar.{MaybeTop}
-use Rattle.dsl_parser.specs.Terms.{sep}
-use Rattle.dsl_parser.proofs.Rows.{row_step}
+use Rattle.dsl_grammar.specs.Codes.{sorts}
+use Rattle.dsl_grammar.specs.Grammar.{MaybeTop}
+use Rattle.dsl_grammar.specs.Terms.{sep}
+use Rattle.dsl_parts.proofs.Rows.{row_step}
 use Rattle.dsl_parser.proofs.files.file_statements.Goals as goal
 
 pub loop-preserved : goal.loop-preserved

@@ -1,9 +1,9 @@
 use Rattle.std.proofs.Common.{◌≡◌, ◌-◌}
-use Rattle.site_base.specs.SyntaxView.{stmts_view}
-use Rattle.dsl_parser.specs.Grammar.{FileStatements, MaybeTop}
-use Rattle.dsl_parser.specs.Reading.{read_by}
-use Rattle.dsl_parser.specs.Terms.{sep}
-use Rattle.dsl_parser.proofs.Rows.{row_from}
+use Rattle.dsl_syntax.specs.SyntaxView.{stmts_view}
+use Rattle.dsl_grammar.specs.Grammar.{FileStatements, MaybeTop}
+use Rattle.dsl_grammar.specs.Reading.{read_by}
+use Rattle.dsl_grammar.specs.Terms.{sep}
+use Rattle.dsl_parts.proofs.Rows.{row_from}
 use Rattle.dsl_parser.proofs.files.file_statements.Given as goal
 
 -- what the rest gives from here on is what all gives

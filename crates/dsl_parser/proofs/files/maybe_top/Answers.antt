@@ -1,11 +1,11 @@
 use Rattle.std.proofs.Common.{rules, ◌≡◌, true, false, sym, subst}
-use Rattle.site_base.specs.SyntaxView.{stmts_view}
+use Rattle.dsl_syntax.specs.SyntaxView.{stmts_view}
 use Rattle.dsl_rules.specs.Alphabet.{at}
-use Rattle.dsl_parser.specs.Codes.{sorts}
-use Rattle.dsl_parser.specs.Gives.{Gives}
-use Rattle.dsl_parser.specs.Grammar.{MaybeTop, Top, top_sorts}
-use Rattle.dsl_parser.proofs.Firsts.{first_Top}
-use Rattle.dsl_parser.proofs.Rows.{thing_read, thing_is, thing_absent}
+use Rattle.dsl_grammar.specs.Codes.{sorts}
+use Rattle.dsl_parts.specs.Gives.{Gives}
+use Rattle.dsl_grammar.specs.Grammar.{MaybeTop, Top, top_sorts}
+use Rattle.dsl_grammar.proofs.Firsts.{first_Top}
+use Rattle.dsl_parts.proofs.Rows.{thing_read, thing_is, thing_absent}
 use Rattle.dsl_parser.proofs.files.maybe_top.Goals as goal
 
 pub returns-then-not-at_top : goal.returns-then-not-at_top

@@ -1,4 +1,4 @@
-use Rattle.dsl_parser.proofs.Outcomes.{tree_given, shallow_given, only_given, fault_given}
+use Rattle.dsl_grammar.proofs.Outcomes.{tree_given, shallow_given, only_given, fault_given}
 use Rattle.dsl_parser.proofs.parsing.parse.Goals as goal
 
 pub returns-clause-tree : goal.returns-clause-tree

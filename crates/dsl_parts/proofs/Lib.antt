@@ -1,0 +1,6 @@
+pub mod MadeTurns
+pub mod Steps
+pub mod Arms
+pub mod Assigning
+pub mod PartLists
+pub mod Rows

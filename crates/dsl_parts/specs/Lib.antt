@@ -1,0 +1,4 @@
+pub mod Gives
+pub mod ExprParts
+pub mod NamedView
+pub mod Parts

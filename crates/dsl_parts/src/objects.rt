@@ -1,0 +1,57 @@
+// Objects and templates.
+ghost use Rattle.std.specs.Prelude.{◌≡◌, ◌<◌, IfOk};
+ghost use Rattle.dsl_grammar.specs.Grammar.{bodied, object_named, template_named};
+ghost use Rattle.dsl_parts.specs.NamedView.{bodied_view, named_view};
+ghost use Rattle.dsl_syntax.specs.SyntaxView.{stmt_kind_view, stmts_view, uses_view};
+
+use dsl_syntax::{Block, Expr, Stmt, StmtKind, Use};
+use site_base::Text;
+use std::alloc::{AllocError, Global};
+use std::sync::Arc;
+
+/// Captured names, and a body.
+#[derive(Debug, Drop)]
+pub struct Bodied {
+    pub uses: Vec<Use>,
+    pub body: Arc<Block>,
+}
+
+/// A type, a name and a body.
+#[derive(Debug, Drop)]
+pub struct Named {
+    pub kind: Text,
+    pub name: Expr,
+    pub bodied: Bodied,
+}
+
+/// Captured names and the body of these statements.
+pub fn bodied_of(alloc: Global, uses: Vec<Use>, statements: Vec<Stmt>) -> Result<Bodied, AllocError>
+    ensures { IfOk result (λ b. bodied_view b ≡ bodied (uses_view uses.items) (stmts_view statements.items)) }
+{
+    let body = Arc::new(alloc, Block { statements })?;
+    Ok(Bodied { uses, body })
+}
+
+/// An object.
+pub fn object_of(named: Named) -> StmtKind
+    ensures { stmt_kind_view result ≡ object_named (named_view named) }
+{
+    StmtKind::Object {
+        kind: named.kind,
+        name: named.name,
+        uses: named.bodied.uses,
+        body: named.bodied.body,
+    }
+}
+
+/// A template.
+pub fn template_of(named: Named) -> StmtKind
+    ensures { stmt_kind_view result ≡ template_named (named_view named) }
+{
+    StmtKind::Template {
+        kind: named.kind,
+        name: named.name,
+        uses: named.bodied.uses,
+        body: named.bodied.body,
+    }
+}
