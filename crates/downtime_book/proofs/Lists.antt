@@ -1,6 +1,5 @@
 -- Lemmas on lists that std lacks: filters together, with `map`, and along a permutation.
 use Rattle.std.proofs.Common.{◌≡◌, ℕ, zero, suc, ◌<◌, ◌≤◌, Bool, true, false, not, ◌&&◌, ◌||◌, cond, List, [], ◌∷◌, ◌++◌, map, filter, length, get_or, set, take, drop, swap, refl, sym, ap, ◌∙◌, arith, IsPermutation, ◌+◌, add-one}
-use Rattle.std.proofs.Math.Seq.{take-append_seam}
 use Rattle.std.specs.List.{list_any, AllWithin}
 use Rattle.std.specs.List.Sorted.{IsPartitionPoint}
 use Rattle.std.proofs.lemmas.List.Sorted.{IsPermutation-refl, IsPermutation-cons, IsPermutation-trans, IsPermutation-append_comm, IsPermutation-append_left, IsPermutation-keeps}
@@ -65,10 +64,6 @@ module _ {X : Type 0} where
   set_same [] i x h e = absurd (omega arith)
   set_same (y ∷ xs) zero x h e = ap (λ z. z ∷ xs) e
   set_same (y ∷ xs) (suc i) x h e = ap (λ r. y ∷ r) (set_same xs i x (omega arith) e)
-
-  -- a list that was written over another as long
-  pub refilled : (xs ys : List X) (n : ℕ) → n ≡ length xs → take n (xs ++ ys) ≡ xs
-  refilled xs ys n e = ap (λ k. take k (xs ++ ys)) e ∙ take-append_seam xs ys
 
   -- a function that changes no element changes no list
   pub map_same : (f : X → X) → ((x : X) → f x ≡ x) → (xs : List X) → map f xs ≡ xs

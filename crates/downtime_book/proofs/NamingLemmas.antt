@@ -1,6 +1,7 @@
 -- Which downtime is named: along a permutation, past what isn't in effect, and in the rule's own words.
-use Rattle.std.proofs.Common.{◌≡◌, ℕ, suc, ◌<◌, ◌≤◌, ◌⊎◌, inl, inr, Bool, true, false, ◌&&◌, cond, Option, Some, None, MatchOption, List, [], ◌∷◌, length, get_or, map, filter, IsPermutation, refl, sym, ap, ap₂, ◌∙◌, subst, arith, ◌+◌, drop, drop-cons, add-one}
-use Rattle.std.specs.List.{All, Any}
+use Rattle.std.proofs.Common.{◌≡◌, ℕ, suc, ◌<◌, ◌≤◌, ◌⊎◌, inl, inr, Bool, true, false, ◌&&◌, cond, Option, Some, None, MatchOption, List, [], ◌∷◌, map, filter, IsPermutation, refl, sym, ap, ap₂, ◌∙◌, subst, arith}
+use Rattle.std.specs.List.{All, Any, fold, reduce}
+use Rattle.std.specs.Option.{IsSomeAnd}
 use Rattle.std.proofs.lemmas.Bool.{true≢false}
 use Rattle.std.proofs.lemmas.Bool.Decides.{nat_tests}
 use Rattle.std.proofs.lemmas.List.Elements.{All-nil, All-cons, All-weaker}
@@ -122,38 +123,42 @@ module _ (m : ℕ) where
       ] in
       by (q x) refl
 
--- the least of what is known so far and of the rest
-abbrev pub merged : Option Rank → Option Rank → Option Rank
-merged None o = o
-merged (Some a) o = Some (lesser a o)
-
-pub merged_more : (first : Option Rank) (b : Rank) (o : Option Rank) → merged (Some (lesser b first)) o ≡ merged first (Some (lesser b o))
-merged_more None b o = refl
-merged_more (Some a) b o = ap (λ z. Some z) (lesser_group b a o ∙ lesser_turn b a o)
-
 rank_of-after_result : (m : ℕ) (p : Bool) (d : Downtime) → rank_of (after_result m p d) ≡ rank_of d
 rank_of-after_result m p d =
     let e : Downtime = record d { kind = triggered_at m d.kind } in
     elim (p && is_triggered_by m d) as (λ b. rank_of (cond b e d) ≡ rank_of d) [ true ↦ refl | false ↦ refl ]
 
--- one more, and the rest
-module _ (m : ℕ) (p : Bool) (xs : List Downtime) (i : ℕ) (x : Downtime) (h : i < length xs) (is : x ≡ get_or xs i x) where
-  least_drop : least m (map (after_result m p) (drop i xs)) ≡ cond (is_in_effect m (after_result m p x)) (Some (lesser (rank_of (after_result m p x)) (least m (map (after_result m p) (drop (i + 1) xs))))) (least m (map (after_result m p) (drop (i + 1) xs)))
-  least_drop =
-      let split : drop i xs ≡ x ∷ drop (i + 1) xs = rw add-one (drop-cons xs i x h ∙ ap (λ z. z ∷ drop (suc i) xs) (sym is)) in
-      ap (λ (l : List Downtime). least m (map (after_result m p) l)) split
+-- ---- the first of those that are in effect, by a pick between two ranks
+module _ (pick : Rank → Rank → Rank) (picks : (a b : Rank) → pick a b ≡ lesser a (Some b)) (m : ℕ) (p : Bool) where
+  abbrev kept : List Downtime → List Rank
+  kept xs = map rank_of (filter (λ d. is_in_effect m (after_result m p d)) xs)
 
-  pub least_takes : (first : Option Rank) → is_in_effect m (after_result m p x) ≡ true → merged first (least m (map (after_result m p) (drop i xs))) ≡ merged (Some (lesser (rank_of x) first)) (least m (map (after_result m p) (drop (i + 1) xs)))
-  least_takes first e =
-      let o = least m (map (after_result m p) (drop (i + 1) xs)) in
-      let here : least m (map (after_result m p) (drop i xs)) ≡ Some (lesser (rank_of x) o) =
-      least_drop ∙ ap (λ (b : Bool). cond b (Some (lesser (rank_of (after_result m p x)) o)) o) e ∙ ap (λ (r : Rank). Some (lesser r o)) (rank_of-after_result m p x) in
-      ap (merged first) here ∙ sym (merged_more first (rank_of x) o)
+  fold-kept : (r : Rank) (xs : List Downtime) → fold pick r (kept xs) ≡ lesser r (least m (map (after_result m p) xs))
+  fold-kept r [] = refl
+  fold-kept r (x ∷ xs) =
+      let rest = kept xs in
+      let o = least m (map (after_result m p) xs) in
+      let y = after_result m p x in
+      elim (is_in_effect m y) as (λ b. fold pick r (map rank_of (cond b (x ∷ filter (λ d. is_in_effect m (after_result m p d)) xs) (filter (λ d. is_in_effect m (after_result m p d)) xs))) ≡ lesser r (cond b (Some (lesser (rank_of y) o)) o)) [
+        | true ↦ ap (λ (z : Rank). fold pick z rest) (picks r (rank_of x)) ∙ fold-kept (lesser r (Some (rank_of x))) xs ∙ lesser_group r (rank_of x) o ∙ ap (λ (z : Rank). lesser r (Some (lesser z o))) (sym (rank_of-after_result m p x))
+        | false ↦ fold-kept r xs
+      ]
 
-  pub least_leaves : (first : Option Rank) → is_in_effect m (after_result m p x) ≡ false → merged first (least m (map (after_result m p) (drop i xs))) ≡ merged first (least m (map (after_result m p) (drop (i + 1) xs)))
-  least_leaves first e =
-      let o = least m (map (after_result m p) (drop (i + 1) xs)) in
-      ap (merged first) (least_drop ∙ ap (λ (b : Bool). cond b (Some (lesser (rank_of (after_result m p x)) o)) o) e)
+  pub reduce-kept : (xs : List Downtime) → reduce pick (map rank_of (filter (λ d. is_in_effect m (after_result m p d)) xs)) ≡ least m (map (after_result m p) xs)
+  reduce-kept [] = refl
+  reduce-kept (x ∷ xs) =
+      let o = least m (map (after_result m p) xs) in
+      let y = after_result m p x in
+      elim (is_in_effect m y) as (λ b. reduce pick (map rank_of (cond b (x ∷ filter (λ d. is_in_effect m (after_result m p d)) xs) (filter (λ d. is_in_effect m (after_result m p d)) xs))) ≡ cond b (Some (lesser (rank_of y) o)) o) [
+        | true ↦ ap (λ (z : Rank). Some z) (fold-kept (rank_of x) xs ∙ ap (λ (z : Rank). lesser z o) (sym (rank_of-after_result m p x)))
+        | false ↦ reduce-kept xs
+      ]
+
+-- the number of the rank, if there is one
+pub number_given : (o : Option Rank) (r : Option ℕ) (post : Rank → ℕ → Type 0) → MatchOption o (r ≡ None) (λ x. IsSomeAnd r (post x)) → ((x : Rank) (n : ℕ) → post x n → n ≡ x.number) → r ≡ number_of o
+number_given None r post h given = h
+number_given (Some x) None post h given = absurd h
+number_given (Some x) (Some n) post h given = ap (λ (k : ℕ). Some k) (given x n h)
 
 -- ---- in the rule's own words
 module _ (m : ℕ) where

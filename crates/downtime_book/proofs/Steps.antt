@@ -1,9 +1,9 @@
 -- What each call of a book leaves and answers, by the calls that the book stands for.
-use Rattle.std.proofs.Common.{◌+◌, ◌≡◌, ℕ, ◌≤◌, Bool, true, false, not, ◌&&◌, ◌==◌, nat_lt, nat_le, cond, Some, None, List, [], ◌∷◌, ◌++◌, map, filter, length, insert, IsPermutation, refl, sym, ap, ◌∙◌, subst, arith, append-nil}
+use Rattle.std.proofs.Common.{◌+◌, ◌≡◌, ℕ, ◌≤◌, Bool, true, false, not, ◌&&◌, ◌==◌, nat_lt, nat_le, cond, Some, None, List, [], ◌∷◌, ◌++◌, map, filter, length, IsPermutation, refl, sym, ap, ◌∙◌, subst, arith, append-nil}
 use Rattle.std.specs.List.{list_any}
 use Rattle.std.proofs.lemmas.Bool.{le-ltb, ltb-false, and_right}
 use Rattle.std.proofs.lemmas.List.Elements.{filter-append}
-use Rattle.std.proofs.lemmas.List.Sorted.{IsPermutation-cons, IsPermutation-trans, IsPermutation-append_comm, IsPermutation-insert, IsPermutation-map, list_any-IsPermutation, length_permutation}
+use Rattle.std.proofs.lemmas.List.Sorted.{IsPermutation-cons, IsPermutation-trans, IsPermutation-append_comm, IsPermutation-map, list_any-IsPermutation, length_permutation}
 use Rattle.downtime_book.specs.declared.downtime.Downtime.{Downtime}
 use Rattle.downtime_book.specs.declared.kind.Kind.{Kind}
 use Rattle.downtime_book.specs.declared.kind.Kind.TheVariants.{Fixed, Flexible}
@@ -45,14 +45,13 @@ module _ (book : Contents) (h : List Call) (n s e : ℕ) (f : Bool) (d : ℕ) wh
       let x = downtime_of n s e f d [] in
       ap (λ (k : ℕ). filter (is_live k) (downtimes (h ++ added n s e f d ∷ []))) (latest-added n s e f d h) ∙ ap (filter (is_live (latest h))) (downtimes-added n s e f d h) ∙ filter-append (is_live (latest h)) (downtimes h) (x ∷ [])
 
-  pub StandsFor-added : (place : ℕ) (kept : List Downtime) → StandsFor book h → is_live book.latest (downtime_of n s e f d []) ≡ true → kept ≡ insert book.downtimes place (downtime_of n s e f d []) → StandsFor (contents book.latest kept) (h ++ added n s e f d ∷ [])
-  StandsFor-added place kept st live is =
+  pub StandsFor-added : (kept : List Downtime) → StandsFor book h → is_live book.latest (downtime_of n s e f d []) ≡ true → IsPermutation (downtime_of n s e f d [] ∷ book.downtimes) kept → StandsFor (contents book.latest kept) (h ++ added n s e f d ∷ [])
+  StandsFor-added kept st live put =
       let x = downtime_of n s e f d [] in
       let here : is_live (latest h) x ≡ true = subst (λ (k : ℕ). is_live k x ≡ true) st.latest live in
       let same : live_downtimes (h ++ added n s e f d ∷ []) ≡ live_downtimes h ++ x ∷ [] = live_downtimes-added ∙ ap (λ (b : Bool). live_downtimes h ++ cond b (x ∷ []) []) here in
       let front : IsPermutation (live_downtimes h ++ x ∷ []) (x ∷ book.downtimes) = IsPermutation-trans _ _ _ (IsPermutation-append_comm (live_downtimes h) (x ∷ [])) (IsPermutation-cons x _ _ st.downtimes) in
-      let all : IsPermutation (live_downtimes h ++ x ∷ []) (insert book.downtimes place x) = IsPermutation-trans _ _ _ front (IsPermutation-insert book.downtimes place x) in
-      let moved : IsPermutation (live_downtimes h ++ x ∷ []) kept = subst (λ (l : List Downtime). IsPermutation (live_downtimes h ++ x ∷ []) l) (sym is) all in
+      let moved : IsPermutation (live_downtimes h ++ x ∷ []) kept = IsPermutation-trans _ _ _ front put in
       record { latest = st.latest ∙ sym (latest-added n s e f d h); downtimes = IsPermutation-same _ _ _ same moved }
 
   pub StandsFor-added_past : StandsFor book h → is_live book.latest (downtime_of n s e f d []) ≡ false → StandsFor book (h ++ added n s e f d ∷ [])

@@ -1,24 +1,30 @@
-// The book.
-ghost use Rattle.std.specs.Prelude.{◌≡◌, ◌≤◌, ◌↔◌, ◌==◌, List, [], ◌∷◌, ◌++◌, IsTrue, OnOk, OnErr, is_ok, length, filter};
+// The downtimes of one checkable.
+ghost use Rattle.std.specs.Prelude.{◌≡◌, ◌≤◌, ◌↔◌, ◌==◌, List, [], ◌∷◌, ◌++◌};
+ghost use Rattle.std.specs.Prelude.{IsTrue, OnOk, OnErr, is_ok, length, filter};
+ghost use Rattle.std.specs.VecDeque.Iter.{deque_iter_rest};
 ghost use Rattle.downtime_book.specs.Downtime.{is_live};
 
 use crate::downtime::Downtime;
 use crate::keeping::{drop_past, meet_result, remove, trim};
+use crate::kind::Kind;
 use crate::naming::first_in_effect;
 use crate::no_downtime::NoDowntime;
 use site_base::{Moment, OutOfMemory};
 use std::alloc::Global;
+use std::collections::VecDeque;
+use std::collections::vec_deque::Iter;
 use std::marker::Model;
 
-/// The downtimes of one checkable.
+/// A book of downtimes, which answers by what was added, resulted and cancelled.
 ///
 /// Moments don't fall: none is below the latest one that a result or a cancel brought. So the book
 /// keeps only what wasn't past then, in order of when it ends, and a call walks what is live or
-/// still to come at most: past downtimes cost neither time nor memory. Only `add` takes memory.
+/// still to come at most: past downtimes cost neither time nor memory. One that is added goes in
+/// at its place from the nearer end. Only `add` takes memory.
 #[derive(Debug, Drop)]
 pub struct Book {
     latest: Moment,
-    downtimes: Vec<Downtime>,
+    downtimes: VecDeque<Downtime>,
 }
 
 impl Model for Book {
@@ -32,7 +38,8 @@ impl Model for Book {
 }
 
 impl Book {
-    ghost use Rattle.downtime_book.specs.Calls.{Call, added, resulted, cancelled, downtimes, is_live_in};
+    ghost use Rattle.downtime_book.specs.Calls.{Call, added, resulted, cancelled};
+    ghost use Rattle.downtime_book.specs.Calls.{downtimes, is_live_in};
     ghost use Rattle.downtime_book.specs.Contents.{StandsFor, live_downtimes};
     ghost use Rattle.downtime_book.specs.Naming.{named, Names};
 
@@ -43,7 +50,7 @@ impl Book {
     {
         Book {
             latest: Moment::of(0).unwrap(),
-            downtimes: Vec::new(alloc),
+            downtimes: VecDeque::new(alloc),
         }
     }
 
@@ -72,6 +79,13 @@ impl Book {
         self.downtimes.is_empty()
     }
 
+    /// How many downtimes it has room for without more memory, at least as many as it keeps.
+    pub fn capacity(&self) -> usize
+        ensures { length self.now.downtimes ≤ result }
+    {
+        self.downtimes.capacity()
+    }
+
     /// Adds a downtime from `start` up to but not at `end`. A flexible one is in effect for
     /// `duration` seconds from its trigger on; of a fixed one the duration counts for nothing. The
     /// number names it from then on, so a caller gives each number once; of two downtimes with one
@@ -93,16 +107,25 @@ impl Book {
         ensures latest { self.new.latest ≡ self.old.latest }
         ensures err { OnErr result (self.new ≡ self.old) }
     {
-        let downtime = Downtime::new(number, start, end, fixed, duration);
-        if downtime.is_live(self.latest) {
-            trim(&mut self.downtimes);
-            let until = downtime.until();
-            let place = self
-                .downtimes
-                .partition_point(|other| other.until() <= until);
-            self.downtimes.insert(place, downtime)?;
+        if end <= self.latest {
+            return Ok(());
         }
-        Ok(())
+        trim(&mut self.downtimes);
+        let until = u128::from(end.secs());
+        let place = self
+            .downtimes
+            .partition_point(|other| other.until() <= until);
+        let kind = Kind::new(fixed, duration);
+        let downtime = Downtime {
+            number,
+            start,
+            end,
+            kind,
+        };
+        self.downtimes
+            .insert(place, downtime)
+            .ok()
+            .ok_or(OutOfMemory)
     }
 
     /// Takes the downtime of this number away for good.
@@ -135,7 +158,6 @@ impl Book {
             result ≡ is_live_in calls number moment }
     {
         self.live_at(moment)
-            .iter()
             .any(|downtime| downtime.number == number)
     }
 
@@ -175,15 +197,12 @@ impl Book {
     }
 
     // The downtimes that aren't past at this moment.
-    fn live_at(&self, moment: Moment) -> &[Downtime]
-        ensures { result.now ≡ filter (is_live moment) self.now.downtimes }
+    fn live_at(&self, moment: Moment) -> Iter<'_, Downtime>
+        ensures { deque_iter_rest result ≡ filter (is_live moment) self.now.downtimes }
     {
         let past = self
             .downtimes
             .partition_point(|downtime| !downtime.is_live(moment));
-        &self.downtimes[past..]
+        self.downtimes.range(past..)
     }
 }
-
-#[cfg(test)]
-mod tests;

@@ -1,7 +1,8 @@
 // One downtime.
-ghost use Rattle.std.specs.Prelude.{◌≡◌, true, []};
+ghost use Rattle.std.specs.Prelude.{◌≡◌, true};
 
 use crate::kind::Kind;
+use crate::rank::Rank;
 use site_base::Moment;
 
 /// A downtime as a book keeps it: its number, the span that it was given, and how it takes effect.
@@ -14,31 +15,22 @@ pub struct Downtime {
 }
 
 impl Downtime {
-    ghost use Rattle.downtime_book.specs.Downtime.{until, is_live, is_in_effect, is_triggered_by, after_result};
-    ghost use Rattle.downtime_book.specs.Calls.{downtime_of};
+    ghost use Rattle.downtime_book.specs.Downtime.{until, is_live, is_in_effect};
+    ghost use Rattle.downtime_book.specs.Downtime.{is_triggered_by, after_result};
+    ghost use Rattle.downtime_book.specs.Naming.{rank_of};
 
-    /// A downtime that nothing has triggered.
-    pub fn new(number: u64, start: Moment, end: Moment, fixed: bool, duration: u64) -> Downtime
-        ensures { result ≡ downtime_of number start end fixed duration [] }
+    /// What decides whether it is the one that is named.
+    pub fn rank(&self) -> Rank
+        ensures { result ≡ rank_of self.now }
     {
-        let kind = if fixed {
-            Kind::Fixed
-        } else {
-            Kind::Flexible {
-                duration,
-                trigger: None,
-            }
-        };
-        Downtime {
-            number,
-            start,
-            end,
-            kind,
+        Rank {
+            start: self.start,
+            number: self.number,
         }
     }
 
-    /// The first second at which it is past, if nothing more happens. It can lie beyond the greatest
-    /// moment.
+    /// The first second at which it is past, if nothing more happens. It can lie beyond the
+    /// greatest moment.
     pub fn until(&self) -> u128
         ensures { result ≡ until self.now }
     {
@@ -63,10 +55,11 @@ impl Downtime {
     {
         match &self.kind {
             Kind::Fixed => self.start <= moment && self.is_live(moment),
-            Kind::Flexible { trigger, .. } => match trigger {
-                Some(trigger) => *trigger <= moment && self.is_live(moment),
-                None => false,
-            },
+            Kind::Flexible {
+                trigger: Some(trigger),
+                ..
+            } => *trigger <= moment && self.is_live(moment),
+            Kind::Flexible { trigger: None, .. } => false,
         }
     }
 

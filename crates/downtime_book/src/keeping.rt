@@ -1,13 +1,15 @@
 // How the list of downtimes is kept: in order of when they end, without what is past.
-ghost use Rattle.std.specs.Prelude.{◌≡◌, ◌==◌, true, false, not, filter, map, IsPermutation};
+ghost use Rattle.std.specs.Prelude.{◌≡◌, ◌==◌, true, false, not, filter, map, IsPermutation, []};
+ghost use Rattle.std.specs.VecDeque.{deque_capacity};
 ghost use Rattle.downtime_book.specs.Downtime.{is_live, after_result};
 ghost use Rattle.downtime_book.specs.Contents.{IsInOrder};
 
 use crate::downtime::Downtime;
 use site_base::Moment;
+use std::collections::VecDeque;
 
 /// Gives room back where less than a quarter of it is used.
-pub fn trim(downtimes: &mut Vec<Downtime>)
+pub fn trim(downtimes: &mut VecDeque<Downtime>)
     ensures { downtimes.new.items ≡ downtimes.old.items }
 {
     let held = downtimes.len();
@@ -17,7 +19,7 @@ pub fn trim(downtimes: &mut Vec<Downtime>)
 }
 
 /// Takes away what has this number.
-pub fn remove(downtimes: &mut Vec<Downtime>, number: u64)
+pub fn remove(downtimes: &mut VecDeque<Downtime>, number: u64)
     ensures { downtimes.new.items ≡ filter (λ d. not (d.number == number)) downtimes.old.items }
 {
     downtimes.retain(|downtime| downtime.number != number);
@@ -25,23 +27,35 @@ pub fn remove(downtimes: &mut Vec<Downtime>, number: u64)
 
 /// Drops what is past at this moment, and the room too where nothing is left. It asks for no
 /// memory.
-pub fn drop_past(downtimes: &mut Vec<Downtime>, moment: Moment)
-    ensures { downtimes.new.items ≡ filter (is_live moment) downtimes.old.items }
+pub fn drop_past(downtimes: &mut VecDeque<Downtime>, moment: Moment)
+    requires { IsInOrder downtimes.old.items }
+    ensures kept { downtimes.new.items ≡ filter (is_live moment) downtimes.old.items }
+    ensures freed { downtimes.new.items ≡ [] → deque_capacity downtimes.new ≡ 0 }
 {
-    downtimes.retain(|downtime| downtime.is_live(moment));
+    let past = downtimes.partition_point(|downtime| !downtime.is_live(moment));
+    downtimes.drain(..past);
     if downtimes.is_empty() {
         downtimes.shrink_to_fit();
     }
 }
 
 /// Lets each downtime meet the result, and puts them back in order.
-pub fn meet_result(downtimes: &mut [Downtime], moment: Moment, problem: bool)
-    ensures met { IsPermutation (map (after_result moment problem) downtimes.old) downtimes.new }
-    ensures ordered { IsInOrder downtimes.old → IsInOrder downtimes.new }
+pub fn meet_result(downtimes: &mut VecDeque<Downtime>, moment: Moment, problem: bool)
+    ensures met { IsPermutation (map (after_result moment problem) downtimes.old.items)
+        downtimes.new.items }
+    ensures ordered { IsInOrder downtimes.old.items → IsInOrder downtimes.new.items }
 {
     if !problem {
         return;
     }
+    meet_problem(downtimes.make_contiguous(), moment);
+}
+
+// The same of a problem.
+fn meet_problem(downtimes: &mut [Downtime], moment: Moment)
+    ensures met { IsPermutation (map (after_result moment true) downtimes.old) downtimes.new }
+    ensures ordered { IsInOrder downtimes.old → IsInOrder downtimes.new }
+{
     if trigger_all(downtimes, moment) {
         downtimes.sort_unstable_by_key(|downtime| downtime.until());
     }

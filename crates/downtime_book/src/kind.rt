@@ -1,4 +1,6 @@
 // Fixed and flexible downtimes.
+ghost use Rattle.std.specs.Prelude.{◌≡◌, if◌then◌else◌};
+
 use site_base::Moment;
 
 /// When a downtime is in effect.
@@ -11,4 +13,20 @@ pub enum Kind {
         duration: u64,
         trigger: Option<Moment>,
     },
+}
+
+impl Kind {
+    /// The kind of a downtime that nothing has triggered yet.
+    pub fn new(fixed: bool, duration: u64) -> Kind
+        ensures { result ≡ (if fixed then Kind.Fixed else Kind.Flexible duration None) }
+    {
+        if fixed {
+            Kind::Fixed
+        } else {
+            Kind::Flexible {
+                duration,
+                trigger: None,
+            }
+        }
+    }
 }

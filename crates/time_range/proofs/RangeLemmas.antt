@@ -17,7 +17,7 @@ use Rattle.time_range.specs.declared.range_fault.RangeFault.{RangeFault}
 use Rattle.time_range.specs.declared.range_fault.RangeFault.TheVariants.{BadRange, OutOfMemory}
 use Rattle.time_range.specs.Days.{Names, day_of}
 use Rattle.time_range.specs.Spans.{IsPushed}
-use Rattle.time_range.specs.Ranges.{IsBefore, Leads, AreRising, CanRead, IsRange, AreRanges, IsBad, Has, IsFirstBad, Holds, Refuses, value_spans, range_of, with_front, with_range, ranges_of, ranges_in, Gives}
+use Rattle.time_range.specs.Ranges.{IsBefore, Leads, AreRising, CanRead, HasRisingKeys, IsRange, AreRanges, IsBad, Has, IsFirstBad, Holds, Refuses, value_spans, range_of, with_front, with_range, ranges_of, ranges_in, Gives}
 use Rattle.time_range.proofs.DayLemmas.{day_found, day_again}
 use Rattle.time_range.proofs.SpanLemmas.{spans_found, spans_again}
 
@@ -154,21 +154,21 @@ holds_again (string text) spans holds = absurd holds
 holds_again (list items) spans holds = absurd holds
 holds_again (dict pairs) spans holds = ranges_again pairs spans holds
 
-pub refuses_found : (value : Data) (key : List ℕ) → CanRead value → ranges_in value ≡ Err key → Refuses value key
-refuses_found null key can e = absurd (cc)
-refuses_found (boolean b) key can e = can
-refuses_found (number n) key can e = can
-refuses_found (string text) key can e = can
-refuses_found (list items) key can e = can
-refuses_found (dict pairs) key can e = bad_found pairs key can e
+pub refuses_found : (value : Data) (key : List ℕ) → CanRead value → HasRisingKeys value → ranges_in value ≡ Err key → Refuses value key
+refuses_found null key can rising e = absurd (cc)
+refuses_found (boolean b) key can rising e = can
+refuses_found (number n) key can rising e = can
+refuses_found (string text) key can rising e = can
+refuses_found (list items) key can rising e = can
+refuses_found (dict pairs) key can rising e = bad_found pairs key rising e
 
-pub refuses_again : (value : Data) (key : List ℕ) → CanRead value → Refuses value key → ranges_in value ≡ Err key
-refuses_again null key can refuses = absurd refuses
-refuses_again (boolean b) key can refuses = absurd refuses
-refuses_again (number n) key can refuses = absurd refuses
-refuses_again (string text) key can refuses = absurd refuses
-refuses_again (list items) key can refuses = absurd refuses
-refuses_again (dict pairs) key can refuses = bad_again pairs key can refuses
+pub refuses_again : (value : Data) (key : List ℕ) → HasRisingKeys value → Refuses value key → ranges_in value ≡ Err key
+refuses_again null key rising refuses = absurd refuses
+refuses_again (boolean b) key rising refuses = absurd refuses
+refuses_again (number n) key rising refuses = absurd refuses
+refuses_again (string text) key rising refuses = absurd refuses
+refuses_again (list items) key rising refuses = absurd refuses
+refuses_again (dict pairs) key rising refuses = bad_again pairs key rising refuses
 
 -- The calls.
 
@@ -180,11 +180,11 @@ gives_found (Err OutOfMemory) value can gives = tt
 pub gives_only : (r : Result (List DaySpan) RangeFault) (value : Data) → Gives r (ranges_in value) → (spans : List DaySpan) → Holds value spans → Gives r (Ok spans)
 gives_only r value gives spans holds = subst (Gives r) (holds_again value spans holds) gives
 
-pub gives_refused : (r : Result (List DaySpan) RangeFault) (value : Data) → CanRead value → Gives r (ranges_in value) → (key : List ℕ) → r ≡ Err (BadRange key) → Refuses value key
-gives_refused r value can gives key is = refuses_found value key can (subst (λ s. Gives s (ranges_in value)) is gives)
+pub gives_refused : (r : Result (List DaySpan) RangeFault) (value : Data) → CanRead value → Gives r (ranges_in value) → HasRisingKeys value → (key : List ℕ) → r ≡ Err (BadRange key) → Refuses value key
+gives_refused r value can gives rising key is = refuses_found value key can rising (subst (λ s. Gives s (ranges_in value)) is gives)
 
-pub gives_bad : (r : Result (List DaySpan) RangeFault) (value : Data) → CanRead value → Gives r (ranges_in value) → (key : List ℕ) → Refuses value key → Gives r (Err key)
-gives_bad r value can gives key refuses = subst (Gives r) (refuses_again value key can refuses) gives
+pub gives_bad : (r : Result (List DaySpan) RangeFault) (value : Data) → Gives r (ranges_in value) → HasRisingKeys value → (key : List ℕ) → Refuses value key → Gives r (Err key)
+gives_bad r value gives rising key refuses = subst (Gives r) (refuses_again value key rising refuses) gives
 
 -- a dictionary's pairs are read
 pub gives_dict : (r : Result (List DaySpan) RangeFault) (tree : Tree) (v : Vec (List ℕ × Tree) Global) (pairs : List (List ℕ × Tree)) → tree ≡ trees.Dict v → pairs ≡ v.items → Gives r (ranges_of (pairs_view pairs)) → Gives r (ranges_in (view tree))

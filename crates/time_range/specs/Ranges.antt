@@ -32,7 +32,16 @@ CanRead (boolean b) = ⊥
 CanRead (number n) = ⊥
 CanRead (string text) = ⊥
 CanRead (list items) = ⊥
-CanRead (dict pairs) = AreRising pairs
+CanRead (dict pairs) = Unit {0}
+
+-- if it is a dictionary, its keys rise
+abbrev pub HasRisingKeys : Data → Type 0
+HasRisingKeys null = Unit {0}
+HasRisingKeys (boolean b) = Unit {0}
+HasRisingKeys (number n) = Unit {0}
+HasRisingKeys (string text) = Unit {0}
+HasRisingKeys (list items) = Unit {0}
+HasRisingKeys (dict pairs) = AreRising pairs
 
 -- a key and its value are these spans: the key names their day, and the value is the text that lists them
 abbrev pub IsRange : List ℕ → Data → List DaySpan → Type 0

@@ -28,8 +28,6 @@ mod period;
 mod range_fault;
 mod ranges;
 mod span_text;
-#[cfg(test)]
-mod tests;
 mod zone;
 mod zone_fault;
 

@@ -3,7 +3,8 @@ ghost use Rattle.std.specs.Prelude.{◌≡◌};
 ghost use Rattle.jiff_core.specs.Date.{epoch_day, weekday_of};
 ghost use Rattle.jiff_core.specs.Time.{time_seconds};
 ghost use Rattle.jiff_core.specs.declared.civil.datetime.DateTime.{DateTime};
-ghost use Rattle.time_range.specs.Period.{falls_on, span_holds, any_holds, any_list_holds, period_holds, is_inside};
+ghost use Rattle.time_range.specs.Period.{falls_on, span_holds, any_holds, any_list_holds};
+ghost use Rattle.time_range.specs.Period.{period_holds, is_inside};
 ghost use Rattle.time_range.specs.Zone.{Shows};
 
 use crate::Zone;
@@ -14,7 +15,9 @@ use site_base::{Day, DaySpan, Moment, PeriodSpec, Ranges};
 /// that a clock of the zone shows at it. Takes no memory.
 pub fn inside(spec: &PeriodSpec, moment: Moment, zone: &Zone) -> bool
     // By what a clock of the zone shows then.
-    ensures civil { (civil : DateTime) × Shows zone.now moment civil × (result ≡ period_holds (epoch_day civil.date) (weekday_of civil.date) (time_seconds civil.time) spec.now) }
+    ensures civil { (civil : DateTime) × Shows zone.now moment civil
+        × (result ≡ period_holds (epoch_day civil.date) (weekday_of civil.date)
+        (time_seconds civil.time) spec.now) }
     // The same, calculated.
     ensures value { result ≡ is_inside spec.now moment zone.now }
 {

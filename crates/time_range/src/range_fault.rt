@@ -1,4 +1,3 @@
-// Why time ranges were not read.
 use site_base::{OutOfMemory, Text};
 use std::alloc::AllocError;
 use thiserror::Error;

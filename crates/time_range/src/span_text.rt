@@ -2,7 +2,8 @@
 ghost use Rattle.std.specs.Prelude.{◌≡◌, ◌<◌, ◌≤◌, length, drop, IfOk};
 ghost use Rattle.std.specs.Option.{option_copied};
 ghost use Rattle.std.specs.List.{prefix_len, list_all};
-ghost use Rattle.time_range.specs.Spans.{is_blank, is_inner, span_of, span_between, first_piece, more_pieces, spans_of, pieces_spans, IsPushed};
+ghost use Rattle.time_range.specs.Spans.{is_blank, is_inner, span_of, span_between, IsPushed};
+ghost use Rattle.time_range.specs.Spans.{first_piece, more_pieces, spans_of, pieces_spans};
 
 use crate::clock::minute_at;
 use site_base::{Day, DaySpan, OutOfMemory, Ranges};

@@ -1,5 +1,6 @@
 // Time zones.
-ghost use Rattle.std.specs.Prelude.{◌≡◌, ◌<◌, ◌≤◌, ◌*◌, ℕ, ℤ, pos, Option, IfOk, IfSome, IfNone, IsErrOf, IsErr, MatchOption};
+ghost use Rattle.std.specs.Prelude.{◌≡◌, ◌<◌, ◌≤◌, ◌*◌, ℕ, ℤ, pos, Option, IfOk, IfSome};
+ghost use Rattle.std.specs.Prelude.{IfNone, IsErrOf, IsErr, MatchOption};
 ghost use Rattle.jiff_core.specs.Time.{time_nanos};
 ghost use Rattle.jiff_core.specs.declared.civil.datetime.DateTime.{DateTime as Civil};
 ghost use Rattle.time_range.specs.Zone.{IsCivil};
@@ -43,13 +44,20 @@ impl Zone {
         Zone { table: None }
     }
 
-    /// The zone of a zone file (TZif, RFC 9636), whose bytes these are. The zone keeps what it read.
+    /// The zone of a zone file (TZif, RFC 9636), whose bytes these are. The zone keeps what it
+    /// read.
+    ///
+    /// # Errors
+    ///
+    /// `BadZone` where the reader of `jiff` refuses the bytes: they have another form, or their rule
+    /// contradicts their table. `OutOfMemory` where there is none for the table.
     pub fn of_file(alloc: Global, bytes: &[u8]) -> Result<Zone, ZoneFault>
         ensures file { IfOk result (λ zone. MatchOption zone ⊥ (IsTableOf bytes.now)) }
         ensures bad { IsErrOf result ZoneFault.BadZone → IsBadFile bytes.now }
         ensures refused { IsBadFile bytes.now → IsErr result }
         // A fault of the format is found before any memory is asked for.
-        ensures fault { (fault : TzifFault) → read_tzif bytes.now ≡ Err fault → IsErrOf result ZoneFault.BadZone }
+        ensures fault { (fault : TzifFault) → read_tzif bytes.now ≡ Err fault →
+            IsErrOf result ZoneFault.BadZone }
     {
         match Tzif::parse(alloc, None, bytes) {
             Ok(table) => Ok(Zone { table: Some(table) }),
@@ -65,8 +73,10 @@ impl Zone {
     /// that is no `Moment`, or the day is none from the year -9999 to 9999.
     pub fn instant(&self, day: i32, second: u32) -> Option<Moment>
         requires { second ≤ 86_400 }
-        ensures value { IfSome result (λ moment. (civil : Civil) × IsCivil day second civil × IsInstant self.now civil moment) }
-        ensures none { IfNone result ((civil : Civil) (moment : ℕ) → moment ≤ Moment.LAST → IsCivil day second civil → IsInstant self.now civil moment → ⊥) }
+        ensures value { IfSome result (λ moment.
+            (civil : Civil) × IsCivil day second civil × IsInstant self.now civil moment) }
+        ensures none { IfNone result ((civil : Civil) (moment : ℕ) → moment ≤ Moment.LAST →
+            IsCivil day second civil → IsInstant self.now civil moment → ⊥) }
     {
         let shown = civil_time(day, second)?;
         let timestamp = self.time_zone().to_timestamp(shown).ok()?;
@@ -83,7 +93,8 @@ impl Zone {
 
     fn time_zone(&self) -> TimeZone<'_>
         ensures offset { (nanos : ℤ) → offset_at (plain_zone result) nanos ≡ ahead self.now nanos }
-        ensures offsets { (civil : Civil) → ambiguous_at (plain_zone result) civil ≡ offsets self.now civil }
+        ensures offsets { (civil : Civil) →
+            ambiguous_at (plain_zone result) civil ≡ offsets self.now civil }
     {
         match &self.table {
             None => TimeZone::UTC,

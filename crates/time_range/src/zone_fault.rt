@@ -1,4 +1,3 @@
-// Why a zone file was not read.
 use thiserror::Error;
 
 /// Why a zone file was not read.

@@ -1,13 +1,30 @@
--- `retain` keeps what is live.
-use Rattle.std.proofs.Common.{◌∙◌, rules, tests}
-use Rattle.std.proofs.lemmas.Fn.{filter_same}
+-- What stands from the first one on that isn't past is what is live.
+use Rattle.std.proofs.Common.{◌≡◌, ◌≤◌, length, drop, filter, ◌∙◌, rules, arith}
+use Rattle.std.proofs.lemmas.List.Sorted.{IsPartitionPoint-from_clause}
 use Rattle.downtime_book.specs.Downtime.{is_live}
+use Rattle.downtime_book.proofs.Order.{is_past, past_first, live_from}
 use Rattle.downtime_book.proofs.keeping.drop_past.Goals as goal
 
-pub returns-then-is_empty : goal.returns-then-is_empty
-returns-then-is_empty c =
-    c.shrink_to_fit.ensures.items ∙ filter_same _ (is_live c.args.moment) _ (λ x b f' k. search (rules, tests)) _ _ c.retain.ensures.filtered
+pub returns-then-is_empty-clause-kept : goal.returns-then-is_empty-clause-kept
+returns-then-is_empty-clause-kept c =
+    let m = c.args.moment in
+    let xs = c.args.downtimes.now.items in
+    let k = c.partition_point-past.result in
+    let point = IsPartitionPoint-from_clause (is_past m) xs k c.partition_point-past.ensures.partitioned (past_first m xs c.requires) (λ a r f' k. search rules) in
+    let long = c.args.downtimes.now.ok.0 in
+    let within : k ≤ length xs = omega (arith, long, c.partition_point-past.ensures.bound) in
+    let rest : drop k xs ≡ filter (is_live m) xs = live_from m xs k point within in
+    let dropped = c.drop-drain.ensures.items ∙ c.drain.ensures.kept ∙ rest in
+    search (rules, dropped)
 
-pub returns-else-is_empty : goal.returns-else-is_empty
-returns-else-is_empty c =
-    filter_same _ (is_live c.args.moment) _ (λ x b f' k. search (rules, tests)) _ _ c.retain.ensures.filtered
+pub returns-else-is_empty-clause-kept : goal.returns-else-is_empty-clause-kept
+returns-else-is_empty-clause-kept c =
+    let m = c.args.moment in
+    let xs = c.args.downtimes.now.items in
+    let k = c.partition_point-past.result in
+    let point = IsPartitionPoint-from_clause (is_past m) xs k c.partition_point-past.ensures.partitioned (past_first m xs c.requires) (λ a r f' k. search rules) in
+    let long = c.args.downtimes.now.ok.0 in
+    let within : k ≤ length xs = omega (arith, long, c.partition_point-past.ensures.bound) in
+    let rest : drop k xs ≡ filter (is_live m) xs = live_from m xs k point within in
+    let dropped = c.drop-drain.ensures.items ∙ c.drain.ensures.kept ∙ rest in
+    search (rules, dropped)

@@ -1,20 +1,21 @@
--- Each turn takes a downtime from the rest to the least rank so far.
-use Rattle.std.proofs.Common.{◌∙◌, sym, arith}
-use Rattle.downtime_book.proofs.NamingLemmas.{least_takes, least_leaves}
+-- The least rank of those that are in effect is the first.
+use Rattle.std.proofs.Common.{Bool, ◌∙◌, ap, rules, tests, arith}
+use Rattle.std.proofs.lemmas.Bool.Decides.{nat_tests}
+use Rattle.std.proofs.lemmas.Iterator.{YieldsList-from_map}
+use Rattle.std.proofs.lemmas.Iterator.Consumers.{YieldsList-at, YieldsList-from_deque, YieldsList-from_filter, reduce_from_yields_List}
+use Rattle.std.specs.VecDeque.Iter.{deque_iter_rest}
+use Rattle.downtime_book.specs.declared.downtime.Downtime.{Downtime}
+use Rattle.downtime_book.specs.Downtime.{is_in_effect, after_result}
+use Rattle.downtime_book.specs.Naming.{rank_of, number_of}
+use Rattle.downtime_book.proofs.NamingLemmas.{reduce-kept, number_given}
 use Rattle.downtime_book.proofs.naming.first_in_effect.Goals as goal
-use Rattle.downtime_book.proofs.naming.first_in_effect.Goals.{then-is_in_effect_after, else-is_in_effect_after}
 
-pub loop-downtime-preserved : goal.loop-downtime-preserved
-loop-downtime-preserved c =
+pub returns : goal.returns
+returns c =
     let m = c.args.moment in
     let p = c.args.problem in
-    let xs = c.args.downtimes.now in
-    let i = c.loop-downtime.downtime-index in
-    let d = c.downtime-item.result in
-    let first = c.loop-downtime.first in
-    elim c.if-is_in_effect_after.branch [
-      | then-is_in_effect_after w ↦
-          rw (w.first-is, w.lesser_of.ensures) (c.loop-downtime.invariant ∙ least_takes m p xs i d (omega arith) c.downtime-item.is first (sym c.is_in_effect_after.ensures ∙ w.if-is_in_effect_after.true))
-      | else-is_in_effect_after w ↦
-          rw w.first-is (c.loop-downtime.invariant ∙ least_leaves m p xs i d (omega arith) c.downtime-item.is first (sym c.is_in_effect_after.ensures ∙ w.if-is_in_effect_after.false))
-    ]
+    let xs = deque_iter_rest c.args.downtimes in
+    let test : Downtime → Bool = λ d. is_in_effect m (after_result m p d) in
+    let first = reduce_from_yields_List _ _ c.min.result c.min.ensures.ran (YieldsList-from_map _ rank_of (YieldsList-at c.map.ensures.source (YieldsList-from_filter _ test (YieldsList-from_deque xs (cc)) c.filter.ensures.closure (λ x r q k. search (rules, tests)))) c.map.ensures.closure (λ x r q k. search (rules, tests))) in
+    let least = first ∙ reduce-kept _ (λ a b. grind (arith, nat_tests)) m p xs in
+    number_given c.min.result c.map-2.result _ c.map-2.ensures.cases (λ x n q. search (rules, tests)) ∙ ap number_of least

@@ -17,4 +17,4 @@ returns-in-Dict-clause-refused c =
 
 pub returns-in-Dict-clause-bad : goal.returns-in-Dict-clause-bad
 returns-in-Dict-clause-bad c =
-    gives_bad c.ranges_of.result (view c.args.tree.now) c.requires (gives_dict c.ranges_of.result c.args.tree.now c.in-Dict.pairs c.deref.result.now c.in-Dict.is c.deref.ensures.value c.ranges_of.ensures)
+    gives_bad c.ranges_of.result (view c.args.tree.now) (gives_dict c.ranges_of.result c.args.tree.now c.in-Dict.pairs c.deref.result.now c.in-Dict.is c.deref.ensures.value c.ranges_of.ensures)

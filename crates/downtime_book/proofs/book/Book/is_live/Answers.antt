@@ -1,6 +1,6 @@
 -- A downtime of that number is among those that are live.
 use Rattle.std.proofs.Common.{◌==◌, ◌∙◌, rules, tests}
-use Rattle.std.proofs.lemmas.Iterator.{YieldsList-from_slice}
+use Rattle.std.proofs.lemmas.Iterator.Consumers.{YieldsList-from_deque}
 use Rattle.std.proofs.lemmas.Iterator.Search.{any_from_yields_List}
 use Rattle.downtime_book.specs.declared.downtime.Downtime.{Downtime}
 use Rattle.downtime_book.proofs.Steps.{is_live_in-kept}
@@ -8,5 +8,4 @@ use Rattle.downtime_book.proofs.book.Book.is_live.Goals as goal
 
 pub returns : goal.returns
 returns c = λ calls s.
-    let found = any_from_yields_List (λ (d : Downtime). d.number == c.args.number) _ _ c.any.result c.any.ensures.ran (YieldsList-from_slice c.live_at.result.now cc) (λ x b q k. search (rules, tests)) in
-    (rw c.live_at.ensures at found) ∙ is_live_in-kept c.args.self.now calls c.args.moment s c.requires c.args.number
+    any_from_yields_List (λ (d : Downtime). d.number == c.args.number) _ _ c.any.result c.any.ensures.ran (YieldsList-from_deque _ c.live_at.ensures) (λ x b q k. search (rules, tests)) ∙ is_live_in-kept c.args.self.now calls c.args.moment s c.requires c.args.number

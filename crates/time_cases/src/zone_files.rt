@@ -19,7 +19,7 @@ fn push_first(out: &mut Vec<u8>) -> Result<(), AllocError> {
 }
 
 /// A zone that is always so many seconds ahead of UTC.
-pub fn fixed(alloc: Global, ahead: i32) -> Result<Vec<u8>, AllocError> {
+pub(crate) fn fixed(alloc: Global, ahead: i32) -> Result<Vec<u8>, AllocError> {
     let mut out = Vec::new(alloc);
     push_first(&mut out)?;
     push_head(&mut out, 0, 1, 4)?;
@@ -29,7 +29,7 @@ pub fn fixed(alloc: Global, ahead: i32) -> Result<Vec<u8>, AllocError> {
 }
 
 /// A zone an hour ahead of UTC, and two in summer, from 2024 on, with this rule for later years.
-pub fn with_summer(alloc: Global, rule: &str) -> Result<Vec<u8>, AllocError> {
+pub(crate) fn with_summer(alloc: Global, rule: &str) -> Result<Vec<u8>, AllocError> {
     let mut out = Vec::new(alloc);
     push_first(&mut out)?;
     push_head(&mut out, 2, 2, 9)?;

@@ -1,0 +1,36 @@
+// What past downtimes cost.
+use crate::random::{at, next};
+use downtime_book::{Book, NoDowntime};
+use std::test::Fail;
+
+#[test]
+fn past_downtimes_cost_nothing(rt: HostRuntime) -> Result<(), Fail> {
+    let mut book = Book::new(rt.alloc());
+    for number in 0..100_000 {
+        let start = at(&rt, number);
+        book.add(number, start, at(&rt, number + 5), number % 2 == 0, 3)?;
+    }
+    assert_eq!(rt; book.len(), 100_000);
+    book.add(100_000, at(&rt, 200_000), at(&rt, 300_000), true, 0)?;
+    // A walk over the past ones would outlast the time that a test has.
+    for turn in 0..1_000_000 {
+        let moment = next(&rt, &book, 150_000 + turn % 7);
+        assert_eq!(rt; book.in_effect_after(moment, true), None);
+        assert_eq!(rt; book.cancel(turn % 100_000, moment), Err(NoDowntime));
+    }
+    assert_eq!(rt; book.len(), 100_001);
+    let moment = next(&rt, &book, 150_000);
+    book.on_result(moment, false);
+    assert_eq!(rt; book.len(), 1);
+    book.add(100_001, at(&rt, 140_000), at(&rt, 150_000), true, 0)?;
+    assert_eq!(rt; book.len(), 1);
+    assert_eq!(rt; book.in_effect(next(&rt, &book, 200_000)), Some(100_000));
+
+    // The room for what is past is given back by the next downtime, or once nothing is left.
+    book.add(100_002, at(&rt, 400_000), at(&rt, 500_000), true, 0)?;
+    assert!(rt; book.capacity() < 100);
+    let moment = next(&rt, &book, 500_000);
+    book.on_result(moment, true);
+    assert_eq!(rt; book.capacity(), 0);
+    Ok(())
+}
