@@ -1,13 +1,13 @@
 -- What a filter, a sort and a removal of repeats leave of the names of files.
 use Rattle.std.proofs.Common.{◌≡◌, ℕ, zero, suc, List, [], ◌∷◌, map, filter, Contains, Bool, true, false, cond, ◌⊎◌, inl, inr, refl, sym, ap, ◌∙◌, subst, nat_eq, arith}
-use Rattle.std.specs.List.{dedup, starts_with}
+use Rattle.std.specs.List.{dedup}
 use Rattle.std.specs.List.Sorted.{IsPermutation, IsSorted}
 use Rattle.std.specs.Cmp.Lexicographic.{slice_cmp, pointwise, nat_list_cmp_total, nat_list_eq_equiv, texts_ties, same_text}
 use Rattle.std.specs.Ordering.{nat_cmp}
 use Rattle.std.proofs.lemmas.List.Elements.{Contains-append_right, Contains-append_cases}
 use Rattle.std.proofs.lemmas.List.Kept.{IsStrictlySortedBy-dedup, Contains-dedup, Contains-from_dedup}
 use Rattle.std.proofs.lemmas.List.Sorted.{Contains-permutation, IsPermutation-sym}
-use Rattle.site_edge.specs.Told.{IsListingOf, folder_prefix, name_of}
+use Rattle.site_edge.specs.Told.{IsListingOf, is_below, name_of}
 
 Contains-here : {X : Type 0} (x : X) (xs : List X) → Contains (x ∷ xs) x
 Contains-here x xs = (0, omega arith, refl)
@@ -52,10 +52,10 @@ Contains-from_filter p [] y h = absurd (omega (arith, h.1))
 Contains-from_filter p (x ∷ xs) y h = from_by p x y xs (filter p xs) (p x) refl (Contains-from_filter p xs y) h
 
 -- the names below a folder, sorted and without repeats
-pub listing_of : (dir : List ℕ) (files : List (List ℕ × List ℕ)) (found sorted : List (List ℕ)) → found ≡ filter (λ n. starts_with nat_eq n (folder_prefix dir)) (map name_of files)
+pub listing_of : (dir : List ℕ) (files : List (List ℕ × List ℕ)) (found sorted : List (List ℕ)) → found ≡ filter (is_below dir) (map name_of files)
     → IsPermutation found sorted → IsSorted (slice_cmp nat_cmp) sorted → IsListingOf dir files (dedup (pointwise nat_eq) sorted)
 listing_of dir files found sorted is moved rises =
-    let below : List ℕ → Bool = λ n. starts_with nat_eq n (folder_prefix dir) in
+    let below : List ℕ → Bool = is_below dir in
     let all : List (List ℕ) = map name_of files in
     record {
       ordered = IsStrictlySortedBy-dedup nat_list_cmp_total texts_ties sorted rises;

@@ -24,12 +24,14 @@ abbrev pub ends_open : Option ℕ → Bool
 ends_open None = false
 ends_open (Some b) = not (b == 47)
 
--- how the paths below a folder begin: its name with a `/` at the end, and nothing for the folder without a name, in which the program runs
+-- how the names below a folder begin: its own with a `/` at the end, and nothing for the folder without a name, in which the program runs
 abbrev pub folder_prefix : List ℕ → List ℕ
 folder_prefix dir = if ends_open (slice_get dir (length dir - 1)) then dir ++ 47 ∷ [] else dir
 
+-- a name stands below a folder; below the folder without a name stand the names that don't begin with `/`
 abbrev pub is_below : List ℕ → List ℕ → Bool
-is_below dir name = starts_with nat_eq name (folder_prefix dir)
+is_below [] name = not (starts_with nat_eq name (47 ∷ []))
+is_below (b ∷ bs) name = starts_with nat_eq name (folder_prefix (b ∷ bs))
 
 abbrev pub name_of : List ℕ × List ℕ → List ℕ
 name_of f = f.0

@@ -1,5 +1,5 @@
 // The real files.
-ghost use Rattle.std.specs.Prelude.{◌≡◌, ◌≤◌, None, OnErr};
+ghost use Rattle.std.specs.Prelude.{◌≡◌, ◌≤◌, None, OnOk, OnErr};
 ghost use Rattle.site_edge.specs.Told.{Rose};
 
 use crate::folder::folder_prefix;
@@ -23,7 +23,9 @@ const MAX_LEVELS: u32 = 100;
 /// `read` takes whatever can be opened and read to its end, up to 1 GiB; a folder, a longer file and
 /// one without the right to read are `Failed`. `names` follows links and gives those that lead
 /// nowhere too, passes over devices, pipes and sockets, and is `Failed` at a folder without the
-/// right to read it, at a name that is no UTF-8, above 1,000,000 files and below 100 levels.
+/// right to read it, at a name that is no UTF-8, above 1,000,000 files and below 100 levels. For both
+/// a name that no file can have is missing, as one that goes through a file or holds a byte 0, and one
+/// that leads to itself by links is `Failed`.
 #[derive(Drop)]
 pub struct DiskFiles<R: std::rt::Files + AllocGlobal + Clone + Drop> {
     rt: R,
@@ -49,6 +51,7 @@ impl<R: std::rt::Files + AllocGlobal + Clone + Drop> DiskFiles<R> {
         ensures same { result ≡ answer }
         ensures rises { OnErr answer (Rose self.old.faults self.new.faults) }
         ensures counts { self.old.faults ≤ self.new.faults }
+        ensures quiet { OnOk answer (self.new.faults ≡ self.old.faults) }
     {
         if answer.is_err() {
             self.faults = self.faults.saturating_add(1);
@@ -60,7 +63,11 @@ impl<R: std::rt::Files + AllocGlobal + Clone + Drop> DiskFiles<R> {
 impl<R: std::rt::Files + AllocGlobal + Clone + Drop> Files for DiskFiles<R> {
     ghost told = { λ _. None };
 
+    ghost reads = { λ _. None };
+
     ghost faults = { λ f. f.faults };
+
+    ghost calm = { λ _. ⊥ };
 
     fn read(&mut self, name: &str) -> Result<Option<Blob>, FileFault> {
         let answer = read_whole(&self.rt, name);
@@ -73,22 +80,27 @@ impl<R: std::rt::Files + AllocGlobal + Clone + Drop> Files for DiskFiles<R> {
     }
 }
 
-/// The bytes of a file; `None` where there is none, or where no file can have such a name.
+/// Whether nothing is there, or no file or folder can have such a name: one that goes through a file,
+/// holds a byte 0, or is too long.
+fn is_missing(kind: ErrorKind) -> bool {
+    matches!(
+        kind,
+        ErrorKind::NotFound
+            | ErrorKind::NotADirectory
+            | ErrorKind::InvalidInput
+            | ErrorKind::InvalidFilename
+    )
+}
+
+/// The bytes of a file; `None` where it is missing.
 fn read_whole<R: std::rt::Files + AllocGlobal>(
     rt: &R,
     name: &str,
 ) -> Result<Option<Blob>, FileFault> {
     let file = match fs::open(rt, name) {
         Ok(file) => file,
-        Err(error) => {
-            return match error.kind() {
-                ErrorKind::NotFound
-                | ErrorKind::NotADirectory
-                | ErrorKind::InvalidInput
-                | ErrorKind::InvalidFilename => Ok(None),
-                _ => Err(FileFault::from(error)),
-            };
-        }
+        Err(error) if is_missing(error.kind()) => return Ok(None),
+        Err(error) => return Err(FileFault::from(error)),
     };
     let mut bytes = Vec::new(rt.alloc());
     let _ = file.take(MAX_BYTES + 1).read_to_end(&mut bytes)?;
@@ -135,7 +147,7 @@ fn list_folder<R: std::rt::Files + AllocGlobal + Clone + Drop>(
     };
     let entries = match fs::read_dir(rt, path) {
         Ok(entries) => entries,
-        Err(error) if error.kind() == ErrorKind::NotFound => return Ok(()),
+        Err(error) if is_missing(error.kind()) => return Ok(()),
         Err(error) => return Err(FileFault::from(error)),
     };
     for entry in entries {
@@ -166,7 +178,7 @@ fn list_entry<R: std::rt::Files>(
             return Ok(());
         }
         Ok(metadata) => metadata.is_file(),
-        Err(error) if error.kind() == ErrorKind::NotFound => true,
+        Err(error) if is_missing(error.kind()) => true,
         Err(error) => return Err(FileFault::from(error)),
     };
     if is_file {

@@ -16,8 +16,6 @@ mod out_sink;
 mod report;
 mod sink;
 mod sink_fault;
-#[cfg(test)]
-mod tests;
 mod turn;
 mod world;
 mod world_error;

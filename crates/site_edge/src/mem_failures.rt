@@ -1,6 +1,6 @@
 // The failing calls of a fake.
-ghost use Rattle.std.specs.Prelude.{◌≡◌, ◌↔◌, IsTrue, Contains};
-ghost use Rattle.site_edge.specs.Fakes.{fresh, counted};
+ghost use Rattle.std.specs.Prelude.{◌≡◌, ◌↔◌, [], IsTrue, IsFalse, Contains};
+ghost use Rattle.site_edge.specs.Fakes.{fresh, counted, IsCalm};
 
 use site_base::Row;
 
@@ -14,7 +14,8 @@ pub struct Failures {
 impl Failures {
     /// No call was made yet.
     pub fn new(listed: Row<u64>) -> Failures
-        ensures { result ≡ fresh listed }
+        ensures fresh { result ≡ fresh listed }
+        ensures calm { listed ≡ [] → IsCalm result }
     {
         Failures { calls: 0, listed }
     }
@@ -23,6 +24,8 @@ impl Failures {
     pub fn next_fails(&mut self) -> bool
         ensures counted { self.new ≡ counted self.old }
         ensures listed { IsTrue result ↔ Contains self.new.listed self.new.calls }
+        ensures calm { IsCalm self.old → IsCalm self.new }
+        ensures spared { IsCalm self.old → IsFalse result }
     {
         self.calls = self.calls.saturating_add(1);
         self.listed.as_slice().contains(&self.calls)

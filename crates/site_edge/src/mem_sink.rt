@@ -1,6 +1,6 @@
 // A sink in memory.
-ghost use Rattle.std.specs.Prelude.{◌≡◌, ◌≤◌, [], IsErrOf, Some, OnOk, OnErr};
-ghost use Rattle.site_edge.specs.Fakes.{fresh, sink_failures, FailsAsListed};
+ghost use Rattle.std.specs.Prelude.{◌≡◌, ◌≢◌, ◌≤◌, [], IsErrOf, Some, Err, OnOk, OnErr};
+ghost use Rattle.site_edge.specs.Fakes.{fresh, sink_failures, FailsAsListed, IsCalm};
 ghost use Rattle.site_edge.specs.Lists.{Adds, AddsPart};
 ghost use Rattle.site_edge.specs.Told.{Rose};
 
@@ -23,6 +23,7 @@ impl MemSink {
         ensures told { ⟦<MemSink as Sink>⟧.written result ≡ Some [] }
         ensures failing { sink_failures result ≡ fresh failing }
         ensures faults { ⟦<MemSink as Sink>⟧.faults result ≡ 0 }
+        ensures calm { failing ≡ [] → ⟦<MemSink as Sink>⟧.calm result }
     {
         MemSink {
             bytes: Vec::new(alloc),
@@ -44,6 +45,8 @@ impl Sink for MemSink {
 
     ghost faults = { λ s. s.faults };
 
+    ghost calm = { λ s. IsCalm s.failures };
+
     fn put(&mut self, bytes: &[u8]) -> Result<(), SinkFault>
         ensures ok { OnOk result (Adds bytes.now (Some self.old.bytes.items) (Some self.new.bytes.items)) }
         ensures err { OnErr result
@@ -52,6 +55,9 @@ impl Sink for MemSink {
             (IsErrOf result SinkFault.Failed) }
         ensures cause { IsErrOf result SinkFault.Failed → Rose self.old.faults self.new.faults }
         ensures counts { self.old.faults ≤ self.new.faults }
+        ensures quiet { result ≢ Err SinkFault.Failed → self.new.faults ≡ self.old.faults }
+        ensures calm { IsCalm (sink_failures self.old) → IsCalm (sink_failures self.new) }
+        ensures unfailing { IsCalm (sink_failures self.old) → result ≢ Err SinkFault.Failed }
     {
         if self.failures.next_fails() {
             self.faults = self.faults.saturating_add(1);

@@ -1,6 +1,6 @@
 // A world in memory.
-ghost use Rattle.std.specs.Prelude.{◌≡◌, ◌≤◌, ◌++◌, [], IfOk, IsErrOf, Some, OnOk, OnErr};
-ghost use Rattle.site_edge.specs.Fakes.{fresh, world_failures, FailsAsListed};
+ghost use Rattle.std.specs.Prelude.{◌≡◌, ◌≢◌, ◌≤◌, ◌++◌, [], IfOk, IsErrOf, Some, Err, OnOk, OnErr};
+ghost use Rattle.site_edge.specs.Fakes.{fresh, world_failures, FailsAsListed, IsCalm};
 ghost use Rattle.site_edge.specs.Lists.{IsFirst};
 ghost use Rattle.site_edge.specs.Told.{Rose};
 
@@ -27,6 +27,7 @@ impl MemWorld {
         ensures started { ⟦<MemWorld as World>⟧.started result ≡ Some [] }
         ensures failing { world_failures result ≡ fresh failing }
         ensures faults { ⟦<MemWorld as World>⟧.faults result ≡ 0 }
+        ensures calm { failing ≡ [] → ⟦<MemWorld as World>⟧.calm result }
     {
         MemWorld {
             turns: VecDeque::from(turns.into_vec()),
@@ -51,6 +52,8 @@ impl World for MemWorld {
 
     ghost faults = { λ w. w.faults };
 
+    ghost calm = { λ w. IsCalm w.failures };
+
     fn next(&mut self) -> Result<Option<Turn>, WorldError>
         ensures ok { IfOk result (IsFirst self.old.turns.items (Some self.new.turns.items)) }
         ensures err { OnErr result (self.new.turns.items ≡ self.old.turns.items) }
@@ -59,6 +62,9 @@ impl World for MemWorld {
             (IsErrOf result WorldError.Failed) }
         ensures cause { IsErrOf result WorldError.Failed → Rose self.old.faults self.new.faults }
         ensures counts { self.old.faults ≤ self.new.faults }
+        ensures quiet { result ≢ Err WorldError.Failed → self.new.faults ≡ self.old.faults }
+        ensures calm { IsCalm (world_failures self.old) → IsCalm (world_failures self.new) }
+        ensures unfailing { IsCalm (world_failures self.old) → result ≢ Err WorldError.Failed }
     {
         if self.failures.next_fails() {
             self.faults = self.faults.saturating_add(1);
@@ -75,6 +81,9 @@ impl World for MemWorld {
             (IsErrOf result WorldError.Failed) }
         ensures cause { IsErrOf result WorldError.Failed → Rose self.old.faults self.new.faults }
         ensures counts { self.old.faults ≤ self.new.faults }
+        ensures quiet { result ≢ Err WorldError.Failed → self.new.faults ≡ self.old.faults }
+        ensures calm { IsCalm (world_failures self.old) → IsCalm (world_failures self.new) }
+        ensures unfailing { IsCalm (world_failures self.old) → result ≢ Err WorldError.Failed }
     {
         if self.failures.next_fails() {
             self.faults = self.faults.saturating_add(1);

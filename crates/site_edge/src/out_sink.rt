@@ -25,6 +25,8 @@ impl<R: Print + Drop> Sink for OutSink<R> {
 
     ghost faults = { λ s. s.faults };
 
+    ghost calm = { λ _. ⊥ };
+
     fn put(&mut self, bytes: &[u8]) -> Result<(), SinkFault> {
         match io::writer(&self.rt).write_all(bytes) {
             Ok(()) => Ok(()),

@@ -1,5 +1,5 @@
 // Where the program writes.
-ghost use Rattle.std.specs.Prelude.{◌≡◌, ◌≤◌, List, ℕ, Option, OnOk, OnErr, IsErrOf};
+ghost use Rattle.std.specs.Prelude.{◌≡◌, ◌≢◌, ◌≤◌, List, ℕ, Option, Err, OnOk, OnErr, IsErrOf};
 ghost use Rattle.site_edge.specs.Lists.{Adds, AddsPart};
 ghost use Rattle.site_edge.specs.Told.{Rose};
 
@@ -13,6 +13,9 @@ pub trait Sink {
     /// How often a call has failed.
     ghost faults: { Self → ℕ };
 
+    /// No later call fails.
+    ghost calm: { Self → Type 0 };
+
     /// Writes all of the bytes, or after an error some prefix of them.
     ///
     /// `Failed` comes only where the count of faults rose in this call.
@@ -20,5 +23,8 @@ pub trait Sink {
         ensures ok { OnOk result (Adds bytes.now (written self.old) (written self.new)) }
         ensures err { OnErr result (AddsPart bytes.now (written self.old) (written self.new)) }
         ensures cause { IsErrOf result SinkFault.Failed → Rose (faults self.old) (faults self.new) }
-        ensures counts { faults self.old ≤ faults self.new };
+        ensures counts { faults self.old ≤ faults self.new }
+        ensures quiet { OnOk result (faults self.new ≡ faults self.old) }
+        ensures calm { calm self.old → calm self.new }
+        ensures unfailing { calm self.old → result ≢ Err SinkFault.Failed };
 }

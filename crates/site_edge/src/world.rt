@@ -1,5 +1,5 @@
 // The world as the program sees it.
-ghost use Rattle.std.specs.Prelude.{◌≡◌, ◌≤◌, List, ℕ, Option, IfOk, OnOk, OnErr, IsErrOf};
+ghost use Rattle.std.specs.Prelude.{◌≡◌, ◌≢◌, ◌≤◌, List, ℕ, Option, Err, IfOk, OnOk, OnErr, IsErrOf};
 ghost use Rattle.site_edge.specs.Lists.{Adds, AddsPart, TakesFirst};
 ghost use Rattle.site_edge.specs.Told.{Rose};
 ghost use Rattle.site_edge.specs.declared.order.Order.{Order};
@@ -18,6 +18,9 @@ pub trait World {
     /// How often a call has failed.
     ghost faults: { Self → ℕ };
 
+    /// No later call fails.
+    ghost calm: { Self → Type 0 };
+
     /// The next turn, which is taken off the turns left; `None` where there is none.
     ///
     /// After an error the turns left are as before. `Failed` comes only where the count of faults
@@ -27,7 +30,10 @@ pub trait World {
         ensures err { OnErr result (turns self.new ≡ turns self.old) }
         ensures same { started self.new ≡ started self.old }
         ensures cause { IsErrOf result WorldError.Failed → Rose (faults self.old) (faults self.new) }
-        ensures counts { faults self.old ≤ faults self.new };
+        ensures counts { faults self.old ≤ faults self.new }
+        ensures quiet { OnOk result (faults self.new ≡ faults self.old) }
+        ensures calm { calm self.old → calm self.new }
+        ensures unfailing { calm self.old → result ≢ Err WorldError.Failed };
 
     /// Starts all of the orders, or after an error some prefix of them.
     ///
@@ -37,5 +43,8 @@ pub trait World {
         ensures err { OnErr result (AddsPart orders.now (started self.old) (started self.new)) }
         ensures same { turns self.new ≡ turns self.old }
         ensures cause { IsErrOf result WorldError.Failed → Rose (faults self.old) (faults self.new) }
-        ensures counts { faults self.old ≤ faults self.new };
+        ensures counts { faults self.old ≤ faults self.new }
+        ensures quiet { OnOk result (faults self.new ≡ faults self.old) }
+        ensures calm { calm self.old → calm self.new }
+        ensures unfailing { calm self.old → result ≢ Err WorldError.Failed };
 }
