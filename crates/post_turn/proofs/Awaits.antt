@@ -9,7 +9,7 @@ use Rattle.atomic_table.proofs.Lists.{at_set, set_here, set_else, set_again}
 use Rattle.post_turn.specs.declared.body.Body.{Body}
 use Rattle.post_turn.specs.declared.caller.Caller.{Caller}
 use Rattle.post_turn.specs.declared.view.View.{View}
-use Rattle.post_turn.specs.History.{IsFront, replay}
+use Rattle.post_turn.specs.History.{IsFront, entries_of, replay}
 use Rattle.post_turn.specs.Turns.{Kept, Knows, AtHome, IsOut, Each, Mine, Took, waiting, serving, shown, awaited, times, total, ticketed}
 use Rattle.post_turn.proofs.Lists.{below, same_at, front_refl}
 use Rattle.post_turn.proofs.Views.{first_or, total_set, total_least}
@@ -20,12 +20,12 @@ module _ {M S E : Type 0} (fit : M → S → Type 0) (after : M → S → E → 
 
   -- what the step tells of the ticket t and the caller c
   abbrev Tells : Mine M S E → ℕ → Mine M S E → ℕ → Caller M S E → Type 0
-  Tells v n w t c = ((n ≡ t) × Took fit after t c w) ⊎ ((n ≢ t) × (w ≡ v))
+  Tells v n w t c = ((n ≡ t) × Took fit after caller_of t c w) ⊎ ((n ≢ t) × (w ≡ v))
 
-  told : (p : Step (Option (Body S E))) (t : ℕ) (d : Caller M S E) (n : ℕ) (w : Mine M S E) → Tells (waiting t d, []) n w t d → awaited fit after p (waiting t d, []) n w
+  told : (p : Step (Option (Body S E))) (t : ℕ) (d : Caller M S E) (n : ℕ) (w : Mine M S E) → Tells (waiting t d, []) n w t d → awaited fit after caller_of p (waiting t d, []) n w
   told p t d n w h = λ u c e. subst (λ (z : ℕ × Caller M S E). Tells (waiting t d, []) n w z.0 z.1) (λ i. ((e i).0.ticket, first_or d (e i).0.callers)) h
 
-  awaits : (p : Step (Option (Body S E))) (id t : ℕ) (d : Caller M S E) → Allows Keeps 1 id (waiting t d, []) 1 (λ n. n) (awaited fit after p (waiting t d, []))
+  awaits : (p : Step (Option (Body S E))) (id t : ℕ) (d : Caller M S E) → Allows Keeps 1 id (waiting t d, []) 1 (λ n. n) (awaited fit after caller_of p (waiting t d, []))
   awaits p id t d s k deep at fits = by (ℕ_discrete (slice_index s.words 1) t)
     where
       n : ℕ
@@ -38,7 +38,7 @@ module _ {M S E : Type 0} (fit : M → S → Type 0) (after : M → S → E → 
       word = ap (λ ws. slice_index ws 1) k.words
 
       Answer : Type 0
-      Answer = (w : View M S E) × (a : Act (Option (Body S E))) × Valid s.homes [] a × Keeps (stepped s 1 n id [] w a) × awaited fit after p (v, []) n (w, carried_after [] a)
+      Answer = (w : View M S E) × (a : Act (Option (Body S E))) × Valid s.homes [] a × Keeps (stepped s 1 n id [] w a) × awaited fit after caller_of p (v, []) n (w, carried_after [] a)
 
       came : n ≡ t → Answer
       came same = ⊎_elim home (λ out. absurd (not_out out)) k.placed
@@ -88,17 +88,21 @@ module _ {M S E : Type 0} (fit : M → S → Type 0) (after : M → S → E → 
               seen_all : IsFront d.seen all
               seen_all = subst (IsFront d.seen) (sym h.2.history) knows.seen
 
-              took : Took fit after t d (w, (0, Some h.0) ∷ [])
+              own : entries_of caller_of d.number all ≡ d.mine
+              own = ap (entries_of caller_of d.number) h.2.history ∙ knows.mine
+
+              took : Took fit after caller_of t d (w, (0, Some h.0) ∷ [])
               took = record {
                 body = h.0;
                 longer = seen_all;
                 state = h.2.state ∙ (λ i. replay (after (sym knows.of_machine i)) (sym knows.of_start i) (sym h.2.history i));
                 is_fit = subst (λ m. fit m h.0.state) (sym knows.of_machine) h.2.is_fit;
+                own = own;
                 view = refl;
               }
 
               knows_all : Knows fit after caller_of machine start callers k.history (shown d all)
-              knows_all = record { of_machine = knows.of_machine; of_start = knows.of_start; seen = subst (IsFront all) h.2.history (front_refl all); mine = knows.mine }
+              knows_all = record { of_machine = knows.of_machine; of_start = knows.of_start; seen = subst (IsFront all) h.2.history (front_refl all); mine = knows.mine; own = own }
 
               here : get_elem? (set s.views id w) id ≡ some w
               here = set_here s.views id w (below s.views v id at)
@@ -147,6 +151,6 @@ module _ {M S E : Type 0} (fit : M → S → Type 0) (after : M → S → E → 
               let vs : s.views ≡ set s.views id v = sym (set_again s.views id v at) in
               subst (λ (z : List ℕ × List (View M S E)). Keeps record { words = z.0; homes = s.homes; views = z.1 }) (λ i. (ws i, vs i)) k
 
-  pub awaits_as : (p : Step (Option (Body S E))) (slots id t : ℕ) (me : Mine M S E) (c : Caller M S E) → slots ≡ 1 → me ≡ (waiting t c, []) → Allows (Kept fit after caller_of machine start callers) slots id me 1 (λ n. n) (awaited fit after p me)
+  pub awaits_as : (p : Step (Option (Body S E))) (slots id t : ℕ) (me : Mine M S E) (c : Caller M S E) → slots ≡ 1 → me ≡ (waiting t c, []) → Allows (Kept fit after caller_of machine start callers) slots id me 1 (λ n. n) (awaited fit after caller_of p me)
   awaits_as p slots id t me c h e =
-      subst (λ m. Allows Keeps slots id m 1 (λ n. n) (awaited fit after p m)) (sym e) (subst (λ n. Allows Keeps n id (waiting t c, []) 1 (λ n. n) (awaited fit after p (waiting t c, []))) (sym h) (awaits p id t c))
+      subst (λ m. Allows Keeps slots id m 1 (λ n. n) (awaited fit after caller_of p m)) (sym e) (subst (λ n. Allows Keeps n id (waiting t c, []) 1 (λ n. n) (awaited fit after caller_of p (waiting t c, []))) (sym h) (awaits p id t c))

@@ -1,8 +1,11 @@
 -- Lists read by get_elem?, and beginnings of lists.
-use Rattle.std.proofs.Common.{◌≡◌, ◌⊎◌, ℕ, zero, suc, ◌<◌, List, [], ◌∷◌, ◌++◌, length, slice_index_or, refl, sym, ap, ◌∙◌, inl, inr, ⊎_elim, arith, append_assoc, append-nil}
+use Rattle.std.proofs.Common.{◌≡◌, ◌⊎◌, ℕ, zero, suc, ◌<◌, List, [], ◌∷◌, ◌++◌, length, drop, slice_index_or, refl, sym, ap, ◌∙◌, inl, inr, ⊎_elim, arith, append_assoc, append-nil}
+use Rattle.std.proofs.lemmas.List.Elements.{filter-append}
+use Rattle.std.proofs.Math.Seq.{drop-append_seam}
+use Rattle.std.specs.Prelude.{eqb}
 use mathlib.Core.Option.{some, some-injective, some-ne-none}
 use lib.ListN.{get_elem?}
-use Rattle.post_turn.specs.History.{IsFront, Continues}
+use Rattle.post_turn.specs.History.{IsFront, Continues, entries_of}
 
 module _ {A : Type 0} where
   pub single : (x y : A) (i : ℕ) → get_elem? (x ∷ []) i ≡ some y → x ≡ y
@@ -43,3 +46,9 @@ all_snoc P (y ∷ ys) x h p (suc k) d lt = all_snoc (λ k. P (suc k)) ys x (λ k
 -- a history that stays
 pub stays : {E : Type 0} (caller_of : E → ℕ) (k : ℕ) (xs ys : List E) → ys ≡ xs → Continues caller_of k xs ys
 stays caller_of k xs ys e = record { rest = []; whole = e ∙ sym (append-nil xs); own = refl; others = λ j h. refl }
+
+-- the own entries of a history that went on by own entries alone
+pub own_after : {E : Type 0} (caller_of : E → ℕ) (k : ℕ) (seen mine history : List E) → Continues caller_of k seen history → entries_of caller_of k seen ≡ mine → entries_of caller_of k history ≡ mine ++ drop (length seen) history
+own_after caller_of k seen mine history more e =
+    ap (entries_of caller_of k) more.whole ∙ filter-append (λ e. eqb (caller_of e) k) seen more.rest ∙ (λ i. e i ++ more.own i)
+    ∙ ap (λ l. mine ++ l) (sym (ap (drop (length seen)) more.whole ∙ drop-append_seam seen more.rest))

@@ -11,7 +11,7 @@ use Rattle.post_turn.proofs.Views.{newcomers_once, newcomers_length}
 module _ {M S E : Type 0} (fit : M → S → Type 0) (after : M → S → E → S) (caller_of : E → ℕ) (m : M) (s : S) where
   new_ones : (n j k : ℕ) → Each (Knows fit after caller_of m s n []) (newcomers m s j k)
   new_ones n j zero = tt
-  new_ones n j (suc k) = (record { of_machine = refl; of_start = refl; seen = record { rest = []; whole = refl }; mine = refl }, new_ones n (suc j) k)
+  new_ones n j (suc k) = (record { of_machine = refl; of_start = refl; seen = record { rest = []; whole = refl }; mine = refl; own = refl }, new_ones n (suc j) k)
 
   pub opens : (n : ℕ) (b : Body S E) → b.history.items ≡ [] → b.state ≡ s → fit m b.state → n < 2 ^ 32 → Kept fit after caller_of m s n (opening (0 ∷ 0 ∷ []) (Some b ∷ []) (everyone m s n))
   opens n b empty start is_fit few = record {

@@ -4,7 +4,7 @@ use Rattle.std.specs.Prelude.{Option}
 use Rattle.atomic_table.specs.Table.{Step, rest}
 use Rattle.post_turn.specs.declared.body.Body.{Body}
 use Rattle.post_turn.specs.declared.caller.Caller.{Caller}
-use Rattle.post_turn.specs.History.{IsFront, replay}
+use Rattle.post_turn.specs.History.{IsFront, entries_of, replay}
 use Rattle.post_turn.specs.Turns.{Mine, Took, caller, resting, waiting, serving, shown, seen_in, mine_in, awaited}
 
 module _ {S E : Type 0} where
@@ -27,8 +27,8 @@ module _ {M S E : Type 0} where
   mine_at m = mine_in m.0.callers
 
   -- where the word was the ticket, the slot was taken
-  pub took : (fit : M → S → Type 0) (after : M → S → E → S) (p : Step (Option (Body S E))) (t : ℕ) (d : Caller M S E) (v w : Mine M S E) (n : ℕ) → v ≡ (waiting t d, []) → n ≡ t → awaited fit after p v n w → Took fit after t d w
-  took fit after p t d v w n e same tells = ⊎_elim (λ a. a.1) (λ a. absurd (a.0 same)) (tells t d e)
+  pub took : (fit : M → S → Type 0) (after : M → S → E → S) (caller_of : E → ℕ) (p : Step (Option (Body S E))) (t : ℕ) (d : Caller M S E) (v w : Mine M S E) (n : ℕ) → v ≡ (waiting t d, []) → n ≡ t → awaited fit after caller_of p v n w → Took fit after caller_of t d w
+  took fit after caller_of p t d v w n e same tells = ⊎_elim (λ a. a.1) (λ a. absurd (a.0 same)) (tells t d e)
 
   -- what the seat holds, from what it is known to hold
   pub carries : (w : Mine M S E) (x : Option (Body S E)) → w.1 ≡ (0, x) ∷ [] → w.1 ≡ (0, x) ∷ rest w.1
@@ -42,18 +42,19 @@ module _ {M S E : Type 0} where
   exchanged v w x y t d e f = f ∙ (λ i. ((e i).0, (0, y) ∷ rest (e i).1))
 
   -- the slot that was taken has b, and b was taken out
-  pub record Entered (fit : M → S → Type 0) (after : M → S → E → S) (t : ℕ) (d : Caller M S E) (b : Body S E) (u : Mine M S E) : Type 0 where
+  pub record Entered (fit : M → S → Type 0) (after : M → S → E → S) (caller_of : E → ℕ) (t : ℕ) (d : Caller M S E) (b : Body S E) (u : Mine M S E) : Type 0 where
     pub me : u ≡ (serving t (shown d b.history.items), (0, None) ∷ [])
     pub longer : IsFront d.seen b.history.items
     pub state : b.state ≡ replay (after d.machine) d.start b.history.items
     pub is_fit : fit d.machine b.state
+    pub own : entries_of caller_of d.number b.history.items ≡ d.mine
 
-  pub entered : (fit : M → S → Type 0) (after : M → S → E → S) (p : Step (Option (Body S E))) (t : ℕ) (d : Caller M S E) (v w u : Mine M S E) (n : ℕ) (x : Option (Body S E)) (b : Body S E)
-      → v ≡ (waiting t d, []) → n ≡ t → awaited fit after p v n w → w.1 ≡ (0, x) ∷ rest w.1 → u ≡ (w.0, (0, None) ∷ rest w.1) → x ≡ Some b → Entered fit after t d b u
-  entered fit after p t d v w u n x b e same tells has now is = subst (λ b. Entered fit after t d b u) got_b record { me = exchanged w u (Some got.body) None t (shown d got.body.history.items) got.view now; longer = got.longer; state = got.state; is_fit = got.is_fit }
+  pub entered : (fit : M → S → Type 0) (after : M → S → E → S) (caller_of : E → ℕ) (p : Step (Option (Body S E))) (t : ℕ) (d : Caller M S E) (v w u : Mine M S E) (n : ℕ) (x : Option (Body S E)) (b : Body S E)
+      → v ≡ (waiting t d, []) → n ≡ t → awaited fit after caller_of p v n w → w.1 ≡ (0, x) ∷ rest w.1 → u ≡ (w.0, (0, None) ∷ rest w.1) → x ≡ Some b → Entered fit after caller_of t d b u
+  entered fit after caller_of p t d v w u n x b e same tells has now is = subst (λ b. Entered fit after caller_of t d b u) got_b record { me = exchanged w u (Some got.body) None t (shown d got.body.history.items) got.view now; longer = got.longer; state = got.state; is_fit = got.is_fit; own = got.own }
     where
-      got : Took fit after t d w
-      got = took fit after p t d v w n e same tells
+      got : Took fit after caller_of t d w
+      got = took fit after caller_of p t d v w n e same tells
 
       got_b : got.body ≡ b
       got_b = some_same got.body b (sym (held w x (Some got.body) (ap (λ m. m.1) got.view) has) ∙ is)

@@ -1,7 +1,6 @@
 -- To give the slot back and serve the next ticket keeps the rule.
-use Rattle.std.proofs.Common.{rules, ◌≡◌, ◌≢◌, ◌⊎◌, ℕ, zero, suc, ◌+◌, ◌%◌, ◌^◌, ◌<◌, ◌≤◌, List, [], ◌∷◌, ◌++◌, length, set, drop, refl, sym, ap, ◌∙◌, subst, inl, inr, ⊎_elim, arith, Bool, true, false, true≢false, Some, None, cond, ltb}
+use Rattle.std.proofs.Common.{rules, ◌≡◌, ◌≢◌, ◌⊎◌, ℕ, zero, suc, ◌+◌, ◌%◌, ◌^◌, ◌<◌, ◌≤◌, List, [], ◌∷◌, ◌++◌, length, set, refl, sym, ap, ◌∙◌, subst, inl, inr, ⊎_elim, arith, Bool, true, false, true≢false, Some, None, cond, ltb}
 use Rattle.std.proofs.lemmas.List.Elements.{filter-append}
-use Rattle.std.proofs.Math.Seq.{drop-append_seam}
 use mathlib.Core.Option.{some, some-injective}
 use lib.ListN.{get_elem?}
 use Rattle.std.specs.Prelude.{slice_index, slice_set, Option, eqb}
@@ -12,7 +11,7 @@ use Rattle.post_turn.specs.declared.caller.Caller.{Caller}
 use Rattle.post_turn.specs.declared.view.View.{View}
 use Rattle.post_turn.specs.History.{Continues, entries_of, replay}
 use Rattle.post_turn.specs.Turns.{Kept, Knows, IsOut, Each, Mine, resting, serving, grown, served, times, total, ticketed}
-use Rattle.post_turn.proofs.Lists.{same_at, first_is, front_refl, front_trans}
+use Rattle.post_turn.proofs.Lists.{same_at, first_is, front_refl, front_trans, own_after}
 use Rattle.post_turn.proofs.Views.{first_or, total_set, total_at, total_two, times_once, each_but}
 
 not_true : (b : Bool) → (b ≡ true → ⊥) → b ≡ false
@@ -90,7 +89,8 @@ module _ {M S E : Type 0} (fit : M → S → Type 0) (after : M → S → E → 
         of_machine = knows.of_machine;
         of_start = knows.of_start;
         seen = front_refl all;
-        mine = entries d.number ∙ (λ i. knows.mine i ++ more.own i) ∙ ap (λ l. d.mine ++ l) (sym (ap (drop (length d.seen)) more.whole ∙ drop-append_seam d.seen more.rest));
+        mine = own_after caller_of d.number d.seen d.mine all more knows.own;
+        own = own_after caller_of d.number d.seen d.mine all more knows.own;
       }
 
       -- a caller of another number has no entry among the new ones
@@ -100,6 +100,7 @@ module _ {M S E : Type 0} (fit : M → S → Type 0) (after : M → S → E → 
         of_start = h.of_start;
         seen = front_trans c.seen k.history all h.seen record { rest = more.rest; whole = whole };
         mine = entries c.number ∙ ap (λ l. entries_of caller_of c.number k.history ++ l) (more.others c.number else) ∙ Rattle.std.proofs.Common.append-nil (entries_of caller_of c.number k.history) ∙ h.mine;
+        own = h.own;
       }
 
       one : (x : Bool) → cond {A = ℕ} x 1 0 ≤ 1

@@ -6,7 +6,7 @@ use Rattle.post_turn.specs.declared.pass.Pass.{Pass}
 use Rattle.post_turn.specs.declared.post.Post.{Post}
 use Rattle.post_turn.specs.History.{IsFront, entries_of}
 use Rattle.post_turn.specs.Turns.{Mine, Each, Knows, caller, resting}
-use Rattle.post_turn.specs.Passes.{IsPassOf, callers_on, seen_of, mine_of, start_of}
+use Rattle.post_turn.specs.Passes.{IsPassOf, KnowsOwn, callers_on, seen_of, mine_of, start_of}
 
 module _ {A : Type 0} (P : A → Type 0) where
   pub all_front : (xs : List A) (x : A) → All P (xs ++ x ∷ []) → All P xs
@@ -46,11 +46,11 @@ module _ {M S V E G : Type 0} where
       omega arith
 
   pub all_know : (fit : M → S → Type 0) (after : M → S → E → S) (caller_of : E → ℕ) (m : M) (s : S) (n : ℕ) (history : List E) (post : Post M S V E G) (ps : List (Pass M S V E G))
-      → All (IsPassOf post) ps → Each (Knows fit after caller_of m s n history) (callers_on ps) → All (λ p. IsFront (seen_of p) history × (entries_of caller_of p.caller history ≡ mine_of p)) ps
+      → All (IsPassOf post) ps → Each (Knows fit after caller_of m s n history) (callers_on ps) → All (λ p. IsFront (seen_of p) history × (entries_of caller_of p.caller history ≡ mine_of p) × KnowsOwn caller_of p) ps
   all_know fit after caller_of m s n history post [] h known k d lt = absurd (omega arith)
   all_know fit after caller_of m s n history post (p ∷ ps) h known zero d lt =
       let first = subst (λ cs. Each (Knows fit after caller_of m s n history) (cs ++ callers_on ps)) (one post p (h zero p (omega arith))) known in
-      (first.0.seen, first.0.mine)
+      (first.0.seen, first.0.mine, first.0.own)
   all_know fit after caller_of m s n history post (p ∷ ps) h known (suc k) d lt =
       let first = subst (λ cs. Each (Knows fit after caller_of m s n history) (cs ++ callers_on ps)) (one post p (h zero p (omega arith))) known in
       all_know fit after caller_of m s n history post ps (all_rest (IsPassOf post) p ps h) first.1 k d (omega arith)

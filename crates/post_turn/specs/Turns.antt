@@ -122,6 +122,8 @@ module _ {M S E : Type 0} where
       pub of_start : c.start ≡ start
       pub seen : IsFront c.seen all
       pub mine : entries_of caller_of c.number all ≡ c.mine
+      -- what is its own was seen
+      pub own : entries_of caller_of c.number c.seen ≡ c.mine
 
     -- the slot is at home with the history
     abbrev pub AtHome : List (maybe.Option (Option (Body S E))) → List E → List (View M S E) → Type 0
@@ -156,17 +158,18 @@ module _ {M S E : Type 0} where
   abbrev pub drawn : Step (Option (Body S E)) → Mine M S E → ℕ → Mine M S E → Type 0
   drawn p v n w = (c : Caller M S E) → v ≡ (resting (c ∷ []), []) → w ≡ (waiting n c, [])
 
-  -- the seat took the slot, with the history and its state
-  pub record Took (fit : M → S → Type 0) (after : M → S → E → S) (n : ℕ) (c : Caller M S E) (w : Mine M S E) : Type 0 where
+  -- the seat took the slot, with the history, its state, and what of the history is the caller's own
+  pub record Took (fit : M → S → Type 0) (after : M → S → E → S) (caller_of : E → ℕ) (n : ℕ) (c : Caller M S E) (w : Mine M S E) : Type 0 where
     pub body : Body S E
     pub longer : IsFront c.seen body.history.items
     pub state : body.state ≡ replay (after c.machine) c.start body.history.items
     pub is_fit : fit c.machine body.state
+    pub own : entries_of caller_of c.number body.history.items ≡ c.mine
     pub view : w ≡ (serving n (shown c body.history.items), (0, Some body) ∷ [])
 
   -- where the word is the ticket, the seat took the slot
-  abbrev pub awaited : (M → S → Type 0) → (M → S → E → S) → Step (Option (Body S E)) → Mine M S E → ℕ → Mine M S E → Type 0
-  awaited fit after p v n w = (t : ℕ) (c : Caller M S E) → v ≡ (waiting t c, []) → ((n ≡ t) × Took fit after t c w) ⊎ ((n ≢ t) × (w ≡ v))
+  abbrev pub awaited : (M → S → Type 0) → (M → S → E → S) → (E → ℕ) → Step (Option (Body S E)) → Mine M S E → ℕ → Mine M S E → Type 0
+  awaited fit after caller_of p v n w = (t : ℕ) (c : Caller M S E) → v ≡ (waiting t c, []) → ((n ≡ t) × Took fit after caller_of t c w) ⊎ ((n ≢ t) × (w ≡ v))
 
   -- the slot was given back, and all that it has was seen
   abbrev pub served : Step (Option (Body S E)) → Mine M S E → ℕ → Mine M S E → Type 0

@@ -29,6 +29,7 @@ pub(crate) fn step<M: Machine>(
 ) -> Result<Receipt<M>, Refused<M>>
     requires { M.fit machine.now body.old.state × M.lawful machine.now event }
     ensures entry { IfOk result (λ _. body.new.history.items ≡ body.old.history.items ++ M.entry_of machine.now body.old.state caller event ∷ []) }
+    ensures caller { IfOk result (λ _. M.caller_of (M.entry_of machine.now body.old.state caller event) ≡ caller) }
     ensures state { IfOk result (λ _. body.new.state ≡ M.after machine.now body.old.state (M.entry_of machine.now body.old.state caller event)) }
     ensures receipt { IfOk result (λ r. (r.number ≡ length body.new.history.items) × (r.glance ≡ M.glance_of machine.now body.new.state)) }
     ensures own { Continues M.caller_of caller body.old.history.items body.new.history.items }

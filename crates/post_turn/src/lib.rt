@@ -8,7 +8,7 @@
 //! `gate`, `open_gate`), the state with its history (`body`), what is known of callers (`caller`,
 //! `view`), the lock's table with its rule and the steps that keep it (`about`, `turns`, `plays`), a
 //! caller's pass and what a call answers (`pass`, `receipt`, `refused`), and the post (`post`): how it
-//! is made (`opening`), one turn (`steps`), what callers do (`acting`), and how it ends (`closing`).
+//! is made (`opening`), one turn (`steps`, `waiting`), what callers do (`acting`), and how it ends (`closing`).
 #![tactic(auto)]
 
 mod about;
@@ -23,10 +23,9 @@ mod plays;
 mod post;
 mod receipt;
 mod refused;
-#[cfg(test)]
-mod tests;
 mod turns;
 mod view;
+mod waiting;
 
 pub use gate::Gate;
 pub use gate_point::GatePoint;

@@ -3,7 +3,7 @@ ghost use Rattle.post_turn.specs.Turns.{drawn, awaited, served, first_of, rest_o
 
 use crate::Machine;
 use crate::body::Body;
-use crate::turns::{Knows, Slot};
+use crate::turns::{Slot, ViewOf};
 use crate::view::View;
 use atomic_table::{Join, Play, Split};
 use std::marker::PhantomData;
@@ -20,8 +20,8 @@ pub(crate) struct Await<M> {
     machine: PhantomData<M>,
 }
 
-impl<M: Machine> Play<Slot<M>, Knows<M>> for Await<M> {
-    ghost then = { awaited M.fit M.after };
+impl<M: Machine> Play<Slot<M>, ViewOf<M>> for Await<M> {
+    ghost then = { awaited M.fit M.after M.caller_of };
 }
 
 /// Gives the slot back and calls the next ticket.

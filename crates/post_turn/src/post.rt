@@ -2,7 +2,7 @@
 ghost use Rattle.std.specs.Prelude.{◌≡◌, ◌<◌};
 
 use crate::Machine;
-use crate::turns::Board;
+use crate::turns::TurnLock;
 
 mod acting;
 mod closing;
@@ -13,10 +13,10 @@ mod steps;
 /// while other threads act through theirs.
 #[derive(Drop)]
 pub struct Post<M: Machine> {
-    pub(crate) board: Board<M>,
+    pub(crate) lock: TurnLock<M>,
     pub(crate) machine: M,
     pub(crate) number: u32,
-    ghost sized: { (board.shared.table_id.words ≡ 2) × (board.shared.table_id.slots ≡ 1) },
-    ghost keyed: { board.shared.key.value.machine ≡ machine },
-    ghost counted: { 0 < board.shared.key.value.callers },
+    ghost sized: { (lock.shared.table_id.words ≡ 2) × (lock.shared.table_id.slots ≡ 1) },
+    ghost keyed: { lock.shared.key.value.machine ≡ machine },
+    ghost counted: { 0 < lock.shared.key.value.callers },
 }

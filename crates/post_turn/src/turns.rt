@@ -17,20 +17,20 @@ pub(crate) struct Turns<M> {
 /// What the one slot holds while no caller has the turn.
 pub(crate) type Slot<M: Machine> = Option<Body<M::State, M::Entry>>;
 
-pub(crate) type Knows<M: Machine> = View<M, M::State, M::Entry>;
+pub(crate) type ViewOf<M: Machine> = View<M, M::State, M::Entry>;
 
-impl<M: Machine> TableRule<Slot<M>, Knows<M>, Snapshot<About<M, M::State>>> for Turns<M> {
+impl<M: Machine> TableRule<Slot<M>, ViewOf<M>, Snapshot<About<M, M::State>>> for Turns<M> {
     ghost holds = { λ key. Kept M.fit M.after M.caller_of key.value.machine key.value.start key.value.callers };
 
     ghost first = { λ key. everyone key.value.machine key.value.start key.value.callers };
 }
 
-pub(crate) type Board<M: Machine> = Table<
+pub(crate) type TurnLock<M: Machine> = Table<
     Slot<M>,
-    Knows<M>,
+    ViewOf<M>,
     Snapshot<About<M, M::State>>,
     Turns<M>,
     Global,
 >;
 
-pub(crate) type Place<M: Machine> = Seat<Slot<M>, Knows<M>>;
+pub(crate) type Place<M: Machine> = Seat<Slot<M>, ViewOf<M>>;

@@ -1,7 +1,7 @@
 // What callers do at a post.
 ghost use Rattle.std.specs.Prelude.{◌≡◌, ℕ, length, IfOk, IfErr};
 ghost use Rattle.post_turn.specs.History.{IsFront, replay};
-ghost use Rattle.post_turn.specs.Passes.{start_of, seen_of, mine_of, IsPassOf, Acts};
+ghost use Rattle.post_turn.specs.Passes.{start_of, seen_of, mine_of, IsPassOf, KnowsOwn, SeesFit, Acts};
 
 use crate::body::step;
 use crate::{Gate, GatePoint, Machine, Pass, Post, Receipt, Refused};
@@ -24,7 +24,9 @@ impl<M: Machine> Post<M> {
         requires pass { IsPassOf self.now pass.old }
         requires event { M.lawful self.now.machine event }
         ensures pass { IsPassOf self.now pass.new × (pass.new.caller ≡ pass.old.caller) }
-        ensures entry { IfOk result (λ _. Acts (λ before. M.entry_of self.now.machine (replay (M.after self.now.machine) (start_of self.now) before) pass.old.caller event) pass.old pass.new) }
+        ensures own { KnowsOwn M.caller_of pass.new }
+        ensures fit { SeesFit M.fit M.after self.now pass.new }
+        ensures entry { IfOk result (λ _. Acts M.caller_of (λ before. M.entry_of self.now.machine (replay (M.after self.now.machine) (start_of self.now) before) pass.old.caller event) pass.old pass.new) }
         ensures receipt { IfOk result (λ r. (r.number ≡ length (seen_of pass.new)) × (r.glance ≡ M.glance_of self.now.machine (replay (M.after self.now.machine) (start_of self.now) (seen_of pass.new)))) }
         ensures refused { IfErr result (λ r. (r.event ≡ event) × IsFront (seen_of pass.old) (seen_of pass.new) × (mine_of pass.new ≡ mine_of pass.old)) }
     {
@@ -41,6 +43,8 @@ impl<M: Machine> Post<M> {
     pub fn look<R: Wait>(&self, rt: &R, pass: &mut Pass<M>) -> (u64, M::Glance)
         requires { IsPassOf self.now pass.old }
         ensures pass { IsPassOf self.now pass.new × (pass.new.caller ≡ pass.old.caller) }
+        ensures own { KnowsOwn M.caller_of pass.new }
+        ensures fit { SeesFit M.fit M.after self.now pass.new }
         ensures seen { IsFront (seen_of pass.old) (seen_of pass.new) × (mine_of pass.new ≡ mine_of pass.old) }
         ensures length { result.0 ≡ length (seen_of pass.new) }
         ensures glance { result.1 ≡ M.glance_of self.now.machine (replay (M.after self.now.machine) (start_of self.now) (seen_of pass.new)) }

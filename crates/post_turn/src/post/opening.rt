@@ -47,7 +47,7 @@ impl<M: Machine> Post<M> {
     ) -> Result<(Post<M>, Place<M>), OutOfMemory>
         requires { (0 < callers) × M.fit machine start }
         ensures post { IfOk result (λ r. (r.0.machine ≡ machine) × (start_of r.0 ≡ start) × (callers_of r.0 ≡ callers) × (r.0.number ≡ number)) }
-        ensures place { IfOk result (λ r. (r.1.table_id ≡ r.0.board.shared.table_id) × (r.1.me ≡ (everyone machine start callers, []))) }
+        ensures place { IfOk result (λ r. (r.1.table_id ≡ r.0.lock.shared.table_id) × (r.1.me ≡ (everyone machine start callers, []))) }
     {
         let about = About {
             machine,
@@ -66,9 +66,9 @@ impl<M: Machine> Post<M> {
             history: Vec::new(alloc),
         }))?;
         match Table::new(alloc, &[0, 0], slots, &key) {
-            Ok((board, place)) => Ok((
+            Ok((lock, place)) => Ok((
                 Post {
-                    board,
+                    lock,
                     machine,
                     number,
                 },
@@ -85,12 +85,12 @@ impl<M: Machine> Post<M> {
         place: &mut Place<M>,
         callers: u32,
     ) -> Result<Row<Pass<M>>, OutOfMemory>
-        requires { (place.old.table_id ≡ self.now.board.shared.table_id) × (place.old.me ≡ (everyone self.now.machine (start_of self.now) callers, [])) }
+        requires { (place.old.table_id ≡ self.now.lock.shared.table_id) × (place.old.me ≡ (everyone self.now.machine (start_of self.now) callers, [])) }
         ensures { IfOk result (λ r. (length r ≡ callers) × AreDealt self.now r) }
     {
         let mut passes = Row::new(alloc);
         for caller in 0..callers {
-            let place = self.board.shared.split_seat::<Deal>(place);
+            let place = self.lock.shared.split_seat::<Deal>(place);
             passes.push(Pass { place, caller })?;
         }
         Ok(passes)

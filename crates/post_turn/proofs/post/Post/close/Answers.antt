@@ -2,7 +2,7 @@ use Rattle.std.proofs.Common.{◌≡◌, length, sym, ap, ◌∙◌, subst}
 use Rattle.std.specs.Prelude.{All}
 use Rattle.post_turn.specs.History.{IsFront, entries_of}
 use Rattle.post_turn.specs.Turns.{Each, Knows}
-use Rattle.post_turn.specs.Passes.{callers_on, seen_of, mine_of}
+use Rattle.post_turn.specs.Passes.{KnowsOwn, callers_on, seen_of, mine_of}
 use Rattle.post_turn.proofs.Together.{is_resting, callers_count, all_know}
 use Rattle.post_turn.proofs.post.Post.close.Goals as goal
 
@@ -14,8 +14,8 @@ end-body-requires-clause-all g c κs within =
 pub returns-clause-passes : goal.returns-clause-passes
 returns-clause-passes g c =
     let post = c.args.self in
-    let about = post.board.shared.key.value in
+    let about = post.lock.shared.key.value in
     let history = c.end-body.result.history.items in
     let known = subst (λ m. Each (Knows g.M.Machine.fit g.M.Machine.after g.M.Machine.caller_of about.machine about.start about.callers history) m.0.callers) c.gather-place.ensures.1 c.end-body.ensures.known in
     let all = all_know g.M.Machine.fit g.M.Machine.after g.M.Machine.caller_of about.machine about.start about.callers history post c.args.passes c.requires.1 known in
-    subst (λ h. All (λ p. IsFront (seen_of p) h × (entries_of g.M.Machine.caller_of p.caller h ≡ mine_of p)) c.args.passes) (sym c.from.ensures) all
+    subst (λ h. All (λ p. IsFront (seen_of p) h × (entries_of g.M.Machine.caller_of p.caller h ≡ mine_of p) × KnowsOwn g.M.Machine.caller_of p) c.args.passes) (sym c.from.ensures) all

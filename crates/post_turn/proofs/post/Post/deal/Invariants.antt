@@ -5,7 +5,7 @@ use Rattle.post_turn.proofs.post.Post.deal.Given as goal
 
 abbrev pub invariant-loop-caller : goal.invariant-loop-caller
 invariant-loop-caller g l = record {
-  place : l.place.table_id ≡ l.self.board.shared.table_id;
+  place : l.place.table_id ≡ l.self.lock.shared.table_id;
   me : l.place.me ≡ (resting (newcomers l.self.machine (start_of l.self) l.caller (l.callers - l.caller)), []);
   count : length l.passes ≡ l.caller;
   dealt : AreDealt l.self l.passes;

@@ -8,7 +8,7 @@ use Rattle.post_turn.proofs.post.closing.gather.Goals as goal
 
 pub loop-place-init : goal.loop-place-init
 loop-place-init g c =
-    let id = c.args.board.now.shared.table_id in
+    let id = c.args.lock.now.shared.table_id in
     let last = c.in-Some.field-0 in
     let left = c.pop.new.self.items in
     let whole : c.args.passes ≡ left ++ last ∷ [] = sym c.into_vec-passes.ensures ∙ c.in-Some.ensures.items in
@@ -23,7 +23,7 @@ loop-place-init g c =
 
 pub join_seat-requires : goal.join_seat-requires
 join_seat-requires g c =
-    let id = c.args.board.now.shared.table_id in
+    let id = c.args.lock.now.shared.table_id in
     let inv = c.loop-place.invariant in
     let next = c.in-Some-pop.field-0 in
     let left = c.pop-in-loop-place.new.self.items in
@@ -33,7 +33,7 @@ join_seat-requires g c =
 
 pub loop-place-preserved : goal.loop-place-preserved
 loop-place-preserved g c =
-    let id = c.args.board.now.shared.table_id in
+    let id = c.args.lock.now.shared.table_id in
     let inv = c.loop-place.invariant in
     let next = c.in-Some-pop.field-0 in
     let left = c.pop-in-loop-place.new.self.items in

@@ -6,9 +6,9 @@ use Rattle.post_turn.proofs.post.closing.gather.Given as goal
 
 abbrev pub invariant-loop-place : goal.invariant-loop-place
 invariant-loop-place g l = record {
-  place : l.all.table_id ≡ l.board.shared.table_id;
+  place : l.all.table_id ≡ l.lock.shared.table_id;
   me : l.all.me ≡ (resting l.all.me.0.callers, []);
-  others : All (IsOn l.board.shared.table_id) l.passes.items;
+  others : All (IsOn l.lock.shared.table_id) l.passes.items;
   together : callers_on l.passes.items ++ l.all.me.0.callers ≡ callers_on l.fn.passes;
 }
 

@@ -1,7 +1,7 @@
 // A machine that counts its entries, and refuses the events that it was told to.
 ghost use Rattle.std.specs.Prelude.{◌≡◌, ℕ, ◌+◌, ◌%◌, ◌^◌};
 
-use crate::Machine;
+use post_turn::Machine;
 
 /// What one call adds: whose it is, and the caller's own count of its calls.
 #[derive(Clone, Copy, Debug, PartialEq, Eq)]
@@ -17,7 +17,7 @@ pub struct Counting {
 }
 
 impl Machine for Counting {
-    ghost use Rattle.post_turn.specs.declared.tests.counting.Call.{Call};
+    ghost use Rattle.post_turn_tests.specs.declared.counting.Call.{Call};
 
     type State = u64;
 

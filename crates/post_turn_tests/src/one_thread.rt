@@ -1,6 +1,6 @@
 // One post and two passes in one thread.
-use super::counting::{Call, Counting, in_order};
-use crate::{OpenGate, Post};
+use crate::counting::{Counting, in_order};
+use post_turn::{OpenGate, Post};
 use site_base::Row;
 use std::test::Fail;
 

@@ -2,8 +2,8 @@
 ghost use Rattle.std.specs.Prelude.{◌≡◌, ◌<◌};
 ghost use Rattle.post_turn.specs.Passes.{IsPassOf};
 
-use super::counting::Counting;
-use crate::{Gate, GatePoint, OpenGate, Pass, Post};
+use crate::counting::Counting;
+use post_turn::{Gate, GatePoint, Pass, Post};
 use std::alloc::Global;
 use std::sync::Wait;
 use std::sync::atomic::{AtomicU64, Ordering};

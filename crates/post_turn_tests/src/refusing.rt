@@ -1,6 +1,6 @@
 // A machine that refuses an event, and a gate that counts.
-use super::counting::Counting;
-use crate::{Gate, GatePoint, Post};
+use crate::counting::Counting;
+use post_turn::{Gate, GatePoint, Post};
 use site_base::Row;
 use std::sync::atomic::{AtomicU64, Ordering};
 use std::test::Fail;
