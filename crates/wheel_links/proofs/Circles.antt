@@ -1,27 +1,9 @@
--- Rings over plain functions: an induction along a ring, a cell taken out, and a cell put in at the end.
-use Rattle.std.proofs.Common.{◌≡◌, ◌≢◌, ◌==◌, ℕ, zero, suc, ◌<◌, ◌≤◌, Option, Some, None, if◌then◌else◌, refl, sym, ap, subst, ◌∙◌, inl, inr, arith}
-use Rattle.std.proofs.lemmas.Bool.{cases_eq, cases_lt}
+-- Rings over plain functions: a cell taken out, and a cell put in at the end.
+use Rattle.std.proofs.Common.{◌≡◌, ◌≢◌, ◌==◌, ℕ, suc, ◌<◌, ◌≤◌, Option, Some, None, if◌then◌else◌, sym, ap, ◌∙◌, inl, inr, arith}
+use Rattle.std.proofs.lemmas.Bool.{cases_eq}
 use Rattle.std.proofs.lemmas.Bool.Decides.{nat_tests}
 use Rattle.std.proofs.lemmas.Option.{none-some, same_Some}
 use Rattle.wheel_links.specs.Rings.{AreRings}
-
-module _ {n : ℕ} {slot : ℕ → Option ℕ} {after before : ℕ → ℕ} (r : AreRings n slot after before) (heads : (c : ℕ) → c < n → slot c ≡ Some c) where
-  around_below : (P : ℕ → Type 0) (s : ℕ) → P s → ((c : ℕ) → slot c ≡ Some s → n ≤ c → P (before c) → P c) → (k c : ℕ) → r.rank c < k → slot c ≡ Some s → P c
-  around_below P s at_head step zero c below here = absurd (omega arith)
-  around_below P s at_head step (suc k) c below here =
-      elim (cases_lt c n) [
-        | inl low ↦ let same : s ≡ c = same_Some s c (sym here ∙ heads c low) in subst P same at_head
-        | inr high ↦ let less : r.rank (before c) < k = omega (arith, r.rises c s here high) in
-            step c here high (around_below P s at_head step k (before c) less (r.before_in c s here))
-      ]
-
-  -- what holds of a ring's head, and of each cell if it holds of the one before, holds of all cells of the ring
-  pub around : (P : ℕ → Type 0) (s : ℕ) → P s → ((c : ℕ) → slot c ≡ Some s → n ≤ c → P (before c) → P c) → (c : ℕ) → slot c ≡ Some s → P c
-  around P s at_head step c here = around_below P s at_head step (suc (r.rank c)) c (omega arith) here
-
-  -- where a head is its own neighbour, it is alone
-  pub alone : (s : ℕ) → after s ≡ s → (c : ℕ) → slot c ≡ Some s → c ≡ s
-  alone s own c here = around (λ x. x ≡ s) s refl (λ x at high e. sym (r.forth x s at) ∙ ap after e ∙ own) c here
 
 module _ {n : ℕ} {slot : ℕ → Option ℕ} {after before : ℕ → ℕ} (r : AreRings n slot after before) where
   -- no cell of a ring but its head is its own neighbour

@@ -1,8 +1,5 @@
-pub mod Bounds
 pub mod Changes
 pub mod Circles
-pub mod Firsts
 pub mod Members
-pub mod Scans
 pub mod Slots
-pub mod Walks
+pub mod Trees

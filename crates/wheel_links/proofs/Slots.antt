@@ -4,8 +4,8 @@ use Rattle.std.proofs.lemmas.Bool.{cases_lt}
 use Rattle.std.proofs.lemmas.Bool.Decides.{nat_tests}
 use Rattle.std.proofs.lemmas.Option.{none-some, same_Some}
 use Rattle.std.specs.Option.{option_map}
-use Rattle.wheel_links.specs.Members.{Members, IsMember, moment_of}
-use Rattle.wheel_links.proofs.Members.{is_member, member_within}
+use Rattle.wheel_links.specs.Members.{Members, moment_of}
+use Rattle.wheel_links.proofs.Members.{member_within}
 use Rattle.wheel_links.specs.Rings.{slot_of}
 
 option_map_some : (f : ℕ → ℕ) (o : Option ℕ) (s : ℕ) → option_map f o ≡ Some s → (m : ℕ) × (o ≡ Some m) × (f m ≡ s)
@@ -34,9 +34,6 @@ slot-member n ms id m e = slot-id n ms id ∙ ap (option_map (λ k. k % n)) e
 pub member_of_slot : (n : ℕ) (ms : Members) (c s : ℕ) → slot_of n ms c ≡ Some s → n ≤ c → (m : ℕ) × (moment_of ms (c - n) ≡ Some m) × (m % n ≡ s)
 member_of_slot n ms c s here high = option_map_some (λ m. m % n) (moment_of ms (c - n)) s (sym (slot-high n ms c high) ∙ here)
 
-pub is_member_of_slot : (n : ℕ) (ms : Members) (c s : ℕ) → slot_of n ms c ≡ Some s → n ≤ c → IsMember ms (c - n)
-is_member_of_slot n ms c s here high = let m = member_of_slot n ms c s here high in is_member ms (c - n) m.0 m.1
-
 -- a cell of a ring exists
 pub slot_within : (n : ℕ) (ms : Members) (c s : ℕ) → slot_of n ms c ≡ Some s → c < n + length ms
 slot_within n ms c s here = elim (cases_lt c n) [
@@ -45,13 +42,6 @@ slot_within n ms c s here = elim (cases_lt c n) [
       let m = member_of_slot n ms c s here high in
       let within : c - n < length ms = member_within ms (c - n) m.0 m.1 in
       omega arith
-]
-
--- a cell of a ring that isn't the ring's head is no head
-pub high_in_slot : (n : ℕ) (ms : Members) (c s : ℕ) → slot_of n ms c ≡ Some s → c ≢ s → n ≤ c
-high_in_slot n ms c s here other = elim (cases_lt c n) [
-  | inl low ↦ absurd (other (same_Some c s (sym (slot-head n ms c low) ∙ here)))
-  | inr high ↦ high
 ]
 
 -- a change at one id leaves the slots of the other cells

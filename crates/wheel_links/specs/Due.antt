@@ -6,10 +6,6 @@ use Rattle.wheel_links.specs.Members.{Members, moment_of}
 abbrev pub IsNotAfter : ℕ → ℕ → ℕ → ℕ → Type 0
 IsNotAfter moment id other_moment other = (moment ≤ other_moment) × (moment ≡ other_moment → id ≤ other)
 
--- (moment, id) is before (other_moment, other)
-abbrev pub IsBefore : ℕ → ℕ → ℕ → ℕ → Type 0
-IsBefore moment id other_moment other = (moment ≤ other_moment) × (moment ≡ other_moment → id < other)
-
 -- no member's moment is at or before this one
 abbrev pub IsNoneDue : Members → ℕ → Type 0
 IsNoneDue members now = (id moment : ℕ) → moment_of members id ≡ Some moment → now < moment

@@ -1,7 +1,6 @@
-pub mod Bound
 pub mod Due
 pub mod Inside
 pub mod Links
 pub mod Members
 pub mod Rings
-pub mod Walk
+pub mod Tree

@@ -1,6 +1,6 @@
 -- The links of cells, and what a change of a ring does to them.
 use Rattle.std.specs.Prelude.{◌≡◌, ◌==◌, ℕ, ◌<◌, List, length, slice_index_or, if◌then◌else◌}
-use Rattle.wheel_links.specs.declared.link.Link.{Link}
+use Rattle.wheel_links.specs.declared.links.Link.{Link}
 
 -- the neighbours of a cell that exists
 abbrev pub link_at : List Link → ℕ → Link

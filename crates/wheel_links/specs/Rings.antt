@@ -1,11 +1,10 @@
 -- The rings: one for each slot, through the slot's head and the cells of the slot's members.
 -- The cells below the number of slots are the heads, and an id's cell stands that much further on.
-use Rattle.std.specs.Prelude.{◌≡◌, ℕ, ◌+◌, ◌-◌, ◌%◌, ◌^◌, ◌<◌, ◌≤◌, nat_lt, List, Bool, true, false, Option, Some, length, slice_index_or, if◌then◌else◌}
+use Rattle.std.specs.Prelude.{◌≡◌, ℕ, ◌+◌, ◌-◌, ◌%◌, ◌^◌, ◌<◌, ◌≤◌, nat_lt, List, Option, Some, length, if◌then◌else◌}
 use Rattle.std.specs.Option.{option_map}
-use Rattle.wheel_links.specs.declared.link.Link.{Link}
+use Rattle.wheel_links.specs.declared.links.Link.{Link}
 use Rattle.wheel_links.specs.Links.{after_at, before_at}
 use Rattle.wheel_links.specs.Members.{Members, capacity_of, moment_of}
-use Rattle.wheel_links.specs.Due.{IsBefore}
 
 -- the slot whose ring the cell stands in: a head's own, and that of a member's moment
 unfoldable pub slot_of : ℕ → Members → ℕ → Option ℕ
@@ -25,21 +24,10 @@ pub record AreRings (slots : ℕ) (slot : ℕ → Option ℕ) (after before : �
 abbrev pub HasRings : ℕ → Members → List Link → Type 0
 HasRings slots members links = AreRings slots (slot_of slots members) (after_at links) (before_at links)
 
-abbrev pub flag_of : List Bool → ℕ → Bool
-flag_of flags slot = slice_index_or flags slot false
-
--- along the ring of a slot that is marked, members stand by (moment, id)
-abbrev pub AreInOrder : ℕ → Members → List Link → List Bool → Type 0
-AreInOrder slots members links flags =
-    (id moment other other_moment : ℕ) → moment_of members id ≡ Some moment → moment_of members other ≡ Some other_moment
-    → before_at links (slots + id) ≡ slots + other → flag_of flags (moment % slots) ≡ true → IsBefore other_moment other moment id
-
--- each member stands in the ring of its moment's slot, and what is marked is in order
-pub record AreSlots (slots : ℕ) (members : Members) (links : List Link) (flags : List Bool) : Type 0 where
+-- each member stands in the ring of its moment's slot, and no other id in any
+pub record AreSlots (slots : ℕ) (members : Members) (links : List Link) : Type 0 where
   pub some_slots : 0 < slots
   pub few_slots : slots < 2 ^ 32
   pub few_ids : capacity_of members < 2 ^ 32 - 1
   pub cells : length links ≡ slots + capacity_of members
-  pub flag_each : length flags ≡ slots
   pub rings : HasRings slots members links
-  pub in_order : AreInOrder slots members links flags

@@ -1,33 +1,21 @@
 //! The timing wheel: which checkable is due next.
 //!
 //! A [`Wheel`] is a finite map from ids below its capacity to moments. It finds the member that is
-//! due first from the slots of the moments that have come, without going over the ids, and a change
-//! takes at most sixteen steps through its links, however many members there are.
+//! due first in at most 33 looks, and a change takes at most sixteen steps through its links,
+//! however many members there are and in whatever order they were placed.
 //!
-//! In reading order: the counter of steps (`steps`), a cell's neighbours and all of them (`link`,
-//! `links`), a member with its moment (`entry`), the walk along a slot's ring (`walk`), the search
-//! over the slots (`scan`), the moments that no member's is before (`lows`, `bound`), and the wheel
-//! with its two answers (`wheel`, `present`, `absent`).
+//! In reading order: the counter of steps (`steps`), the cells' neighbours (`links`), the tree of
+//! least moments (`tree`), and the wheel (`wheel`).
 #![tactic(auto)]
 
-mod absent;
-mod bound;
-mod entry;
-mod link;
 mod links;
-mod lows;
-mod present;
-mod scan;
 mod steps;
-mod walk;
+mod tree;
 mod wheel;
 
-pub use absent::Absent;
-pub use link::Link;
-pub use links::Links;
-pub use present::Present;
+pub use links::{Link, Links};
 pub use steps::Steps;
-pub use wheel::Wheel;
+pub use wheel::{Absent, Present, Wheel};
 
 #[cfg(test)]
 mod tests;

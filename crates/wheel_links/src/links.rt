@@ -2,11 +2,18 @@
 ghost use Rattle.std.specs.Prelude.{◌≡◌, ◌+◌, ◌<◌, ◌^◌, length, slice_set, IfOk};
 ghost use Rattle.wheel_links.specs.Links.{link_at, after_at, before_at, AreAlone, IsUnlinked, IsAppended};
 
-use crate::{Link, Steps};
+use crate::Steps;
 use site_base::OutOfMemory;
 use std::alloc::Global;
 use std::marker::Model;
 use std::sync::ledger::Ledger;
+
+/// The neighbours of a cell in its ring, by their indices.
+#[derive(Clone, Copy, Debug, PartialEq, Eq)]
+pub struct Link {
+    pub before: u64,
+    pub after: u64,
+}
 
 /// The neighbours of every cell, in one vector. Clauses see it as the list of the links.
 #[derive(Drop)]
@@ -16,7 +23,7 @@ pub struct Links {
 
 impl Model for Links {
     ghost use Rattle.std.specs.Prelude.{List};
-    ghost use Rattle.wheel_links.specs.declared.link.Link.{Link};
+    ghost use Rattle.wheel_links.specs.declared.links.Link.{Link};
 
     ghost Value = { List Link };
 
@@ -60,7 +67,7 @@ impl Links {
         self.cells[cell as usize] = link;
     }
 
-    /// A cell's neighbours. It counts nothing, and is for `Wheel::due` alone.
+    /// A cell's neighbours. It counts nothing: it is for a look at the rings that is no change's.
     pub fn seen(&self, cell: u64) -> Link
         requires { cell < length self.now }
         ensures { result ≡ link_at self.now cell }
@@ -68,13 +75,12 @@ impl Links {
         self.cells[cell as usize]
     }
 
-    /// Takes a cell out of its ring: its neighbours, which it gives, become each other's.
-    pub(crate) fn unlink<L: Ledger>(&mut self, cell: u64, steps: &mut Steps<L>) -> Link
+    /// Takes a cell out of its ring: its neighbours become each other's.
+    pub(crate) fn unlink<L: Ledger>(&mut self, cell: u64, steps: &mut Steps<L>)
         requires cell { cell < length self.old }
         requires before { before_at self.old cell < length self.old }
         requires after { after_at self.old cell < length self.old }
         ensures length { length self.new ≡ length self.old }
-        ensures link { result ≡ link_at self.old cell }
         ensures unlinked { IsUnlinked self.old self.new cell }
         ensures cost { steps.new ≡ steps.old + 5 }
     {
@@ -91,17 +97,14 @@ impl Links {
             after: after.after,
         };
         self.write(link.after, joined, steps);
-        link
     }
 
-    /// Puts a cell at the end of a head's ring, and gives the cell that was last there: the head
-    /// itself where the ring was empty.
-    pub(crate) fn append<L: Ledger>(&mut self, head: u64, cell: u64, steps: &mut Steps<L>) -> u64
+    /// Puts a cell at the end of a head's ring.
+    pub(crate) fn append<L: Ledger>(&mut self, head: u64, cell: u64, steps: &mut Steps<L>)
         requires head { head < length self.old }
         requires cell { cell < length self.old }
         requires last { before_at self.old head < length self.old }
         ensures length { length self.new ≡ length self.old }
-        ensures last { result ≡ before_at self.old head }
         ensures appended { IsAppended self.old self.new head cell }
         ensures cost { steps.new ≡ steps.old + 6 }
     {
@@ -123,6 +126,5 @@ impl Links {
             after: old.after,
         };
         self.write(head, joined, steps);
-        last
     }
 }

@@ -4,8 +4,8 @@ ghost use Rattle.std.specs.Prelude.{◌≡◌, ◌+◌, ◌<◌};
 use std::marker::Model;
 use std::sync::ledger::{Blank, Book, Ledger, Share};
 
-/// How many reads and writes of links were made. It takes no bytes and no time: only proofs see it,
-/// as that number.
+/// How many reads and writes of links, and looks at nodes of the tree, were made. It takes no bytes
+/// and no time: only proofs see it, as that number.
 ///
 /// A caller that counts nothing takes a [`Blank`] and makes its counter where it is needed.
 #[derive(Drop)]

@@ -1,37 +1,38 @@
-// The wheel.
+// The wheel, and what its calls refuse with.
 ghost use Rattle.std.specs.Prelude.{◌≡◌, ℕ, ◌+◌, ◌-◌, ◌^◌, ◌<◌, ◌≤◌, None, Some, IfOk, IfSome, IfNone, OnOk, OnErr, length};
 ghost use Rattle.std.specs.Result.{result_ok};
 ghost use Rattle.wheel_links.specs.Due.{IsNextDue, IsNoneDue};
 ghost use Rattle.wheel_links.specs.Members.{IsMember, capacity_of, empty, insert, member_count, moment_of, remove};
 
-use crate::bound::Bound;
-use crate::entry::Entry;
-use crate::lows::{low_with, low_without};
-use crate::scan::first_due;
-use crate::walk::stays_in_order;
-use crate::{Absent, Links, Present, Steps};
+use crate::tree::MomentTree;
+use crate::{Links, Steps};
 use site_base::{Moment, OutOfMemory};
 use std::alloc::Global;
-use std::marker::Model;
-use std::sync::ledger::Ledger;
+use std::marker::{Brand, Model};
+use std::sync::ledger::{Blank, Ledger};
+use thiserror::Error;
+
+/// The id is a member of the wheel already.
+#[derive(Clone, Copy, Debug, PartialEq, Eq, Error)]
+#[error("the id is on the wheel already")]
+pub struct Present;
+
+/// The id is no member of the wheel.
+#[derive(Clone, Copy, Debug, PartialEq, Eq, Error)]
+#[error("the id is not on the wheel")]
+pub struct Absent;
 
 /// A timing wheel: a map from ids to the moments at which they are due. Clauses see it as that map,
 /// a place for each id below the capacity.
 ///
-/// A member stands in the slot that is its moment modulo the number of slots. A slot's members are a
-/// ring of cells: the cells below the number of slots are the rings' heads, and an id's cell stands
-/// that much further on.
+/// A member stands in the slot that is its moment modulo the number of slots. A slot's members are
+/// a ring of cells: the cells below the number of slots are the rings' heads, and an id's cell
+/// stands that much further on. Which member is due first is found in a tree over the ids.
 #[derive(Drop)]
 pub struct Wheel {
     links: Links,
-    /// The moment of each id, if it is a member.
-    moments: Vec<Option<Moment>>,
-    /// For each slot, whether its ring is known to be in the order in which its members are due.
-    in_order: Vec<bool>,
-    /// For each slot, a moment that none of its members' is before, if it has members.
-    lows: Vec<Option<Moment>>,
+    moments: MomentTree,
     slots: u64,
-    bound: Bound,
     /// How many members there are.
     count: u32,
 }
@@ -42,9 +43,9 @@ impl Model for Wheel {
 
     ghost Value = { Members };
 
-    ghost view = { λ w. w.moments.items };
+    ghost view = { λ w. w.moments };
 
-    ghost invariant = { λ w. IsWheel w.slots w.moments.items w.links w.in_order.items w.lows.items w.bound w.count };
+    ghost invariant = { λ w. IsWheel w.slots w.moments w.links w.count };
 }
 
 impl Wheel {
@@ -56,16 +57,11 @@ impl Wheel {
         ensures { IfOk result (λ w. w ≡ empty capacity) }
     {
         let links = Links::alone(alloc, u64::from(slots) + u64::from(capacity))?;
-        let moments = vec![in alloc; None; capacity as usize]?;
-        let in_order = vec![in alloc; true; slots as usize]?;
-        let lows = vec![in alloc; None; slots as usize]?;
+        let moments = MomentTree::new(alloc, capacity)?;
         Ok(Wheel {
             links,
             moments,
-            in_order,
-            lows,
             slots: u64::from(slots),
-            bound: Bound::new(),
             count: 0,
         })
     }
@@ -92,7 +88,7 @@ impl Wheel {
         ensures placed { OnOk result (self.new ≡ insert self.old id moment) }
         ensures cost { steps.new ≤ steps.old + 16 }
     {
-        if self.moments[id as usize].is_some() {
+        if self.moments.of(id).is_some() {
             return Err(Present);
         }
         self.put_in(id, moment, steps);
@@ -108,10 +104,10 @@ impl Wheel {
         ensures removed { OnOk result (self.new ≡ remove self.old id) }
         ensures cost { steps.new ≤ steps.old + 16 }
     {
-        let Some(moment) = self.moments[id as usize] else {
+        let Some(moment) = self.moments.of(id) else {
             return Err(Absent);
         };
-        self.take_out(id, moment, steps);
+        self.take_out(id, steps);
         Ok(moment)
     }
 
@@ -129,43 +125,44 @@ impl Wheel {
         ensures moved { OnOk result (self.new ≡ insert self.old id moment) }
         ensures cost { steps.new ≤ steps.old + 16 }
     {
-        let Some(old) = self.moments[id as usize] else {
+        let Some(old) = self.moments.of(id) else {
             return Err(Absent);
         };
-        self.take_out(id, old, steps);
+        self.take_out(id, steps);
         self.put_in(id, moment, steps);
         Ok(old)
     }
 
     /// The id of the member that is due first: the least by moment, then by id, among those whose
-    /// moment is at or before this one. `None` comes exactly where there is none.
-    ///
-    /// It goes by the slots, from that of the least moment that a member may have up to that of the
-    /// first member that is due, and over each slot once at most. Of a slot it looks at one cell
-    /// where the members were placed in their order of (moment, id), as they are again once they
-    /// were taken by `due` and moved on by one and the same time; else it walks over all of them. So
-    /// a call costs a step for each slot on the way, and one more for each member of a slot on the
-    /// way that is out of order: many members that are due at one moment and were placed in any
-    /// order cost as many steps at each call.
-    ///
-    /// The least moment lags behind where all members moved far ahead. It has caught up when a
-    /// sixteenth as many members as there are slots were moved or removed.
+    /// moment is at or before this one. `None` comes exactly where there is none. It looks at as
+    /// many nodes as `due_counting`.
     pub fn due(&self, moment: Moment) -> Option<u32>
         ensures none { IfNone result (IsNoneDue self.now moment) }
         ensures first { IfSome result (λ id. IsNextDue self.now moment id) }
     {
-        if self.count == 0 {
-            return None;
-        }
-        let first = first_due(
-            &self.links,
-            &self.moments,
-            &self.in_order,
-            self.slots,
-            self.bound.least,
-            moment,
-        )?;
-        Some(first.id)
+        self.due_on::<Brand>(moment, Blank::new(1))
+    }
+
+    /// As `due`, with each look at a node of the tree counted as a step. It takes at most 33 steps,
+    /// one for the root and one for each level below it, in whatever order the members were placed.
+    pub fn due_counting<L: Ledger>(&self, moment: Moment, steps: &mut Steps<L>) -> Option<u32>
+        ensures none { IfNone result (IsNoneDue self.now moment) }
+        ensures first { IfSome result (λ id. IsNextDue self.now moment id) }
+        ensures cost { steps.new ≤ steps.old + 33 }
+    {
+        self.moments.first(moment, steps)
+    }
+
+    /// As `due`, with a counter of its own.
+    fn due_on<L: Ledger>(&self, moment: Moment, blank: Blank) -> Option<u32>
+        requires name { blank.name ≡ L.name }
+        requires parts { blank.parts ≡ L.parts }
+        requires any { 0 < blank.parts }
+        ensures none { IfNone result (IsNoneDue self.now moment) }
+        ensures first { IfSome result (λ id. IsNextDue self.now moment id) }
+    {
+        let mut steps = Steps::<L>::new(blank);
+        self.due_counting(moment, &mut steps)
     }
 
     /// Makes an id that is no member one, at the end of its slot's ring.
@@ -176,35 +173,20 @@ impl Wheel {
         ensures cost { steps.new ≤ steps.old + 6 }
     {
         let slot = moment.secs() % self.slots;
-        let last = self.links.append(slot, self.slots + u64::from(id), steps);
-        let new = Entry { moment, id };
-        let stays = stays_in_order(
-            &self.moments,
-            self.in_order[slot as usize],
-            self.slots,
-            last,
-            &new,
-        );
-        self.in_order[slot as usize] = stays;
-        self.lows[slot as usize] = low_with(self.lows[slot as usize], moment);
-        self.moments[id as usize] = Some(moment);
-        self.bound = self.bound.lowered(moment);
+        self.links.append(slot, self.slots + u64::from(id), steps);
+        self.moments.set(id, Some(moment));
         self.count += 1;
     }
 
-    /// Takes a member with this moment off the wheel, and sweeps on for the least moment.
-    fn take_out<L: Ledger>(&mut self, id: u32, moment: Moment, steps: &mut Steps<L>)
+    /// Takes a member off the wheel.
+    fn take_out<L: Ledger>(&mut self, id: u32, steps: &mut Steps<L>)
         requires id { id < capacity_of self.old }
-        requires member { moment_of self.old id ≡ Some moment }
+        requires member { IsMember self.old id }
         ensures removed { self.new ≡ remove self.old id }
         ensures cost { steps.new ≤ steps.old + 5 }
     {
-        let slot = moment.secs() % self.slots;
-        let link = self.links.unlink(self.slots + u64::from(id), steps);
-        let was_alone = link.is_alone_at(slot);
-        self.lows[slot as usize] = low_without(self.lows[slot as usize], was_alone);
-        self.moments[id as usize] = None;
+        self.links.unlink(self.slots + u64::from(id), steps);
+        self.moments.set(id, None);
         self.count -= 1;
-        self.bound = self.bound.advanced(&self.lows);
     }
 }
