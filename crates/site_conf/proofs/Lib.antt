@@ -1,9 +1,8 @@
 pub mod NameLaws
-pub mod WildLaws
 pub mod ListingLaws
 pub mod Toldness
-pub mod LexBridge
 pub mod KeyLaws
+pub mod KnownLaws
 pub mod NamingLaws
 pub mod WalkLaws
 pub mod SoundLaws

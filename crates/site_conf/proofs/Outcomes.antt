@@ -1,10 +1,10 @@
 -- What reading a file's tokens came to, by what was answered.
 use Rattle.std.proofs.Common.{◌≡◌, Err, sym, ap, subst}
 use Rattle.site_base.specs.declared.place.Place.{Place}
-use Rattle.dsl_parser.specs.Files.{Outcome, tree_found, fault_at, deep_at_place}
-use Rattle.dsl_parser.specs.Parsing.{Answers}
-use Rattle.dsl_parser.specs.declared.parse_error.ParseError.{ParseError}
-use Rattle.dsl_parser.specs.declared.parse_error.ParseError.TheVariants as errors
+use Rattle.dsl_grammar.specs.Files.{Outcome, tree_found, fault_at, deep_at_place}
+use Rattle.dsl_grammar.specs.Parsing.{Answers}
+use Rattle.dsl_grammar.specs.declared.parse_error.ParseError.{ParseError}
+use Rattle.dsl_grammar.specs.declared.parse_error.ParseError.TheVariants as errors
 
 deep_is : (o : Outcome) (place : Place) → Answers o (Err (errors.TooDeep place)) → o ≡ deep_at_place place
 deep_is (tree_found tree) place h = absurd h

@@ -6,10 +6,10 @@ use Rattle.site_base.specs.declared.diag.Diag.{Diag}
 use Rattle.site_base.specs.declared.diag_kind.DiagKind.{DiagKind}
 use Rattle.site_base.specs.declared.diag_kind.DiagKind.TheVariants as kind
 use Rattle.site_base.specs.declared.place.Place.{Place}
-use Rattle.dsl_lexer.specs.Lexing.{Lexed, all, bad}
-use Rattle.dsl_parser.specs.Files.{Outcome, tree_found, fault_at, deep_at_place, file_outcome}
-use Rattle.site_conf.specs.Reading.{Kept, diag_at, in_file, kept_none, kept_outcome, kept_tokens, tokens_of, kept_bytes, kept_content}
-use Rattle.site_conf.specs.Sources.{full_name}
+use Rattle.dsl_lexer.specs.Lexing.{Lexed, all, bad, file_tokens}
+use Rattle.dsl_grammar.specs.Files.{Outcome, tree_found, fault_at, deep_at_place, file_outcome}
+use Rattle.site_conf.specs.Reading.{Kept, diag_at, in_file, kept_none, kept_outcome, kept_tokens, kept_bytes, kept_content}
+use Rattle.site_conf.specs.Sources.{full_name, is_library}
 use Rattle.site_base.specs.Quoted.{quoted}
 use Rattle.site_conf.specs.Sound.{AreIn, IsSound, IsLater, IsOneMore, IsFound, MayStand}
 use Rattle.site_conf.specs.Views.{IsEntered}
@@ -43,7 +43,7 @@ tokens_in file (bad p) = one_in (file + 1) (diag_at (in_file file p) kind.Lexica
 
 bytes_in : (file : ℕ) (bytes : List ℕ) → AreIn (file + 1) (kept_bytes file bytes).faults
 unfolding kept_bytes
-bytes_in file bytes = tokens_in file (tokens_of file bytes)
+bytes_in file bytes = tokens_in file (file_tokens file bytes)
 
 long_in : (file : ℕ) (bytes : List ℕ) (b : Bool) → AreIn (file + 1) (cond b (kept_none TooLong) (kept_bytes file bytes)).faults
 long_in file bytes true = none_in (file + 1)
@@ -66,6 +66,7 @@ kept_more source content s t e h =
     let both : AreIn (length s.names + 1) (s.diags ++ k.faults) = All-append (λ d. d.place.file < length s.names + 1) s.diags k.faults old (content_in (length s.names) content) in
     subst (λ x. IsOneMore s x) (sym e) (record {
       sound = record {
+        library = one_longer s.library (is_library source) (length s.names) h.library ∙ sym longer;
         holdings = one_longer s.holdings k.holding (length s.names) h.holdings ∙ sym longer;
         trees = one_longer s.trees k.tree (length s.names) h.trees ∙ sym longer;
         places = more_in (length s.names + 1) (length (s.names ++ name ∷ [])) (s.diags ++ k.faults) (omega (arith, longer)) both;
@@ -75,12 +76,13 @@ kept_more source content s t e h =
 
 -- a number in the order changes nothing of this
 pub number_later : (n : ℕ) (s t : WalkState) → t ≡ with_number n s → IsSound s → IsLater s t
-number_later n s t e h = subst (λ x. IsLater s x) (sym e) (record { sound = record { holdings = h.holdings; trees = h.trees; places = h.places }; more = omega arith })
+number_later n s t e h = subst (λ x. IsLater s x) (sym e) (record { sound = record { library = h.library; holdings = h.holdings; trees = h.trees; places = h.places }; more = omega arith })
 
 -- nor does a fault in a file that was met
 pub fault_later : (at : Place) (k : DiagKind) (name : List ℕ) (s t : WalkState) → t ≡ with_fault at k name s → IsSound s → at.file < length s.names → IsLater s t
 fault_later at k name s t e h l = subst (λ x. IsLater s x) (sym e) (record {
   sound = record {
+    library = h.library;
     holdings = h.holdings;
     trees = h.trees;
     places = All-append (λ d. d.place.file < length s.names) s.diags (diag_at at k (quoted name) ∷ []) h.places (one_in (length s.names) (diag_at at k (quoted name)) l);
@@ -92,10 +94,10 @@ pub same_later : (s : WalkState) → IsSound s → IsLater s s
 same_later s h = record { sound = h; more = omega arith }
 
 pub count_sound : (s : WalkState) → IsSound s → IsSound (with_count s)
-count_sound s h = record { holdings = h.holdings; trees = h.trees; places = h.places }
+count_sound s h = record { library = h.library; holdings = h.holdings; trees = h.trees; places = h.places }
 
 pub end_later : (s t : WalkState) → IsLater s t → IsLater s (with_end t)
-end_later s t h = record { sound = record { holdings = h.sound.holdings; trees = h.sound.trees; places = h.sound.places }; more = h.more }
+end_later s t h = record { sound = record { library = h.sound.library; holdings = h.sound.holdings; trees = h.sound.trees; places = h.sound.places }; more = h.more }
 
 pub counted_later : (s t : WalkState) → IsLater (with_count s) t → IsLater s t
 counted_later s t h = record { sound = h.sound; more = h.more }
@@ -153,7 +155,7 @@ settled_found at name index (Some Whole) s t found eo h l e =
     subst (λ f. IsFound s t f) (sym r.0) (record { later = later; met = omega (arith, inside, h.holdings, later.more) })
 
 pub begins_sound : (s : WalkState) → s ≡ empty_state → IsSound s
-begins_sound s e = subst (λ x. IsSound x) (sym e) (record { holdings = refl; trees = refl; places = none_in 0 })
+begins_sound s e = subst (λ x. IsSound x) (sym e) (record { library = refl; holdings = refl; trees = refl; places = none_in 0 })
 
 pub may_begin : (at : Place) (source : Source) (s : WalkState) → s ≡ empty_state → at.file ≡ 0 → MayStand at source s
 may_begin at source s e z = subst (λ x. MayStand at source x) (sym e) (record { old = λ k f. absurd (cc); new = omega (arith, z) })

@@ -1,7 +1,7 @@
 -- The statements of a file that include others.
 use Rattle.std.specs.Prelude.{List, [], ◌++◌, Option, Some, None}
 use Rattle.std.specs.Option.{option_to_list}
-use Rattle.site_base.specs.Syntax.{statement, Statements, no_statements, more_statements, StatementKind, include, include_library, include_all}
+use Rattle.dsl_syntax.specs.Syntax.{statement, Statements, no_statements, more_statements, StatementKind, include, include_library, include_all}
 use Rattle.site_base.specs.declared.place.Place.{Place}
 use Rattle.site_conf.specs.declared.inclusion.Inclusion.{Inclusion}
 use Rattle.site_conf.specs.declared.inclusion.Inclusion.TheVariants.{File, Library, Folder}

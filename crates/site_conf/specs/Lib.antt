@@ -1,8 +1,8 @@
 pub mod SourceKeys
 pub mod Faults
 pub mod Names
-pub mod Wildcards
 pub mod Listings
+pub mod Known
 pub mod Library
 pub mod Inclusions
 pub mod Sources

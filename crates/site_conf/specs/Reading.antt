@@ -1,15 +1,12 @@
 -- What a file comes to when it is read.
-use Rattle.std.specs.Prelude.{ℕ, List, [], ◌∷◌, take, length, nat_lt, Option, Some, None, if◌then◌else◌}
-use Rattle.std.specs.Str.{is_utf8}
-use Rattle.std.specs.Str.Lossy.{utf8_valid_len}
-use Rattle.site_base.specs.Syntax.{Statements, no_statements}
+use Rattle.std.specs.Prelude.{ℕ, List, [], ◌∷◌, length, nat_lt, Option, Some, None, if◌then◌else◌}
+use Rattle.dsl_syntax.specs.Syntax.{Statements, no_statements}
 use Rattle.site_base.specs.declared.diag.Diag.{Diag}
 use Rattle.site_base.specs.declared.diag_kind.DiagKind.{DiagKind}
 use Rattle.site_base.specs.declared.diag_kind.DiagKind.TheVariants as kind
 use Rattle.site_base.specs.declared.place.Place.{Place}
-use Rattle.dsl_lexer.specs.Lexing.{Lexed, all, bad, lexed}
-use Rattle.dsl_lexer.specs.Places.{start_of, place_behind}
-use Rattle.dsl_parser.specs.Files.{Outcome, tree_found, fault_at, deep_at_place, file_outcome}
+use Rattle.dsl_lexer.specs.Lexing.{Lexed, all, bad, file_tokens}
+use Rattle.dsl_grammar.specs.Files.{Outcome, tree_found, fault_at, deep_at_place, file_outcome}
 use Rattle.site_conf.specs.Inclusions.{inclusions}
 use Rattle.site_conf.specs.declared.holding.Holding.{Holding}
 use Rattle.site_conf.specs.declared.holding.Holding.TheVariants.{Missing, TooLong, Broken, Whole}
@@ -50,12 +47,8 @@ abbrev pub kept_tokens : ℕ → Lexed → Kept
 kept_tokens file (all tokens) = kept_outcome file (file_outcome tokens)
 kept_tokens file (bad p) = kept_fault file kind.Lexical p
 
--- the tokens of the bytes of a file, or the place of what begins none; bytes that aren't UTF-8 go wrong where they stop to be
-abbrev pub tokens_of : ℕ → List ℕ → Lexed
-tokens_of file bytes = if is_utf8 bytes then lexed (start_of file) bytes else bad (place_behind (take (utf8_valid_len bytes) bytes) (start_of file))
-
 unfoldable pub kept_bytes : ℕ → List ℕ → Kept
-kept_bytes file bytes = kept_tokens file (tokens_of file bytes)
+kept_bytes file bytes = kept_tokens file (file_tokens file bytes)
 
 -- a file is read up to 4 MiB
 abbrev pub kept_content : ℕ → Option (List ℕ) → Kept

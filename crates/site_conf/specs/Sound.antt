@@ -1,5 +1,5 @@
 -- What holds at each moment of the walk, whatever the files hold.
-use Rattle.std.specs.Prelude.{ℕ, ◌≡◌, ◌<◌, ◌≤◌, ◌+◌, List, All, Option, Some, IfSome, length}
+use Rattle.std.specs.Prelude.{ℕ, ◌≡◌, ◌<◌, ◌≤◌, ◌+◌, List, All, Option, Some, IfSome, length, ⊤}
 use Rattle.site_base.specs.declared.diag.Diag.{Diag}
 use Rattle.site_base.specs.declared.place.Place.{Place}
 use Rattle.site_conf.specs.Sources.{source_at}
@@ -12,8 +12,9 @@ use Rattle.site_conf.specs.declared.walk_answer.WalkAnswer.TheVariants as answer
 abbrev pub AreIn : ℕ → List Diag → Type 0
 AreIn n ds = All (λ d. d.place.file < n) ds
 
--- each file that was met has a name, a holding and a tree, and the diagnostics stand in these files
+-- each file that was met has a name, a holding and a tree, and it is known if it is of the library; and the diagnostics stand in these files
 pub record IsSound (s : WalkState) : Type 0 where
+  pub library : length s.library ≡ length s.names
   pub holdings : length s.holdings ≡ length s.names
   pub trees : length s.trees ≡ length s.names
   pub places : AreIn (length s.names) s.diags
@@ -42,3 +43,8 @@ pub record MayStand (at : Place) (source : Source) (s : WalkState) : Type 0 wher
 abbrev pub IsWhole : WalkAnswer → Type 0
 IsWhole (answer.Walked w) = length w.trees.items ≡ length w.names
 IsWhole (answer.Diags files list) = AreIn (length files) list.items
+
+-- of each name it is told if it is of the library
+abbrev pub IsFlagged : WalkAnswer → Type 0
+IsFlagged (answer.Walked w) = length w.library.items ≡ length w.names
+IsFlagged (answer.Diags files list) = ⊤

@@ -1,9 +1,9 @@
 -- What inclusions name, and what it holds.
-use Rattle.std.specs.Prelude.{ℕ, List, [], ◌∷◌, ◌++◌, ◌&&◌, Bool, false, Option, filter, map, if◌then◌else◌, position}
+use Rattle.std.specs.Prelude.{ℕ, List, [], ◌∷◌, ◌++◌, ◌&&◌, Bool, true, false, Option, filter, map, if◌then◌else◌, position}
 use Rattle.std.specs.Str.{bytes_eq}
 use Rattle.site_edge.specs.Told.{find_file}
 use Rattle.site_conf.specs.Names.{joined, trimmed, folder_of, last_part, has_wildcard}
-use Rattle.site_conf.specs.Wildcards.{matches}
+use Rattle.wildcards.specs.Wildcards.{matches}
 use Rattle.site_conf.specs.Listings.{listing}
 use Rattle.site_conf.specs.Library.{library_text}
 use Rattle.site_conf.specs.declared.inclusion.Inclusion.{Inclusion}
@@ -15,6 +15,11 @@ use Rattle.site_conf.specs.declared.source.Source.TheVariants.{File, Library}
 abbrev pub full_name : Source → List ℕ
 full_name (File name) = name
 full_name (Library name) = 60 ∷ [] ++ name ++ 62 ∷ []
+
+-- a part of the built-in library
+abbrev pub is_library : Source → Bool
+is_library (File name) = false
+is_library (Library name) = true
 
 abbrev pub same_source : Source → Source → Bool
 same_source (File m) (File n) = bytes_eq m n
@@ -37,21 +42,25 @@ abbrev pub ends_so : List ℕ → List ℕ → Bool
 ends_so pattern name = matches pattern (last_part name)
 
 -- of these names, those in the one folder that the pattern describes
-abbrev pub in_folder : List ℕ → List ℕ → List (List ℕ) → List Source
-in_folder folder pattern names = map File (filter (is_in_folder folder pattern) names)
+abbrev pub in_folder : List ℕ → List ℕ → List (List ℕ) → List (List ℕ)
+in_folder folder pattern names = filter (is_in_folder folder pattern) names
 
 -- of these names, those whose last part the pattern describes
-abbrev pub below_folder : List ℕ → List (List ℕ) → List Source
-below_folder pattern names = map File (filter (ends_so pattern) names)
+abbrev pub below_folder : List ℕ → List (List ℕ) → List (List ℕ)
+below_folder pattern names = filter (ends_so pattern) names
+
+-- the files of the one folder that a name with a wildcard in its last part describes, in byte order
+abbrev pub wild_names : List (List ℕ × List ℕ) → List ℕ → List (List ℕ)
+wild_names files name = in_folder (folder_of name) (last_part name) (listing (folder_of name) files)
 
 -- what a name names: with a wildcard in its last part the files of the one folder that match it, in byte order; else itself
 abbrev pub named : List (List ℕ × List ℕ) → List ℕ → List Source
 named files name =
-    if has_wildcard (last_part name) then in_folder (folder_of name) (last_part name) (listing (folder_of name) files)
+    if has_wildcard (last_part name) then map File (wild_names files name)
     else File name ∷ []
 
 -- what an inclusion in the file of this name names
 abbrev pub sources_of : List (List ℕ × List ℕ) → List ℕ → Inclusion → List Source
 sources_of files file (inclusion.File name at) = named files (joined file name)
 sources_of files file (inclusion.Library name at) = Library name ∷ []
-sources_of files file (inclusion.Folder dir pattern at) = below_folder pattern (listing (trimmed (joined file dir)) files)
+sources_of files file (inclusion.Folder dir pattern at) = map File (below_folder pattern (listing (trimmed (joined file dir)) files))

@@ -1,14 +1,14 @@
 -- The walk over the files of a site.
 use Rattle.std.specs.Prelude.{ℕ, zero, suc, ◌+◌, List, [], ◌∷◌, ◌++◌, ◌==◌, length, slice_get, nat_lt, Bool, true, false, Option, Some, None, if◌then◌else◌}
 use Rattle.site_base.specs.Quoted.{quoted}
-use Rattle.site_base.specs.Syntax.{Statements}
+use Rattle.dsl_syntax.specs.Syntax.{Statements}
 use Rattle.site_base.specs.declared.diag.Diag.{Diag}
 use Rattle.site_base.specs.declared.diag_kind.DiagKind.{DiagKind}
 use Rattle.site_base.specs.declared.diag_kind.DiagKind.TheVariants as kind
 use Rattle.site_base.specs.declared.place.Place.{Place}
 use Rattle.dsl_lexer.specs.Places.{start_of}
 use Rattle.site_conf.specs.Inclusions.{place_of}
-use Rattle.site_conf.specs.Sources.{full_name, source_at, content_of, sources_of}
+use Rattle.site_conf.specs.Sources.{full_name, is_library, source_at, content_of, sources_of}
 use Rattle.site_conf.specs.Reading.{Kept, diag_at, in_file, kept_content}
 use Rattle.site_conf.specs.declared.holding.Holding.{Holding}
 use Rattle.site_conf.specs.declared.holding.Holding.TheVariants.{Missing, TooLong, Broken, Whole}
@@ -20,11 +20,13 @@ use Rattle.site_conf.specs.declared.source.Source.TheVariants.{File}
 abbrev pub Told : Type 0
 Told = List (List ℕ × List ℕ)
 
--- What stands at one moment of the walk: of each file that was met what it was named, its name, what it holds, its tree and
+-- What stands at one moment of the walk: of each file that was met what it was named, its name, whether it is
+-- a part of the built-in library, what it holds, its tree and
 -- its inclusions; the order so far, the diagnostics, how many inclusions there were, and whether the walk has ended.
 pub record WalkState : Type 0 where
   pub sources : List Source
   pub names : List (List ℕ)
+  pub library : List Bool
   pub holdings : List Holding
   pub trees : List Statements
   pub inclusions : List (List Inclusion)
@@ -34,7 +36,7 @@ pub record WalkState : Type 0 where
   pub ended : Bool
 
 abbrev pub empty_state : WalkState
-empty_state = record { sources = []; names = []; holdings = []; trees = []; inclusions = []; order = []; diags = []; count = 0; ended = false }
+empty_state = record { sources = []; names = []; library = []; holdings = []; trees = []; inclusions = []; order = []; diags = []; count = 0; ended = false }
 
 abbrev pub or_nothing : {A : Type 0} → Option (List A) → List A
 or_nothing None = []
@@ -59,6 +61,7 @@ abbrev pub with_kept : Source → Kept → WalkState → WalkState
 with_kept source k s = record s {
   sources = s.sources ++ source ∷ [];
   names = s.names ++ full_name source ∷ [];
+  library = s.library ++ is_library source ∷ [];
   holdings = s.holdings ++ k.holding ∷ [];
   trees = s.trees ++ k.tree ∷ [];
   inclusions = s.inclusions ++ k.inclusions ∷ [];

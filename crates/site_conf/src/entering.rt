@@ -1,5 +1,5 @@
 // One inclusion of the walk.
-ghost use Rattle.std.specs.Prelude.{◌≡◌, ◌≤◌, ◌<◌, List, ℕ, Some, None, IfOk, OnOk, IfSome, IsErrOf, length, slice_get};
+ghost use Rattle.std.specs.Prelude.{◌≡◌, ◌≤◌, ◌<◌, List, ℕ, Some, None, IfOk, OnOk, IfSome, IsErrOf, length, slice_get, ◌≢◌, Err};
 ghost use Rattle.site_edge.specs.Told.{Rose};
 ghost use Rattle.site_conf.specs.Sources.{source_at, content_of, full_name as full_name_of};
 ghost use Rattle.site_conf.specs.Reading.{kept_content};
@@ -38,6 +38,8 @@ pub(crate) fn enter<F: Files>(
     ensures same { F.told files.new ≡ F.told files.old }
     ensures cause { IsErrOf result LoadFault.Failed → Rose (F.faults files.old) (F.faults files.new) }
     ensures counts { F.faults files.old ≤ F.faults files.new }
+    ensures calm { F.calm files.old → F.calm files.new }
+    ensures unfailing { F.calm files.old → result ≢ Err LoadFault.Failed }
 {
     if progress.ended {
         return Ok(None);
@@ -72,6 +74,8 @@ pub(crate) fn meet<F: Files>(
     ensures same { F.told files.new ≡ F.told files.old }
     ensures cause { IsErrOf result LoadFault.Failed → Rose (F.faults files.old) (F.faults files.new) }
     ensures counts { F.faults files.old ≤ F.faults files.new }
+    ensures calm { F.calm files.old → F.calm files.new }
+    ensures unfailing { F.calm files.old → result ≢ Err LoadFault.Failed }
 {
     match progress.sources.find(source)? {
         Some(index) => Ok(settle(alloc, progress, at, source, index)?),
@@ -97,6 +101,8 @@ fn read<F: Files>(
     ensures same { F.told files.new ≡ F.told files.old }
     ensures cause { IsErrOf result LoadFault.Failed → Rose (F.faults files.old) (F.faults files.new) }
     ensures counts { F.faults files.old ≤ F.faults files.new }
+    ensures calm { F.calm files.old → F.calm files.new }
+    ensures unfailing { F.calm files.old → result ≢ Err LoadFault.Failed }
 {
     let content = content(alloc, files, source)?;
     let index = keep_content(alloc, progress, source, content)?;

@@ -1,11 +1,12 @@
 // The inclusions of a file.
 ghost use Rattle.std.specs.Prelude.{◌≡◌, ◌++◌, IfOk, OnOk};
 ghost use Rattle.std.specs.Option.{option_to_list};
-ghost use Rattle.site_base.specs.SyntaxView.{file_view, stmt_kind_view};
+ghost use Rattle.dsl_syntax.specs.SyntaxView.{file_view, stmt_kind_view};
 ghost use Rattle.site_conf.specs.Inclusions.{inclusion_of, inclusions};
 
 use crate::inclusion::Inclusion;
-use site_base::{File, OutOfMemory, StmtKind};
+use dsl_syntax::{File, StmtKind};
+use site_base::OutOfMemory;
 use std::alloc::Global;
 
 /// The inclusions of a file, in its order. They stand at its top level alone.

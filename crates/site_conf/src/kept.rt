@@ -1,7 +1,8 @@
 // What is kept of a file that was met.
 use crate::holding::Holding;
 use crate::inclusion::Inclusion;
-use site_base::{Diag, File};
+use dsl_syntax::File;
+use site_base::Diag;
 
 /// What is kept of a file that was met.
 #[derive(Drop)]

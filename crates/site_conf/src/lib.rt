@@ -1,7 +1,7 @@
 //! The configuration of a site: the walk over its files.
 //!
-//! In reading order: the parts of names (`names`) and wildcards (`wildcard`), the statements that include
-//! others (`inclusion`, `inclusions`) and what they name (`source`, `naming`), the built-in library
+//! In reading order: the parts of names (`names`), the statements that include
+//! others (`inclusion`, `inclusions`) and what they name (`source`, `known`, `listings`, `naming`), the built-in library
 //! (`library`), what a file comes to when it is read (`holding`, `kept`, `reading`), what stands at a
 //! moment of the walk (`sources`, `progress`), one inclusion (`entering`), and the walk itself (`walking`).
 #![tactic(auto)]
@@ -11,7 +11,9 @@ mod holding;
 mod inclusion;
 mod inclusions;
 mod kept;
+mod known;
 mod library;
+mod listings;
 mod load_fault;
 mod names;
 mod naming;
@@ -20,11 +22,8 @@ mod reading;
 mod site_walk;
 mod source;
 mod sources;
-#[cfg(test)]
-mod tests;
 mod walk_answer;
 mod walking;
-mod wildcard;
 
 pub use load_fault::LoadFault;
 pub use site_walk::Walk;

@@ -8,18 +8,21 @@ use crate::holding::Holding;
 use crate::inclusion::Inclusion;
 use crate::kept::Kept;
 use crate::reading::diag;
-use crate::source::{Source, full_name};
+use crate::source::{Source, full_name, is_library};
 use crate::sources::Sources;
-use site_base::{Diag, DiagKind, File, OutOfMemory, Place, Row, Text, Texts, quote};
+use dsl_syntax::File;
+use site_base::{Diag, DiagKind, OutOfMemory, Place, Row, Text, Texts, quote};
 use std::alloc::Global;
 
-/// What stands at a moment of the walk: for each file that was met what it holds, the order so far, the
+/// What stands at a moment of the walk: for each file that was met whether it is
+/// of the library and what it holds, the order so far, the
 /// diagnostics, the number of inclusions, and whether the walk has ended.
 #[derive(Drop)]
 pub(crate) struct Progress {
     pub(crate) alloc: Global,
     pub(crate) sources: Sources,
     pub(crate) names: Texts,
+    pub(crate) library: Vec<bool>,
     pub(crate) holdings: Vec<Holding>,
     pub(crate) trees: Vec<File>,
     pub(crate) inclusions: Vec<Vec<Inclusion>>,
@@ -38,6 +41,7 @@ impl Progress {
             alloc,
             sources: Sources::new(alloc),
             names: Row::new(alloc),
+            library: Vec::new(alloc),
             holdings: Vec::new(alloc),
             trees: Vec::new(alloc),
             inclusions: Vec::new(alloc),
@@ -78,6 +82,7 @@ impl Progress {
         } = kept;
         self.sources.add(source)?;
         self.names.push(full_name(self.alloc, source)?)?;
+        self.library.push(is_library(source))?;
         self.holdings.push(holding)?;
         self.trees.push(tree)?;
         self.inclusions.push(inclusions)?;

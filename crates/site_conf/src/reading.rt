@@ -1,8 +1,8 @@
 // What files come to when they are read.
-ghost use Rattle.std.specs.Prelude.{◌≡◌, ◌≤◌, ◌<◌, ◌-◌, ◌^◌, List, ℕ, Some, IfOk, OnOk, IsErrOf, length};
-ghost use Rattle.site_base.specs.SyntaxView.{file_view};
+ghost use Rattle.std.specs.Prelude.{◌≡◌, ◌≤◌, ◌<◌, ◌-◌, ◌^◌, List, ℕ, Some, IfOk, OnOk, IsErrOf, length, ◌≢◌, Err};
+ghost use Rattle.dsl_syntax.specs.SyntaxView.{file_view};
 ghost use Rattle.dsl_lexer.specs.Lists.{IsWhole};
-ghost use Rattle.dsl_parser.specs.Files.{file_outcome};
+ghost use Rattle.dsl_grammar.specs.Files.{file_outcome};
 ghost use Rattle.site_edge.specs.Told.{Rose};
 ghost use Rattle.site_conf.specs.Reading.{kept_none, kept_fault, kept_tree, kept_outcome, kept_bytes, kept_content, diag_at, in_file as place_in_file};
 ghost use Rattle.site_conf.specs.Library.{library_text as library_text_of};
@@ -16,9 +16,10 @@ use crate::inclusions::inclusions_in;
 use crate::kept::Kept;
 use crate::library::library_text;
 use crate::source::Source;
-use dsl_lexer::{LexError, Token, lex};
+use dsl_lexer::{LexError, Token, lex, what_is_read_are_the_tokens};
 use dsl_parser::{ParseError, parse};
-use site_base::{Blob, Diag, DiagKind, File, ItemNo, OutOfMemory, Place, TargetNo, Text};
+use dsl_syntax::File;
+use site_base::{Blob, Diag, DiagKind, ItemNo, OutOfMemory, Place, TargetNo, Text};
 use site_edge::Files;
 use std::alloc::Global;
 
@@ -70,6 +71,8 @@ pub(crate) fn content<F: Files>(
     ensures same { F.told files.new ≡ F.told files.old }
     ensures cause { IsErrOf result LoadFault.Failed → Rose (F.faults files.old) (F.faults files.new) }
     ensures counts { F.faults files.old ≤ F.faults files.new }
+    ensures calm { F.calm files.old → F.calm files.new }
+    ensures unfailing { F.calm files.old → result ≢ Err LoadFault.Failed }
 {
     match source {
         Source::File(name) => Ok(files.read(name.as_str())?),
@@ -103,6 +106,7 @@ fn text(alloc: Global, index: u32, bytes: &[u8]) -> Result<Kept, OutOfMemory>
     requires { length bytes.now < 2 ^ 32 - 1 }
     ensures { IfOk result (λ k. kept_view k ≡ kept_bytes index bytes.now) }
 {
+    what_is_read_are_the_tokens();
     match lex(alloc, bytes, index) {
         Ok(tokens) => parsed(alloc, index, tokens.as_slice()),
         Err(LexError::Fault(fault)) => broken(alloc, index, DiagKind::Lexical, fault.place),

@@ -1,7 +1,8 @@
 // What a walk without a fault gives.
-use site_base::{File, Texts};
+use dsl_syntax::File;
+use site_base::Texts;
 
-/// The files of a site in the order in which they were met, each with its tree, and the order of the walk.
+/// The files of a site in the order in which they were met, each with its tree, the parts of the library among them, and the order of the walk.
 ///
 /// The order is the root's index and then the root's part. The part of a file goes through the inclusions
 /// in it: for each it has the number of files that the inclusion names, and for each of these its index and
@@ -9,6 +10,8 @@ use site_base::{File, Texts};
 #[derive(Debug, Drop)]
 pub struct Walk {
     pub names: Texts,
+    /// For each file, whether it is a part of the built-in library.
+    pub library: Vec<bool>,
     pub trees: Vec<File>,
     pub order: Vec<u32>,
 }

@@ -1,6 +1,6 @@
 // What inclusions name.
 ghost use Rattle.std.specs.Prelude.{◌≡◌, IfOk};
-ghost use Rattle.site_conf.specs.Sources.{full_name as full_name_of};
+ghost use Rattle.site_conf.specs.Sources.{full_name as full_name_of, is_library as is_library_of};
 
 use site_base::{OutOfMemory, Text};
 use std::alloc::Global;
@@ -12,6 +12,13 @@ pub(crate) enum Source {
     File(Text),
     /// A part of the built-in library.
     Library(Text),
+}
+
+/// Whether it is a part of the built-in library.
+pub(crate) fn is_library(source: &Source) -> bool
+    ensures { result ≡ is_library_of source.now }
+{
+    matches!(source, Source::Library(_))
 }
 
 /// The name that is shown: a file's own, and that of a part of the library between `<` and `>`.

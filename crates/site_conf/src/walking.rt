@@ -1,13 +1,15 @@
 // The walk over the files of a site.
-ghost use Rattle.std.specs.Prelude.{◌≡◌, ◌≤◌, ◌<◌, Some, IfOk, OnOk, IsErrOf, length};
+ghost use Rattle.std.specs.Prelude.{◌≡◌, ◌≤◌, ◌<◌, Some, IfOk, OnOk, IsErrOf, length, ◌≢◌, Err};
 ghost use Rattle.dsl_lexer.specs.Places.{start_of};
 ghost use Rattle.site_edge.specs.Told.{Rose};
-ghost use Rattle.site_conf.specs.Sound.{IsSound, IsLater, IsWhole};
-ghost use Rattle.site_conf.specs.Views.{state_view, answer_view};
+ghost use Rattle.site_conf.specs.Known.{IsKnown};
+ghost use Rattle.site_conf.specs.Sound.{IsSound, IsLater, IsWhole, IsFlagged};
+ghost use Rattle.site_conf.specs.Views.{state_view, answer_view, TellsLibrary};
 ghost use Rattle.site_conf.specs.Walks.{Told, part, each_inclusion, one_inclusion, each_source, onward_at, entered, with_number, empty_state, walked, walk_outcome, outcome_of};
 
 use crate::entering::{enter, meet};
 use crate::inclusion::{Inclusion, place};
+use crate::listings::Listings;
 use crate::naming::sources;
 use crate::progress::Progress;
 use crate::reading::in_file;
@@ -31,10 +33,15 @@ const START: Place = Place {
 pub fn walk<F: Files>(alloc: Global, files: &mut F, root: &str) -> Result<WalkAnswer, LoadFault>
     ensures value { (all : Told) → F.told files.old ≡ Some all →
         IfOk result (λ a. answer_view a ≡ walk_outcome all root.now) }
+    ensures library { (all : Told) → F.told files.old ≡ Some all →
+        IfOk result (TellsLibrary (walked all root.now)) }
     ensures whole { IfOk result IsWhole }
+    ensures flagged { IfOk result IsFlagged }
     ensures same { F.told files.new ≡ F.told files.old }
     ensures cause { IsErrOf result LoadFault.Failed → Rose (F.faults files.old) (F.faults files.new) }
     ensures counts { F.faults files.old ≤ F.faults files.new }
+    ensures calm { F.calm files.old → F.calm files.new }
+    ensures unfailing { F.calm files.old → result ≢ Err LoadFault.Failed }
 {
     let mut progress = Progress::new(alloc);
     walk_root(alloc, files, &mut progress, root)?;
@@ -54,10 +61,13 @@ fn walk_root<F: Files>(
     ensures same { F.told files.new ≡ F.told files.old }
     ensures cause { IsErrOf result LoadFault.Failed → Rose (F.faults files.old) (F.faults files.new) }
     ensures counts { F.faults files.old ≤ F.faults files.new }
+    ensures calm { F.calm files.old → F.calm files.new }
+    ensures unfailing { F.calm files.old → result ≢ Err LoadFault.Failed }
 {
     let source = Source::File(Text::copy_of(alloc, root)?);
+    let mut listings = Listings::new(alloc);
     match meet(alloc, files, progress, START, &source)? {
-        Some(index) => walk_part(alloc, files, progress, MAX_DEPTH, index),
+        Some(index) => walk_part(files, &mut listings, progress, MAX_DEPTH, index),
         None => Ok(()),
     }
 }
@@ -65,11 +75,14 @@ fn walk_root<F: Files>(
 /// The answer at the end of a walk.
 fn answer(progress: Progress) -> WalkAnswer
     ensures value { answer_view result ≡ outcome_of (state_view progress) }
+    ensures library { TellsLibrary (state_view progress) result }
     ensures whole { IsSound (state_view progress) → IsWhole result }
+    ensures flagged { IsSound (state_view progress) → IsFlagged result }
 {
     if progress.diags.is_empty() {
         WalkAnswer::Walked(Walk {
             names: progress.names,
+            library: progress.library,
             trees: progress.trees,
             order: progress.order,
         })
@@ -85,25 +98,29 @@ fn answer(progress: Progress) -> WalkAnswer
 #[cycle(walk)]
 #[tactic(auto, using(crate::proofs::WalkLaws::part_is), unfolding(crate::specs::Walks::part_with))]
 fn walk_part<F: Files>(
-    alloc: Global,
     files: &mut F,
+    listings: &mut Listings,
     progress: &mut Progress,
     left: u32,
     index: u32,
 ) -> Result<(), LoadFault>
+    requires { IsKnown (F.told files.old) listings.old.folders listings.old.wildcards }
     ensures value { (all : Told) → F.told files.old ≡ Some all →
         OnOk result (state_view progress.new ≡ part all left index (state_view progress.old)) }
     ensures sound { IsSound (state_view progress.old) → index < length (state_view progress.old).names →
         OnOk result (IsLater (state_view progress.old) (state_view progress.new)) }
+    ensures known { OnOk result (IsKnown (F.told files.new) listings.new.folders listings.new.wildcards) }
     ensures same { F.told files.new ≡ F.told files.old }
     ensures cause { IsErrOf result LoadFault.Failed → Rose (F.faults files.old) (F.faults files.new) }
     ensures counts { F.faults files.old ≤ F.faults files.new }
+    ensures calm { F.calm files.old → F.calm files.new }
+    ensures unfailing { F.calm files.old → result ≢ Err LoadFault.Failed }
 {
     let name = progress.name_at(index)?;
     let inclusions = progress.inclusions_at(index)?;
     walk_inclusions(
-        alloc,
         files,
+        listings,
         progress,
         left,
         index,
@@ -115,24 +132,28 @@ fn walk_part<F: Files>(
 /// Goes through inclusions in the file of this name.
 #[cycle(walk)]
 fn walk_inclusions<F: Files>(
-    alloc: Global,
     files: &mut F,
+    listings: &mut Listings,
     progress: &mut Progress,
     left: u32,
     index: u32,
     file: &str,
     inclusions: &[Inclusion],
 ) -> Result<(), LoadFault>
+    requires { IsKnown (F.told files.old) listings.old.folders listings.old.wildcards }
     ensures value { (all : Told) → F.told files.old ≡ Some all →
         OnOk result (state_view progress.new ≡ each_inclusion all (onward_at all left) left index file.now inclusions.now (state_view progress.old)) }
     ensures sound { IsSound (state_view progress.old) → index < length (state_view progress.old).names →
         OnOk result (IsLater (state_view progress.old) (state_view progress.new)) }
+    ensures known { OnOk result (IsKnown (F.told files.new) listings.new.folders listings.new.wildcards) }
     ensures same { F.told files.new ≡ F.told files.old }
     ensures cause { IsErrOf result LoadFault.Failed → Rose (F.faults files.old) (F.faults files.new) }
     ensures counts { F.faults files.old ≤ F.faults files.new }
+    ensures calm { F.calm files.old → F.calm files.new }
+    ensures unfailing { F.calm files.old → result ≢ Err LoadFault.Failed }
 {
     for inclusion in inclusions {
-        walk_inclusion(alloc, files, progress, left, index, file, inclusion)?;
+        walk_inclusion(files, listings, progress, left, index, file, inclusion)?;
     }
     Ok(())
 }
@@ -140,30 +161,34 @@ fn walk_inclusions<F: Files>(
 /// Goes through what one inclusion names.
 #[cycle(walk)]
 fn walk_inclusion<F: Files>(
-    alloc: Global,
     files: &mut F,
+    listings: &mut Listings,
     progress: &mut Progress,
     left: u32,
     index: u32,
     file: &str,
     inclusion: &Inclusion,
 ) -> Result<(), LoadFault>
+    requires { IsKnown (F.told files.old) listings.old.folders listings.old.wildcards }
     ensures value { (all : Told) → F.told files.old ≡ Some all →
         OnOk result (state_view progress.new ≡ one_inclusion all (onward_at all left) left index file.now inclusion.now (state_view progress.old)) }
     ensures sound { IsSound (state_view progress.old) → index < length (state_view progress.old).names →
         OnOk result (IsLater (state_view progress.old) (state_view progress.new)) }
+    ensures known { OnOk result (IsKnown (F.told files.new) listings.new.folders listings.new.wildcards) }
     ensures same { F.told files.new ≡ F.told files.old }
     ensures cause { IsErrOf result LoadFault.Failed → Rose (F.faults files.old) (F.faults files.new) }
     ensures counts { F.faults files.old ≤ F.faults files.new }
+    ensures calm { F.calm files.old → F.calm files.new }
+    ensures unfailing { F.calm files.old → result ≢ Err LoadFault.Failed }
 {
     if progress.ended {
         return Ok(());
     }
-    let named = sources(alloc, files, file, inclusion)?;
+    let named = sources(files, listings, file, inclusion)?;
     number_of(progress, named.as_slice())?;
     walk_sources(
-        alloc,
         files,
+        listings,
         progress,
         left,
         in_file(index, place(inclusion)),
@@ -174,23 +199,27 @@ fn walk_inclusion<F: Files>(
 /// Takes inclusions at one place, one after another.
 #[cycle(walk)]
 fn walk_sources<F: Files>(
-    alloc: Global,
     files: &mut F,
+    listings: &mut Listings,
     progress: &mut Progress,
     left: u32,
     at: Place,
     named: &[Source],
 ) -> Result<(), LoadFault>
+    requires { IsKnown (F.told files.old) listings.old.folders listings.old.wildcards }
     ensures value { (all : Told) → F.told files.old ≡ Some all →
         OnOk result (state_view progress.new ≡ each_source all (onward_at all left) left at named.now (state_view progress.old)) }
     ensures sound { IsSound (state_view progress.old) → at.file < length (state_view progress.old).names →
         OnOk result (IsLater (state_view progress.old) (state_view progress.new)) }
+    ensures known { OnOk result (IsKnown (F.told files.new) listings.new.folders listings.new.wildcards) }
     ensures same { F.told files.new ≡ F.told files.old }
     ensures cause { IsErrOf result LoadFault.Failed → Rose (F.faults files.old) (F.faults files.new) }
     ensures counts { F.faults files.old ≤ F.faults files.new }
+    ensures calm { F.calm files.old → F.calm files.new }
+    ensures unfailing { F.calm files.old → result ≢ Err LoadFault.Failed }
 {
     for source in named {
-        walk_source(alloc, files, progress, left, at, source)?;
+        walk_source(files, listings, progress, left, at, source)?;
     }
     Ok(())
 }
@@ -198,23 +227,27 @@ fn walk_sources<F: Files>(
 /// Takes one inclusion, and follows it.
 #[cycle(walk)]
 fn walk_source<F: Files>(
-    alloc: Global,
     files: &mut F,
+    listings: &mut Listings,
     progress: &mut Progress,
     left: u32,
     at: Place,
     source: &Source,
 ) -> Result<(), LoadFault>
+    requires { IsKnown (F.told files.old) listings.old.folders listings.old.wildcards }
     ensures value { (all : Told) → F.told files.old ≡ Some all →
         OnOk result (state_view progress.new ≡ onward_at all left (entered all left at source.now (state_view progress.old))) }
     ensures sound { IsSound (state_view progress.old) → at.file < length (state_view progress.old).names →
         OnOk result (IsLater (state_view progress.old) (state_view progress.new)) }
+    ensures known { OnOk result (IsKnown (F.told files.new) listings.new.folders listings.new.wildcards) }
     ensures same { F.told files.new ≡ F.told files.old }
     ensures cause { IsErrOf result LoadFault.Failed → Rose (F.faults files.old) (F.faults files.new) }
     ensures counts { F.faults files.old ≤ F.faults files.new }
+    ensures calm { F.calm files.old → F.calm files.new }
+    ensures unfailing { F.calm files.old → result ≢ Err LoadFault.Failed }
 {
-    match enter(alloc, files, progress, left, at, source)? {
-        Some(index) => walk_part(alloc, files, progress, left - 1, index),
+    match enter(listings.alloc, files, progress, left, at, source)? {
+        Some(index) => walk_part(files, listings, progress, left - 1, index),
         None => Ok(()),
     }
 }

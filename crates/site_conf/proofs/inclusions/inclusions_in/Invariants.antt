@@ -1,5 +1,5 @@
 use Rattle.std.proofs.Common.{◌≡◌, ◌++◌, drop}
-use Rattle.site_base.specs.SyntaxView.{stmts_view}
+use Rattle.dsl_syntax.specs.SyntaxView.{stmts_view}
 use Rattle.site_conf.specs.Inclusions.{inclusions}
 use Rattle.site_conf.proofs.inclusions.inclusions_in.Given as goal
 

@@ -1,4 +1,4 @@
-use Rattle.dsl_parser.specs.Files.{file_outcome}
+use Rattle.dsl_grammar.specs.Files.{file_outcome}
 use Rattle.site_conf.proofs.Outcomes.{deep_was}
 use Rattle.site_conf.proofs.reading.parsed.Goals as goal
 

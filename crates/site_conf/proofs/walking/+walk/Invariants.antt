@@ -1,4 +1,5 @@
 use Rattle.std.proofs.Common.{◌≡◌, ◌≤◌, ◌<◌, length, ◌+◌, ◌*◌, List, ℕ, Some, drop}
+use Rattle.site_conf.specs.Known.{IsKnown}
 use Rattle.site_conf.specs.Sound.{IsSound, IsLater}
 use Rattle.site_conf.specs.Views.{state_view}
 use Rattle.site_conf.specs.Walks.{each_inclusion, each_source, onward_at}
@@ -21,18 +22,22 @@ decreases-walk_source g l = 5 * l.left
 
 abbrev pub invariant-walk_inclusions-loop-inclusion : goal.invariant-walk_inclusions-loop-inclusion
 invariant-walk_inclusions-loop-inclusion g l = record {
+  known : IsKnown (g.F.Files.told l.files) l.listings.folders l.listings.wildcards;
   same : g.F.Files.told l.files ≡ g.F.Files.told l.fn.files;
   sound : IsSound (state_view l.fn.progress) → l.index < length (state_view l.fn.progress).names → IsLater (state_view l.fn.progress) (state_view l.progress);
   counts : g.F.Files.faults l.fn.files ≤ g.F.Files.faults l.files;
+  calm : g.F.Files.calm l.fn.files → g.F.Files.calm l.files;
   walks : (all : List (List ℕ × List ℕ)) → g.F.Files.told l.fn.files ≡ Some all
       → each_inclusion all (onward_at all l.left) l.left l.index l.file (drop l.inclusion-index l.inclusions) (state_view l.progress) ≡ each_inclusion all (onward_at all l.left) l.left l.index l.file l.inclusions (state_view l.fn.progress);
 }
 
 abbrev pub invariant-walk_sources-loop-source : goal.invariant-walk_sources-loop-source
 invariant-walk_sources-loop-source g l = record {
+  known : IsKnown (g.F.Files.told l.files) l.listings.folders l.listings.wildcards;
   same : g.F.Files.told l.files ≡ g.F.Files.told l.fn.files;
   sound : IsSound (state_view l.fn.progress) → l.at.file < length (state_view l.fn.progress).names → IsLater (state_view l.fn.progress) (state_view l.progress);
   counts : g.F.Files.faults l.fn.files ≤ g.F.Files.faults l.files;
+  calm : g.F.Files.calm l.fn.files → g.F.Files.calm l.files;
   walks : (all : List (List ℕ × List ℕ)) → g.F.Files.told l.fn.files ≡ Some all
       → each_source all (onward_at all l.left) l.left l.at (drop l.source-index l.named) (state_view l.progress) ≡ each_source all (onward_at all l.left) l.left l.at l.named (state_view l.fn.progress);
 }
