@@ -1,5 +1,14 @@
 pub mod Lists
 pub mod Sole
 pub mod Meeting
+pub mod OneCaller
 pub mod Dealt
 pub mod OneLog
+pub mod Parts
+pub mod Dealing
+pub mod Shares
+pub mod TwoCallers
+pub mod Lookback
+pub mod Outstanding
+pub mod Keeping
+pub mod Counting

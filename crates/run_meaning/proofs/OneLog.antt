@@ -1,57 +1,55 @@
 -- With one caller a run has one log.
-use Rattle.std.proofs.Common.{◌≡◌, ℕ, List, [], ◌∷◌, ◌++◌, max, refl, sym, ap, ◌∙◌, subst}
-use Rattle.site_model.specs.PlainSite.{PlainSite}
-use Rattle.site_model.specs.declared.event.Event.{Event}
-use Rattle.run_meaning.specs.Acts.{Rules}
+use Rattle.std.proofs.Common.{◌≡◌, ℕ, List, [], ◌∷◌, max, refl, sym, ap, ◌∙◌, subst, arith}
+use Rattle.run_meaning.specs.Turns.{ReadTurn}
+use Rattle.run_meaning.specs.Acts.{Basis}
 use Rattle.run_meaning.specs.Rounds.{IsRound}
 use Rattle.run_meaning.specs.Dealing.{line_events, taken_reports, ticks}
-use Rattle.run_meaning.specs.Runs.{Told, TurnLog, Stage, Schedule, start, reports_of, events_of, stage_behind, IsTurn, IsRunFrom, IsRun}
-use Rattle.run_meaning.specs.Alone.{all_events, alone, turn_alone, run_alone_from, run_alone, AreOnSite, AreTurnsOnSite, IsOnSite}
-use Rattle.run_meaning.proofs.Meeting.{only_alone, is_alone}
+use Rattle.run_meaning.specs.Runs.{TurnLog, Stage, lines_of, reports_of, refusals_of, events_of, planned_of, stage_after, IsTurn, IsRunFrom, IsRun}
+use Rattle.run_meaning.specs.Alone.{all_events, alone, turn_alone, run_alone, AreOnSite, IsOnSite}
+use Rattle.run_meaning.proofs.OneCaller.{only_alone, is_alone}
 use Rattle.run_meaning.proofs.Dealt.{dealt_to_one}
 
-all_dealt : (s : PlainSite) (st : Stage) (t : Told) (moment : ℕ) → events_of 1 s st t moment ≡ all_events s st t moment ∷ []
-all_dealt s st t moment = dealt_to_one (line_events t.lines) (taken_reports st.outstanding (reports_of st t)) (ticks s st.histories moment)
+all_dealt : (b : Basis) (st : Stage) (t : ReadTurn) (moment : ℕ) → events_of b 1 st t moment ≡ all_events b st t moment ∷ []
+all_dealt b st t moment = dealt_to_one (line_events (lines_of b st t moment)) (taken_reports st.plans.outstanding (reports_of st t)) (ticks b.site st.histories moment)
 
-module _ (r : Rules) (schedule : Schedule) (missing : List ℕ → Event) (s : PlainSite) where
-  -- a turn's log
-  turn_is : (logs : List TurnLog) (st : Stage) (t : Told) (l : TurnLog) → IsTurn r schedule s 1 logs st t l → l ≡ turn_alone r schedule s logs st t
-  turn_is logs st t l x =
-      let round : l.round ≡ alone r s (max st.moment t.moment) st.histories (all_events s st t (max st.moment t.moment)) =
-      only_alone r s l.moment st.histories (all_events s st t l.moment) l.round (subst (λ z. IsRound r s l.moment st.histories z l.round) (all_dealt s st t l.moment) x.round)
-      ∙ ap (λ m. alone r s m st.histories (all_events s st t m)) x.moment in
-      let orders = x.orders ∙ ap (λ m. schedule s logs m l.round) x.moment ∙ ap (schedule s logs (max st.moment t.moment)) round in
-      λ i. record { number = x.number i; moment = x.moment i; refusals = x.refusals i; round = round i; orders = orders i }
+-- a turn's log
+turn_is : (b : Basis) (st : Stage) (t : ReadTurn) (l : TurnLog) → IsTurn b 1 st t l → l ≡ turn_alone b st t
+turn_is b st t l x =
+    let moment = max st.moment t.moment in
+    let round : l.round ≡ alone b moment st.histories (all_events b st t moment) =
+    only_alone b l.moment st.histories (all_events b st t l.moment) l.round (subst (λ z. IsRound b l.moment st.histories z l.round) (all_dealt b st t l.moment) x.round)
+    ∙ ap (λ m. alone b m st.histories (all_events b st t m)) x.moment in
+    let refusals = x.refusals ∙ ap (refusals_of b st t) x.moment in
+    let orders = x.orders ∙ ap (λ m. (planned_of b st m l.round).orders) x.moment ∙ ap (λ z. (planned_of b st moment z).orders) round in
+    λ i. record { number = x.number i; moment = x.moment i; refusals = refusals i; round = round i; orders = orders i }
 
-  is_turn : (logs : List TurnLog) (st : Stage) (t : Told) → AreOnSite s (all_events s st t (max st.moment t.moment)) → IsTurn r schedule s 1 logs st t (turn_alone r schedule s logs st t)
-  is_turn logs st t h =
-      let moment = max st.moment t.moment in
-      record {
-        number = refl;
-        moment = refl;
-        refusals = refl;
-        round = subst (λ z. IsRound r s moment st.histories z (alone r s moment st.histories (all_events s st t moment))) (sym (all_dealt s st t moment)) (is_alone r s moment st.histories (all_events s st t moment) h);
-        orders = refl;
-      }
+is_turn : (b : Basis) (st : Stage) (t : ReadTurn) → AreOnSite b.site (all_events b st t (max st.moment t.moment)) → IsTurn b 1 st t (turn_alone b st t)
+is_turn b st t h =
+    let moment = max st.moment t.moment in
+    record {
+      number = refl;
+      moment = refl;
+      refusals = refl;
+      round = subst (λ z. IsRound b moment st.histories z (alone b moment st.histories (all_events b st t moment))) (sym (all_dealt b st t moment)) (is_alone b moment st.histories (all_events b st t moment) h);
+      orders = refl;
+    }
 
-  -- the logs of turns
-  turns_are : (ts : List Told) (ls logs : List TurnLog) (st : Stage) → IsRunFrom r schedule missing s 1 logs st ts ls → ls ≡ run_alone_from r schedule missing s logs st ts
-  turns_are [] ls logs st x = x
-  turns_are (t ∷ ts) [] logs st x = absurd x
-  turns_are (t ∷ ts) (l ∷ ls) logs st x =
-      let same = turn_is logs st t l x.0 in
-      let l' = turn_alone r schedule s logs st t in
-      ap (λ z. z ∷ ls) same
-      ∙ ap (λ z. l' ∷ z) (turns_are ts ls (logs ++ l' ∷ []) (stage_behind missing st t l') (subst (λ z. IsRunFrom r schedule missing s 1 (logs ++ z ∷ []) (stage_behind missing st t z) ts ls) same x.1))
+-- the logs of turns
+turns_are : (b : Basis) (ts : List ReadTurn) (ls : List TurnLog) (st : Stage) → IsRunFrom b 1 st ts ls → ls ≡ run_alone b st ts
+turns_are b [] ls st x = x
+turns_are b (t ∷ ts) [] st x = absurd x
+turns_are b (t ∷ ts) (l ∷ ls) st x =
+    let same = turn_is b st t l x.0 in
+    let l' = turn_alone b st t in
+    ap (λ z. z ∷ ls) same
+    ∙ ap (λ z. l' ∷ z) (turns_are b ts ls (stage_after b st t l') (subst (λ z. IsRunFrom b 1 (stage_after b st t z) ts ls) same x.1))
 
-  are_turns : (ts : List Told) (logs : List TurnLog) (st : Stage) → AreTurnsOnSite r schedule missing s logs st ts → IsRunFrom r schedule missing s 1 logs st ts (run_alone_from r schedule missing s logs st ts)
-  are_turns [] logs st h = refl
-  are_turns (t ∷ ts) logs st h =
-      let l = turn_alone r schedule s logs st t in
-      (is_turn logs st t h.0, are_turns ts (logs ++ l ∷ []) (stage_behind missing st t l) h.1)
+are_turns : (b : Basis) (ts : List ReadTurn) (st : Stage) → IsOnSite b st ts → IsRunFrom b 1 st ts (run_alone b st ts)
+are_turns b [] st h = refl
+are_turns b (t ∷ ts) st h = let l = turn_alone b st t in (is_turn b st t h.0, are_turns b ts (stage_after b st t l) h.1)
 
-  pub only_log : (ts : List Told) (ls : List TurnLog) → IsRun r schedule missing s 1 ts ls → ls ≡ run_alone r schedule missing s ts
-  only_log ts ls x = turns_are ts ls [] start x
+pub only_log : (b : Basis) (st : Stage) (ts : List ReadTurn) (ls : List TurnLog) → IsRun b 1 st ts ls → ls ≡ run_alone b st ts
+only_log b st ts ls x = turns_are b ts ls st x.turns
 
-  pub is_log : (ts : List Told) → IsOnSite r schedule missing s ts → IsRun r schedule missing s 1 ts (run_alone r schedule missing s ts)
-  is_log ts h = are_turns ts [] start h
+pub is_log : (b : Basis) (st : Stage) (ts : List ReadTurn) → IsOnSite b st ts → IsRun b 1 st ts (run_alone b st ts)
+is_log b st ts h = record { someone = omega arith; turns = are_turns b ts st h }

@@ -8,6 +8,7 @@ use Rattle.site_model.specs.declared.event.Event.TheVariants as event
 use Rattle.site_model.specs.declared.sight.Sight.{Sight}
 use Rattle.site_model.specs.declared.view.View.{View}
 use Rattle.run_meaning.specs.View.{view_of, best_state, has_effect}
+use Rattle.run_meaning.specs.Turns.{Histories, Plans, Planned, Feed}
 
 -- an event as a caller takes it: when, and how far it has seen the checkables on which this one depends
 pub record Act : Type 0 where
@@ -16,19 +17,32 @@ pub record Act : Type 0 where
   pub event : Event
   pub sights : List Sight
 
--- What runs need to know beside what stands here, each by a definition of its own.
-pub record Rules : Type 0 where
-  -- if the downtime that the entry of this number began is live at a moment, by the entries of its checkable
-  pub is_live : List Entry → ℕ → ℕ → Bool
+-- what a checkable showed at a sight of it
+pub record Seen : Type 0 where
+  pub checkable : ℕ
+  pub view : View
+
+-- whether the downtime that the entry of this number began is live at a moment, by the entries of its checkable
+abbrev pub Live : Type 0
+Live = PlainCheck → List Entry → ℕ → ℕ → Bool
+
+-- What a run stands on: its site, and the rules that have definitions of their own (`Meaning` gives all of them).
+pub record Basis : Type 0 where
+  pub site : PlainSite
+  pub is_live : Live
   -- the checkables on which one depends, ascending
-  pub ancestors : PlainSite → ℕ → List ℕ
-  -- what is decided at the last of a checkable's entries, given the views at its sights
-  pub decisions : PlainSite → ℕ → List Entry → List View → List Decision
+  pub ancestors : ℕ → List ℕ
+  -- what is decided at an entry of a checkable, by those before it and by what was seen
+  pub decisions : ℕ → PlainCheck → List Entry → Entry → List Seen → List Decision
+  -- what is ordered after a round at a moment, by the entries before it and its own
+  pub schedule : Plans → ℕ → Histories → Histories → Planned
+  -- the lines that stand before a turn's own
+  pub feed : Feed
 
 -- whether an event has an effect
-abbrev pub is_taken : Rules → PlainCheck → List Entry → ℕ → Event → Bool
-is_taken r c history moment (event.Undown number) = r.is_live history number moment
-is_taken r c history moment e = has_effect (view_of c history) e
+abbrev pub is_taken : Live → PlainCheck → List Entry → ℕ → Event → Bool
+is_taken live c history moment (event.Undown number) = live c history number moment
+is_taken live c history moment e = has_effect (view_of c history) e
 
 -- the entry of an act as far as the act itself tells it
 abbrev pub noted : PlainCheck → ℕ → Bool → Act → Entry
@@ -45,44 +59,16 @@ noted c number taken a = record {
   decisions = [];
 }
 
--- with the state that the checkable shows behind it
+-- with the state that the checkable shows after it
 abbrev pub showing : View → Entry → Entry
-showing v e = record {
-  caller = e.caller;
-  number = e.number;
-  moment = e.moment;
-  event = e.event;
-  taken = e.taken;
-  state = v.state;
-  hard = v.hard;
-  attempt = v.attempt;
-  sights = e.sights;
-  decisions = e.decisions;
-}
+showing v e = record e { state = v.state; hard = v.hard; attempt = v.attempt }
 
--- with what was decided
-abbrev pub deciding : List Decision → Entry → Entry
-deciding ds e = record {
-  caller = e.caller;
-  number = e.number;
-  moment = e.moment;
-  event = e.event;
-  taken = e.taken;
-  state = e.state;
-  hard = e.hard;
-  attempt = e.attempt;
-  sights = e.sights;
-  decisions = ds;
-}
-
--- behind these entries, before anything is decided
-abbrev pub draft_of : Rules → PlainCheck → List Entry → Act → Entry
-draft_of r c history a =
-    let e = noted c (length history + 1) (is_taken r c history a.moment a.event) a in
+-- before anything is decided
+abbrev pub draft_of : Live → PlainCheck → List Entry → Act → Entry
+draft_of live c history a =
+    let e = noted c (length history + 1) (is_taken live c history a.moment a.event) a in
     showing (view_of c (history ++ e ∷ [])) e
 
--- the entry that an act makes of a checkable with these entries, where the checkables that it has seen show these views
-abbrev pub entry_of : Rules → PlainSite → ℕ → PlainCheck → List Entry → List View → Act → Entry
-entry_of r s k c history views a =
-    let e = draft_of r c history a in
-    deciding (r.decisions s k (history ++ e ∷ []) views) e
+-- the entry that an act makes of a checkable with these entries, by what it has seen
+abbrev pub entry_of : Basis → ℕ → PlainCheck → List Entry → List Seen → Act → Entry
+entry_of b k c history seen a = let e = draft_of b.is_live c history a in record e { decisions = b.decisions k c history e seen }

@@ -1,23 +1,42 @@
--- Runs with one caller: one function of what there was and what a turn brings.
-use Rattle.std.specs.Prelude.{◌≡◌, ◌<◌, ◌+◌, ℕ, zero, suc, List, [], ◌∷◌, ◌++◌, length, slice_get, map, max, Option, Some, None, ⊤}
+-- Rounds and runs in which one event is taken after the other: functions of what there was and what a turn brings.
+use Rattle.std.specs.Prelude.{◌≡◌, ◌<◌, ◌+◌, ℕ, zero, suc, List, [], ◌∷◌, ◌++◌, length, slice_get, filter, map, max, nat_eq, Option, Some, None, ⊤}
 use Rattle.site_model.specs.PlainSite.{PlainCheck, PlainSite}
 use Rattle.site_model.specs.declared.entry.Entry.{Entry}
 use Rattle.site_model.specs.declared.event.Event.{Event}
 use Rattle.site_model.specs.declared.sight.Sight.{Sight}
-use Rattle.run_meaning.specs.Acts.{Rules, entry_of}
-use Rattle.run_meaning.specs.Rounds.{Asked, Histories, behind, views_at}
+use Rattle.run_meaning.specs.Turns.{Asked, Histories, ReadTurn}
+use Rattle.run_meaning.specs.Acts.{Basis, entry_of}
+use Rattle.run_meaning.specs.Rounds.{behind, all_seen}
 use Rattle.run_meaning.specs.Dealing.{line_events, taken_reports, ticks}
-use Rattle.run_meaning.specs.Runs.{Told, TurnLog, Stage, Schedule, start, reports_of, refusals_of, stage_behind}
+use Rattle.run_meaning.specs.Runs.{TurnLog, Stage, no_entries, lines_of, reports_of, refusals_of, planned_of, stage_after}
+
+-- an event on a checkable, and the caller that takes it
+pub record Move : Type 0 where
+  pub caller : ℕ
+  pub asked : Asked
+
+-- the events of one caller, in order
+abbrev pub moves_of : ℕ → List Asked → List Move
+moves_of k events = map (λ a. record { caller = k; asked = a }) events
+
+-- caller after caller, from this one on
+abbrev pub one_by_one : ℕ → List (List Asked) → List Move
+one_by_one k [] = []
+one_by_one k (events ∷ more) = moves_of k events ++ one_by_one (suc k) more
+
+-- what one caller takes of these moves
+abbrev pub taken_by : ℕ → List Move → List Asked
+taken_by k moves = map (λ m. m.asked) (filter (λ m. nat_eq m.caller k) moves)
 
 -- all that stands of each checkable on which this one depends
-abbrev pub sights_now : Rules → PlainSite → ℕ → (ℕ → List Entry) → List Sight
-sights_now r s c entries = map (λ p. record { checkable = p; count = length (entries p) }) (r.ancestors s c)
+abbrev pub sights_now : Basis → ℕ → (ℕ → List Entry) → List Sight
+sights_now b c entries = map (λ p. record { checkable = p; count = length (entries p) }) (b.ancestors c)
 
--- the next entry of a checkable, behind what a round has made so far
-abbrev pub next_entry : Rules → PlainSite → ℕ → Histories → Histories → ℕ → PlainCheck → Event → Entry
-next_entry r s moment before round c check e =
-    let sights = sights_now r s c (behind before round) in
-    entry_of r s c check (behind before round c) (views_at s (behind before round) sights) (record { caller = 0; moment = moment; event = e; sights = sights })
+-- the entry that an event makes where all that stands is seen
+abbrev pub next_entry : Basis → ℕ → (ℕ → List Entry) → ℕ → ℕ → PlainCheck → Event → Entry
+next_entry b moment now k c check e =
+    let sights = sights_now b c now in
+    entry_of b c check (now c) (all_seen b.site now sights) (record { caller = k; moment = moment; event = e; sights = sights })
 
 -- with one entry more of the checkable of this index
 abbrev pub with_entry : ℕ → Entry → Histories → Histories
@@ -25,63 +44,58 @@ with_entry k e [] = []
 with_entry zero e (es ∷ ess) = (es ++ e ∷ []) ∷ ess
 with_entry (suc k) e (es ∷ ess) = es ∷ with_entry k e ess
 
--- what one event adds to a round
-abbrev pub adding : Rules → PlainSite → ℕ → Histories → Histories → Asked → Option PlainCheck → Histories
-adding r s moment before round a None = round
-adding r s moment before round a (Some check) = with_entry a.checkable (next_entry r s moment before round a.checkable check a.event) round
+-- what one move adds to a round
+abbrev pub adding : Basis → ℕ → Histories → Histories → Move → Option PlainCheck → Histories
+adding b moment before round m None = round
+adding b moment before round m (Some check) =
+    with_entry m.asked.checkable (next_entry b moment (behind before round) m.caller m.asked.checkable check m.asked.event) round
 
-abbrev pub alone_from : Rules → PlainSite → ℕ → Histories → List Asked → Histories → Histories
-alone_from r s moment before [] round = round
-alone_from r s moment before (a ∷ as') round =
-    alone_from r s moment before as' (adding r s moment before round a (slice_get s.checkables a.checkable))
+abbrev pub round_from : Basis → ℕ → Histories → List Move → Histories → Histories
+round_from b moment before [] round = round
+round_from b moment before (m ∷ moves) round =
+    round_from b moment before moves (adding b moment before round m (slice_get b.site.checkables m.asked.checkable))
 
--- a round without entries
-abbrev pub nothing_yet : PlainSite → Histories
-nothing_yet s = map (λ _. []) s.checkables
+-- the round that moves make, one after the other
+abbrev pub round_of : Basis → ℕ → Histories → List Move → Histories
+round_of b moment before moves = round_from b moment before moves (no_entries b.site)
 
 -- the round of one caller
-abbrev pub alone : Rules → PlainSite → ℕ → Histories → List Asked → Histories
-alone r s moment before events = alone_from r s moment before events (nothing_yet s)
+abbrev pub alone : Basis → ℕ → Histories → List Asked → Histories
+alone b moment before events = round_of b moment before (moves_of 0 events)
 
 -- what the one caller takes of a turn: lines, reports, ticks
-abbrev pub all_events : PlainSite → Stage → Told → ℕ → List Asked
-all_events s st t moment =
-    line_events t.lines ++ (map (λ x. x.asked) (taken_reports st.outstanding (reports_of st t)) ++ ticks s st.histories moment)
+abbrev pub all_events : Basis → Stage → ReadTurn → ℕ → List Asked
+all_events b st t moment =
+    line_events (lines_of b st t moment) ++ (map (λ x. x.asked) (taken_reports st.plans.outstanding (reports_of st t)) ++ ticks b.site st.histories moment)
 
 -- the log of one turn
-abbrev pub turn_alone : Rules → Schedule → PlainSite → List TurnLog → Stage → Told → TurnLog
-turn_alone r schedule s logs st t =
+abbrev pub turn_alone : Basis → Stage → ReadTurn → TurnLog
+turn_alone b st t =
     let moment = max st.moment t.moment in
-    let round = alone r s moment st.histories (all_events s st t moment) in
+    let round = alone b moment st.histories (all_events b st t moment) in
     record {
       number = st.turns + 1;
       moment = moment;
-      refusals = refusals_of st t;
+      refusals = refusals_of b st t moment;
       round = round;
-      orders = schedule s logs moment round;
+      orders = (planned_of b st moment round).orders;
     }
 
-abbrev pub run_alone_from : Rules → Schedule → (List ℕ → Event) → PlainSite → List TurnLog → Stage → List Told → List TurnLog
-run_alone_from r schedule missing s logs st [] = []
-run_alone_from r schedule missing s logs st (t ∷ ts) =
-    let l = turn_alone r schedule s logs st t in
-    l ∷ run_alone_from r schedule missing s (logs ++ l ∷ []) (stage_behind missing st t l) ts
-
 -- the logs of a whole run
-abbrev pub run_alone : Rules → Schedule → (List ℕ → Event) → PlainSite → List Told → List TurnLog
-run_alone r schedule missing s ts = run_alone_from r schedule missing s [] start ts
+abbrev pub run_alone : Basis → Stage → List ReadTurn → List TurnLog
+run_alone b st [] = []
+run_alone b st (t ∷ ts) = let l = turn_alone b st t in l ∷ run_alone b (stage_after b st t l) ts
 
 -- every event is on a checkable of the site
 abbrev pub AreOnSite : PlainSite → List Asked → Type 0
 AreOnSite s events = (i : ℕ) (a : Asked) → slice_get events i ≡ Some a → a.checkable < length s.checkables
 
--- all that the one caller takes in turns, behind those whose logs stand already, is on checkables of the site
-abbrev pub AreTurnsOnSite : Rules → Schedule → (List ℕ → Event) → PlainSite → List TurnLog → Stage → List Told → Type 0
-AreTurnsOnSite r schedule missing s logs st [] = ⊤
-AreTurnsOnSite r schedule missing s logs st (t ∷ ts) =
-    let l = turn_alone r schedule s logs st t in
-    AreOnSite s (all_events s st t l.moment) × AreTurnsOnSite r schedule missing s (logs ++ l ∷ []) (stage_behind missing st t l) ts
+abbrev pub AreMovesOnSite : PlainSite → List Move → Type 0
+AreMovesOnSite s moves = (i : ℕ) (m : Move) → slice_get moves i ≡ Some m → m.asked.checkable < length s.checkables
 
--- and in a whole run
-abbrev pub IsOnSite : Rules → Schedule → (List ℕ → Event) → PlainSite → List Told → Type 0
-IsOnSite r schedule missing s ts = AreTurnsOnSite r schedule missing s [] start ts
+-- all that the one caller takes in these turns is on checkables of the site
+abbrev pub IsOnSite : Basis → Stage → List ReadTurn → Type 0
+IsOnSite b st [] = ⊤
+IsOnSite b st (t ∷ ts) =
+    let l = turn_alone b st t in
+    AreOnSite b.site (all_events b st t l.moment) × IsOnSite b (stage_after b st t l) ts

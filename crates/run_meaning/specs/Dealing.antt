@@ -1,26 +1,12 @@
 -- Dealing: which caller takes what of a turn, and what is refused.
-use Rattle.std.specs.Prelude.{◌+◌, ◌%◌, ℕ, zero, suc, List, [], ◌∷◌, ◌++◌, map, filter, nat_eq, nat_lt, not, ◌&&◌, Bool, Option, Some, None, if◌then◌else◌}
+use Rattle.std.specs.Prelude.{◌+◌, ◌%◌, ℕ, zero, suc, List, [], ◌∷◌, ◌++◌, map, filter, nat_eq, nat_lt, not, ◌&&◌, Bool, false, Option, Some, None, if◌then◌else◌}
+use Rattle.plugin_line.specs.Output.{plugin_result}
 use Rattle.site_model.specs.PlainSite.{PlainCheck, PlainSite}
 use Rattle.site_model.specs.declared.entry.Entry.{Entry}
 use Rattle.site_model.specs.declared.event.Event.{Event}
 use Rattle.site_model.specs.declared.event.Event.TheVariants as event
-use Rattle.run_meaning.specs.View.{view_of, is_problem}
-use Rattle.run_meaning.specs.Rounds.{Asked, Histories, of_index}
-
--- a command line as it was read: an event on a checkable, or the name of what is wrong with it
-pub data Line : Type 0 where
-  asking : Asked → Line
-  faulty : List ℕ → Line
-
--- a report as it was read: the order that it is of, and the result that it tells
-pub record Reported : Type 0 where
-  pub order : ℕ
-  pub result : Event
-
--- an order that has no report yet
-pub record Outstanding : Type 0 where
-  pub order : ℕ
-  pub checkable : ℕ
+use Rattle.run_meaning.specs.View.{view_of, is_hard_problem}
+use Rattle.run_meaning.specs.Turns.{Asked, Histories, Line, asking, faulty, Outstanding, Reported, from_on, of_index}
 
 -- a line's number in its turn with its fault, or the number of a report's order
 pub data Refusal : Type 0 where
@@ -48,10 +34,14 @@ checkable_of order (o ∷ os) = if nat_eq o.order order then Some o.checkable el
 abbrev pub without : ℕ → List Outstanding → List Outstanding
 without order os = filter (λ o. not (nat_eq o.order order)) os
 
--- the orders that are still outstanding behind these reports
+-- the orders that are still outstanding after these reports
 abbrev pub still : List Reported → List Outstanding → List Outstanding
 still [] os = os
 still (r ∷ rs) os = still rs (without r.order os)
+
+-- what the end of an ordered check is read as: its status and its output
+abbrev pub ordered_result : ℕ → List ℕ → Event
+ordered_result status output = let r = plugin_result output status in event.Result r.status false r.output r.perf
 
 -- a report that is taken, with its order's number
 pub record Taken : Type 0 where
@@ -60,7 +50,7 @@ pub record Taken : Type 0 where
 
 abbrev pub taking : Reported → Option ℕ → List Taken → List Taken
 taking r None ts = ts
-taking r (Some c) ts = record { order = r.order; asked = record { checkable = c; event = r.result } } ∷ ts
+taking r (Some c) ts = record { order = r.order; asked = record { checkable = c; event = ordered_result r.status r.output } } ∷ ts
 
 abbrev pub taken_reports : List Outstanding → List Reported → List Taken
 taken_reports os [] = []
@@ -83,7 +73,7 @@ last_moment (e ∷ f ∷ es) = last_moment (f ∷ es)
 
 abbrev pub wants_tick : PlainCheck → List Entry → ℕ → Bool
 wants_tick c history moment =
-    is_problem (view_of c history).state && ((view_of c history).hard && not (nat_lt moment (last_moment history + 60)))
+    let v = view_of c history in is_hard_problem v.hard v.state && not (nat_lt moment (last_moment history + 60))
 
 -- the ticks of checkables from this index on, ascending
 abbrev pub ticks_from : ℕ → List PlainCheck → Histories → ℕ → List Asked
@@ -110,10 +100,6 @@ dealt_to callers lines reports ticks k =
     lines_to k lines
     ++ (map (λ t. t.asked) (filter (λ t. goes_to callers k t.order) reports)
     ++ filter (λ a. goes_to callers k a.checkable) ticks)
-
-abbrev pub from_on : ℕ → ℕ → List ℕ
-from_on k zero = []
-from_on k (suc n) = k ∷ from_on (suc k) n
 
 -- what each caller takes, in order
 abbrev pub dealt : ℕ → List Asked → List Taken → List Asked → List (List Asked)

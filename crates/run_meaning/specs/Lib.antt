@@ -1,6 +1,15 @@
 pub mod View
+pub mod Turns
 pub mod Acts
 pub mod Rounds
 pub mod Dealing
 pub mod Runs
 pub mod Alone
+pub mod Downtimes
+pub mod Reachability
+pub mod Decisions
+pub mod Schedule
+pub mod Meaning
+pub mod Lookback
+pub mod Shares
+pub mod TwoCallers

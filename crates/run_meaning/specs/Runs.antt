@@ -1,22 +1,11 @@
 -- A run: turn after turn, what is refused, what each checkable gets, and which checks are ordered.
-use Rattle.std.specs.Prelude.{◌≡◌, ◌+◌, ℕ, List, [], ◌∷◌, ◌++◌, map, max, Option, Some, None}
+use Rattle.std.specs.Prelude.{◌≡◌, ◌≤◌, ◌+◌, ℕ, false, codes, List, [], ◌∷◌, ◌++◌, length, map, max}
 use Rattle.site_model.specs.PlainSite.{PlainSite}
-use Rattle.site_model.specs.declared.event.Event.{Event}
-use Rattle.run_meaning.specs.Acts.{Rules}
-use Rattle.run_meaning.specs.Rounds.{Asked, Histories, IsRound}
-use Rattle.run_meaning.specs.Dealing.{Line, Reported, Outstanding, Refusal, line_events, line_refusals, taken_reports, report_refusals, still, ticks, dealt}
-
--- what a turn brings
-pub record Told : Type 0 where
-  pub moment : ℕ
-  pub reports : List Reported
-  pub lines : List Line
-
--- a check that is ordered; where a macro of its command is missing, that macro's name
-pub record Ordered : Type 0 where
-  pub number : ℕ
-  pub checkable : ℕ
-  pub missing : Option (List ℕ)
+use Rattle.site_model.specs.declared.entry.Entry.{Entry}
+use Rattle.run_meaning.specs.Turns.{Asked, Begun, Histories, Line, Reported, ReadTurn, Command, words, missing, Ordered, Plans, Planned}
+use Rattle.run_meaning.specs.Acts.{Basis}
+use Rattle.run_meaning.specs.Rounds.{IsRound}
+use Rattle.run_meaning.specs.Dealing.{Refusal, line_events, line_refusals, taken_reports, report_refusals, still, ticks, dealt}
 
 -- what the log tells of a turn
 pub record TurnLog : Type 0 where
@@ -31,19 +20,50 @@ pub record Stage : Type 0 where
   pub turns : ℕ
   pub moment : ℕ
   pub histories : Histories
-  pub outstanding : List Outstanding
+  pub plans : Plans
   -- the reports of orders whose macros are missing, which the next turn brings first
   pub due : List Reported
+  -- what stood when each turn so far began
+  pub begun : List Begun
 
--- what is ordered behind a round: by the logs of the turns before, and this turn's moment and round
-abbrev pub Schedule : Type 0
-Schedule = PlainSite → List TurnLog → ℕ → Histories → List Ordered
+-- The start of a run.
 
-abbrev pub start : Stage
-start = record { turns = 0; moment = 0; histories = []; outstanding = []; due = [] }
+-- a list without entries for each checkable
+abbrev pub no_entries : PlainSite → Histories
+no_entries s = map (λ _. []) s.checkables
+
+abbrev pub greatest_of : List Entry → ℕ
+greatest_of [] = 0
+greatest_of (e ∷ es) = max e.moment (greatest_of es)
+
+-- the greatest moment of any entry
+abbrev pub greatest_moment : Histories → ℕ
+greatest_moment [] = 0
+greatest_moment (es ∷ ess) = max (greatest_of es) (greatest_moment ess)
+
+-- before the first turn, with these given histories: nothing is ordered, and every checkable is due
+abbrev pub start : PlainSite → Histories → Stage
+start s given = record {
+  turns = 0;
+  moment = greatest_moment given;
+  histories = given;
+  plans = record { given = 0; outstanding = []; slots = map (λ _. record { next = 0; forced = false }) s.checkables };
+  due = [];
+  begun = [];
+}
+
+-- A turn.
+
+-- what stands when each turn begins, the one at this moment included
+abbrev pub begun_by : Stage → ℕ → List Begun
+begun_by st moment = st.begun ++ record { histories = st.histories; moment = moment } ∷ []
+
+-- all lines of a turn
+abbrev pub lines_of : Basis → Stage → ReadTurn → ℕ → List Line
+lines_of b st t moment = b.feed (begun_by st moment) ++ t.lines
 
 -- all reports of a turn
-abbrev pub reports_of : Stage → Told → List Reported
+abbrev pub reports_of : Stage → ReadTurn → List Reported
 reports_of st t = st.due ++ t.reports
 
 -- each list of a round behind that of the same checkable
@@ -53,49 +73,62 @@ joined before [] = before
 joined (es ∷ before) (fs ∷ round) = (es ++ fs) ∷ joined before round
 
 -- what is refused of a turn
-abbrev pub refusals_of : Stage → Told → List Refusal
-refusals_of st t = line_refusals 1 t.lines ++ report_refusals st.outstanding (reports_of st t)
+abbrev pub refusals_of : Basis → Stage → ReadTurn → ℕ → List Refusal
+refusals_of b st t moment = line_refusals 1 (lines_of b st t moment) ++ report_refusals st.plans.outstanding (reports_of st t)
 
 -- what each caller takes of a turn
-abbrev pub events_of : ℕ → PlainSite → Stage → Told → ℕ → List (List Asked)
-events_of callers s st t moment =
-    dealt callers (line_events t.lines) (taken_reports st.outstanding (reports_of st t)) (ticks s st.histories moment)
+abbrev pub events_of : Basis → ℕ → Stage → ReadTurn → ℕ → List (List Asked)
+events_of b callers st t moment =
+    dealt callers (line_events (lines_of b st t moment)) (taken_reports st.plans.outstanding (reports_of st t)) (ticks b.site st.histories moment)
+
+-- what a turn orders, and the slots after it
+abbrev pub planned_of : Basis → Stage → ℕ → Histories → Planned
+planned_of b st moment round = b.schedule st.plans moment st.histories round
+
+-- the report of an order for whose command this macro is missing
+abbrev pub without_macro : ℕ → List ℕ → Reported
+without_macro number name = record { order = number; status = 3; output = codes "Macro '" ++ (name ++ codes "' is missing") }
+
+abbrev pub due_with : ℕ → Command → List Reported → List Reported
+due_with number (words ws) rs = rs
+due_with number (missing name) rs = without_macro number name ∷ rs
 
 -- the reports of orders whose macros are missing
-abbrev pub due_with : (List ℕ → Event) → ℕ → Option (List ℕ) → List Reported → List Reported
-due_with missing number None rs = rs
-due_with missing number (Some name) rs = record { order = number; result = missing name } ∷ rs
+abbrev pub due_of : List Ordered → List Reported
+due_of [] = []
+due_of (o ∷ os) = due_with o.number o.command (due_of os)
 
-abbrev pub due_of : (List ℕ → Event) → List Ordered → List Reported
-due_of missing [] = []
-due_of missing (o ∷ os) = due_with missing o.number o.missing (due_of missing os)
-
--- behind a turn
-abbrev pub stage_behind : (List ℕ → Event) → Stage → Told → TurnLog → Stage
-stage_behind missing st t l = record {
+-- after a turn
+abbrev pub stage_after : Basis → Stage → ReadTurn → TurnLog → Stage
+stage_after b st t l = record {
   turns = l.number;
   moment = l.moment;
   histories = joined st.histories l.round;
-  outstanding = still (reports_of st t) st.outstanding ++ map (λ o. record { order = o.number; checkable = o.checkable }) l.orders;
-  due = due_of missing l.orders;
+  plans = record {
+    given = st.plans.given + length l.orders;
+    outstanding = still (reports_of st t) st.plans.outstanding ++ map (λ o. record { order = o.number; checkable = o.checkable }) l.orders;
+    slots = (planned_of b st l.moment l.round).slots;
+  };
+  due = due_of l.orders;
+  begun = begun_by st l.moment;
 }
 
 -- what the log of one turn is, with so many callers
-pub record IsTurn (r : Rules) (schedule : Schedule) (s : PlainSite) (callers : ℕ) (logs : List TurnLog) (st : Stage) (t : Told) (l : TurnLog) : Type 0 where
+pub record IsTurn (b : Basis) (callers : ℕ) (st : Stage) (t : ReadTurn) (l : TurnLog) : Type 0 where
   pub number : l.number ≡ st.turns + 1
   -- a moment never falls
   pub moment : l.moment ≡ max st.moment t.moment
-  pub refusals : l.refusals ≡ refusals_of st t
-  pub round : IsRound r s l.moment st.histories (events_of callers s st t l.moment) l.round
-  pub orders : l.orders ≡ schedule s logs l.moment l.round
+  pub refusals : l.refusals ≡ refusals_of b st t l.moment
+  pub round : IsRound b l.moment st.histories (events_of b callers st t l.moment) l.round
+  pub orders : l.orders ≡ (planned_of b st l.moment l.round).orders
 
--- the logs of turns, one after the other, behind those that stand already
-abbrev pub IsRunFrom : Rules → Schedule → (List ℕ → Event) → PlainSite → ℕ → List TurnLog → Stage → List Told → List TurnLog → Type 0
-IsRunFrom r schedule missing s callers logs st [] ls = ls ≡ []
-IsRunFrom r schedule missing s callers logs st (t ∷ ts) [] = ⊥
-IsRunFrom r schedule missing s callers logs st (t ∷ ts) (l ∷ ls) =
-    IsTurn r schedule s callers logs st t l × IsRunFrom r schedule missing s callers (logs ++ l ∷ []) (stage_behind missing st t l) ts ls
+-- the logs of turns, one after the other
+abbrev pub IsRunFrom : Basis → ℕ → Stage → List ReadTurn → List TurnLog → Type 0
+IsRunFrom b callers st [] ls = ls ≡ []
+IsRunFrom b callers st (t ∷ ts) [] = ⊥
+IsRunFrom b callers st (t ∷ ts) (l ∷ ls) = IsTurn b callers st t l × IsRunFrom b callers (stage_after b st t l) ts ls
 
--- the logs of a whole run
-abbrev pub IsRun : Rules → Schedule → (List ℕ → Event) → PlainSite → ℕ → List Told → List TurnLog → Type 0
-IsRun r schedule missing s callers ts ls = IsRunFrom r schedule missing s callers [] start ts ls
+-- the logs of a whole run, which at least one caller makes
+pub record IsRun (b : Basis) (callers : ℕ) (st : Stage) (ts : List ReadTurn) (ls : List TurnLog) : Type 0 where
+  pub someone : 1 ≤ callers
+  pub turns : IsRunFrom b callers st ts ls

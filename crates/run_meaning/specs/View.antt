@@ -1,5 +1,5 @@
 -- The view of a checkable: what its entries so far show, by looking back from the newest.
-use Rattle.std.specs.Prelude.{ℕ, ◌+◌, ◌==◌, ◌&&◌, List, [], ◌∷◌, length, reverse, Bool, true, false, not, nat_lt, min, Option, Some, None, is_some, if◌then◌else◌}
+use Rattle.std.specs.Prelude.{ℕ, ◌+◌, ◌-◌, ◌*◌, ◌==◌, ◌&&◌, List, [], ◌∷◌, length, reverse, take, Bool, true, false, not, nat_lt, min, Option, Some, None, is_some, if◌then◌else◌}
 use Rattle.site_model.specs.PlainSite.{PlainCheck}
 use Rattle.site_model.specs.declared.ack.Ack.{Ack}
 use Rattle.site_model.specs.declared.ack.Ack.TheVariants as ack
@@ -43,6 +43,10 @@ is_problem state.Okay = false
 is_problem state.Up = false
 is_problem s = true
 
+-- a problem that is HARD
+abbrev pub is_hard_problem : Bool → State → Bool
+is_hard_problem hard s = hard && is_problem s
+
 abbrev pub same_state : State → State → Bool
 same_state state.Okay state.Okay = true
 same_state state.Warning state.Warning = true
@@ -76,7 +80,7 @@ state_after c (Some s) = state_by c.host s
 abbrev pub state_of : PlainCheck → List Entry → State
 state_of c back = state_after c (last_status back)
 
--- how many problem results stand at the end, behind one more status
+-- how many problem results stand at the end, after one more status
 abbrev pub problems_with : PlainCheck → Option ℕ → ℕ → ℕ
 problems_with c None n = n
 problems_with c (Some s) n = if is_problem (state_by c.host s) then n + 1 else 0
@@ -93,34 +97,34 @@ hard_at c n = not (nat_lt 0 n && (nat_lt n c.max && not c.volatile))
 abbrev pub attempt_at : PlainCheck → ℕ → ℕ
 attempt_at c n = if n == 0 then 1 else min n c.max
 
--- a problem that is HARD
-abbrev pub is_hard_problem : PlainCheck → List Entry → Bool
-is_hard_problem c back = hard_at c (problems c back) && nat_lt 0 (problems c back)
+-- these entries leave a HARD problem
+abbrev pub leave_hard_problem : PlainCheck → List Entry → Bool
+leave_hard_problem c back = is_hard_problem (hard_at c (problems c back)) (state_of c back)
 
 -- the newest entry is a result that made a HARD problem, or changed its state
 abbrev pub changes : PlainCheck → Entry → List Entry → Bool
 changes c e back =
     is_some (status_in e.event)
-    && (is_hard_problem c (e ∷ back) && not (is_hard_problem c back && same_state (state_of c back) (state_of c (e ∷ back))))
+    && (leave_hard_problem c (e ∷ back) && not (leave_hard_problem c back && same_state (state_of c back) (state_of c (e ∷ back))))
 
 -- the moment of the last result that did so
 abbrev pub change : PlainCheck → List Entry → ℕ
 change c [] = 0
 change c (e ∷ back) = if changes c e back then e.moment else change c back
 
--- an acknowledgement behind a result: a normal one lasts while the state stays, a sticky one while there is a problem
-abbrev pub ack_past : State → State → Ack → Ack
-ack_past before after ack.Off = ack.Off
-ack_past before after ack.Normal = if is_problem after && same_state before after then ack.Normal else ack.Off
-ack_past before after ack.Sticky = if is_problem after then ack.Sticky else ack.Off
+-- an acknowledgement after a result: a normal one lasts while the state stays, a sticky one while there is a problem
+abbrev pub ack_after : State → State → Ack → Ack
+ack_after before after ack.Off = ack.Off
+ack_after before after ack.Normal = if is_problem after && same_state before after then ack.Normal else ack.Off
+ack_after before after ack.Sticky = if is_problem after then ack.Sticky else ack.Off
 
 abbrev pub ack_given : Bool → Ack
 ack_given true = ack.Sticky
 ack_given false = ack.Normal
 
--- an acknowledgement behind an event that was taken or void, with the state before it
+-- an acknowledgement after an event that was taken or void, with the state before it
 abbrev pub ack_with : PlainCheck → Event → Bool → State → Ack → Ack
-ack_with c (event.Result status passive output perf) taken before a = ack_past before (state_by c.host status) a
+ack_with c (event.Result status passive output perf) taken before a = ack_after before (state_by c.host status) a
 ack_with c (event.Ack sticky notify) true before a = ack_given sticky
 ack_with c event.Unack true before a = ack.Off
 ack_with c e taken before a = a
@@ -130,23 +134,62 @@ abbrev pub ack_of : PlainCheck → List Entry → Ack
 ack_of c [] = ack.Off
 ack_of c (e ∷ back) = ack_with c e.event e.taken (state_of c back) (ack_of c back)
 
-abbrev pub checks_with : Event → Bool → Bool
-checks_with (event.Checks on) before = on
-checks_with e before = before
+-- Switches.
 
--- active checks, by the last switch or else as they are set
-abbrev pub checks_on : PlainCheck → List Entry → Bool
-checks_on c [] = c.active
-checks_on c (e ∷ back) = checks_with e.event (checks_on c back)
+-- to what an event switches active checks
+abbrev pub checks_in : Event → Option Bool
+checks_in (event.Checks on) = Some on
+checks_in e = None
 
-abbrev pub notes_with : Event → Bool → Bool
-notes_with (event.Notes on) before = on
-notes_with e before = before
+-- to what an event switches notifications
+abbrev pub notes_in : Event → Option Bool
+notes_in (event.Notes on) = Some on
+notes_in e = None
 
--- notifications, in the same way
-abbrev pub notes_on : PlainCheck → List Entry → Bool
-notes_on c [] = c.notify
-notes_on c (e ∷ back) = notes_with e.event (notes_on c back)
+abbrev pub switched_to : Option Bool → Bool → Bool
+switched_to None before = before
+switched_to (Some on) before = on
+
+-- as the last switch left it; on, where there is none
+abbrev pub switched : (Event → Option Bool) → List Entry → Bool
+switched switch [] = true
+switched switch (e ∷ back) = switched_to (switch e.event) (switched switch back)
+
+-- Flapping.
+
+-- a result of this status is a change where the one before it has another state
+abbrev pub is_change : PlainCheck → ℕ → List Entry → Bool
+is_change c s back = is_some (last_status back) && not (same_state (state_of c back) (state_by c.host s))
+
+abbrev pub change_with : PlainCheck → Option ℕ → List Entry → List Bool → List Bool
+change_with c None back slots = slots
+change_with c (Some s) back slots = is_change c s back ∷ slots
+
+-- whether each result is a change
+abbrev pub changes_back : PlainCheck → List Entry → List Bool
+changes_back c [] = []
+changes_back c (e ∷ back) = change_with c (status_in e.event) back (changes_back c back)
+
+-- the weight of the changes from slot j on: that of slot j is 120 - 2j
+abbrev pub weight_from : ℕ → List Bool → ℕ
+weight_from j [] = 0
+weight_from j (change ∷ slots) = (if change then 120 - 2 * j else 0) + weight_from (j + 1) slots
+
+-- how much the state changed in the last twenty results, in thousandths of a percent
+abbrev pub flapping_value : PlainCheck → List Entry → ℕ
+flapping_value c back = 50 * weight_from 1 (take 20 (changes_back c back))
+
+abbrev pub flapping_at : PlainCheck → ℕ → Bool → Bool
+flapping_at c value before = if nat_lt c.high value then true else if nat_lt value c.low then false else before
+
+abbrev pub flapping_with : PlainCheck → Option ℕ → ℕ → Bool → Bool
+flapping_with c None value before = before
+flapping_with c (Some s) value before = flapping_at c value before
+
+-- by the last result after which the value was above `high` or below `low`
+abbrev pub flapping_back : PlainCheck → List Entry → Bool
+flapping_back c [] = false
+flapping_back c (e ∷ back) = flapping_with c (status_in e.event) (flapping_value c (e ∷ back)) (flapping_back c back)
 
 abbrev pub view_back : PlainCheck → List Entry → View
 view_back c back = record {
@@ -157,8 +200,9 @@ view_back c back = record {
   attempt = attempt_at c (problems c back);
   change = change c back;
   ack = ack_of c back;
-  checks_on = checks_on c back;
-  notes_on = notes_on c back;
+  checks_on = c.active && switched checks_in back;
+  notes_on = c.notify && switched notes_in back;
+  flapping = c.flapping && flapping_back c back;
 }
 
 -- the view of a checkable after these entries, the oldest first

@@ -1,7 +1,7 @@
 -- A host and one service of it are a sound site: what `IsSound` asks for can be had.
-use Rattle.std.proofs.Common.{◌≡◌, ◌≢◌, ℕ, zero, suc, List, [], ◌∷◌, get_or, ap, Option, None, Some, true, false, refl, arith, All, IsSomeAnd, lit<, lit≤}
+use Rattle.std.proofs.Common.{◌≡◌, ◌≢◌, ◌≤◌, ℕ, zero, suc, List, [], ◌∷◌, get_or, ap, None, Some, refl, arith, All, IsSomeAnd, lit<, lit≤}
 use Rattle.site_base.specs.Data.{null}
-use Rattle.site_model.specs.PlainSite.{PlainCheck, PlainCommand, PlainSite}
+use Rattle.site_model.specs.PlainSite.{PlainCheck, PlainSite, plain_check, plain_site}
 use Rattle.site_model.specs.Sound.{AreDistinct, IsIndex, IsIndexOrNone, IsSound}
 
 -- P holds of each of no elements, and of each of one more
@@ -25,42 +25,14 @@ distinct_two a b differ (suc i) (suc j) d before inside = absurd (omega arith)
 apart : (a b : List ℕ) → get_or a 0 0 ≡ 1 → get_or b 0 0 ≡ 2 → a ≢ b
 apart a b one two e = omega (arith, one, two, ap (λ (xs : List ℕ). get_or xs 0 0) e)
 
-abbrev checkable : List ℕ → Option ℕ → PlainCheck
-checkable name host = record {
-  name = name;
-  host = host;
-  command = 0;
-  max = 3;
-  check_secs = 300;
-  retry_secs = 60;
-  period = None;
-  active = true;
-  passive = true;
-  notify = true;
-  volatile = false;
-  tree = null;
-}
-
 abbrev small : PlainSite
-small = record {
-  files = [];
-  objects = [];
-  checkables = checkable (1 ∷ []) None ∷ checkable (2 ∷ []) (Some 0) ∷ [];
-  depends = [];
-  notifies = [];
-  users = [];
-  commands = record { name = 3 ∷ []; tree = null } ∷ [];
-  periods = [];
-  names = (1 ∷ []) ∷ (2 ∷ []) ∷ [];
-  vars = null;
-  zone = None;
-  max_orders = 512;
-}
+small = record (plain_site (plain_check (1 ∷ []) None ∷ plain_check (2 ∷ []) (Some 0) ∷ []) ((1 ∷ []) ∷ (2 ∷ []) ∷ [])) { commands = record { name = 3 ∷ []; tree = null } ∷ [] }
 
 pub small_is_sound : IsSound small
 small_is_sound =
-    let host : PlainCheck = checkable (1 ∷ []) None in
-    let service : PlainCheck = checkable (2 ∷ []) (Some 0) in
+    let host : PlainCheck = plain_check (1 ∷ []) None in
+    let service : PlainCheck = plain_check (2 ∷ []) (Some 0) in
+    let SomeAttempt : PlainCheck → Type 0 = λ c. 1 ≤ c.max in
     let NoHost : PlainCheck → Type 0 = λ c. c.host ≡ None in
     let OneHost : PlainCheck → Type 0 = λ c. IsSomeAnd c.host (IsIndex 1) in
     let OneCommand : PlainCheck → Type 0 = λ c. IsIndex 1 c.command in
@@ -73,8 +45,8 @@ small_is_sound =
         hosts_have_none = more NoHost host [] refl (none NoHost);
         services_have_one = more OneHost service [] (lit< tt) (none OneHost);
       };
-      named = refl;
-      distinct = distinct_two (1 ∷ []) (2 ∷ []) (apart (1 ∷ []) (2 ∷ []) refl refl);
+      names = record { named = refl; distinct = distinct_two (1 ∷ []) (2 ∷ []) (apart (1 ∷ []) (2 ∷ []) refl refl) };
+      attempts = more SomeAttempt host (service ∷ []) (lit≤ tt) (more SomeAttempt service [] (lit≤ tt) (none SomeAttempt));
       places = none _;
       commands = more OneCommand host (service ∷ []) (lit< tt) (more OneCommand service [] (lit< tt) (none OneCommand));
       periods = more NoPeriod host (service ∷ []) tt (more NoPeriod service [] tt (none NoPeriod));

@@ -1,6 +1,6 @@
 -- The plain value of a site: what clauses speak of in place of a `Site`, whose trees have no equality.
-use Rattle.std.specs.Prelude.{ℕ, Bool, List, Option, map}
-use Rattle.site_base.specs.Data.{Data}
+use Rattle.std.specs.Prelude.{ℕ, Bool, true, false, List, [], Option, None, map}
+use Rattle.site_base.specs.Data.{Data, null}
 use Rattle.site_base.specs.View.{view}
 use Rattle.site_base.specs.declared.item_no.ItemNo.{ItemNo}
 use Rattle.site_base.specs.declared.period_spec.PeriodSpec.{PeriodSpec}
@@ -45,6 +45,9 @@ pub record PlainCheck : Type 0 where
   pub passive : Bool
   pub notify : Bool
   pub volatile : Bool
+  pub flapping : Bool
+  pub low : ℕ
+  pub high : ℕ
   pub tree : Data
 
 abbrev pub check_view : CheckSpec → PlainCheck
@@ -60,7 +63,30 @@ check_view c = record {
   passive = c.passive;
   notify = c.notify;
   volatile = c.volatile;
+  flapping = c.flapping;
+  low = c.low;
+  high = c.high;
   tree = view c.tree;
+}
+
+-- a host, or a service of the host of this index, that sets nothing
+abbrev pub plain_check : List ℕ → Option ℕ → PlainCheck
+plain_check name host = record {
+  name = name;
+  host = host;
+  command = 0;
+  max = 3;
+  check_secs = 300;
+  retry_secs = 60;
+  period = None;
+  active = true;
+  passive = true;
+  notify = true;
+  volatile = false;
+  flapping = false;
+  low = 25000;
+  high = 30000;
+  tree = null;
 }
 
 -- a `CommandSpec` with the plain value of its tree
@@ -100,6 +126,23 @@ site_view s = record {
   vars = view s.vars;
   zone = s.zone;
   max_orders = s.max_orders;
+}
+
+-- a site of these checkables and of nothing else
+abbrev pub plain_site : List PlainCheck → List (List ℕ) → PlainSite
+plain_site checkables names = record {
+  files = [];
+  objects = [];
+  checkables = checkables;
+  depends = [];
+  notifies = [];
+  users = [];
+  commands = [];
+  periods = [];
+  names = names;
+  vars = null;
+  zone = None;
+  max_orders = 512;
 }
 
 -- the full names of the checkables, in their order

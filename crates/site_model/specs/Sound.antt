@@ -16,6 +16,11 @@ IsIndexOrNone count place = IfSome place (IsIndex count)
 abbrev pub AreDistinct : {X : Type 0} → List X → Type 0
 AreDistinct xs = AllPairs (λ x y. x ≢ y) xs
 
+-- what looking a checkable up by its name needs: the names are those of the checkables, in their order, and distinct
+pub record HasNames (s : PlainSite) : Type 0 where
+  pub named : s.names ≡ full_names s
+  pub distinct : AreDistinct s.names
+
 -- the hosts stand first, and then services, each of one of these hosts
 pub record AreHostsThenServices (checkables : List PlainCheck) : Type 0 where
   pub hosts : List PlainCheck
@@ -37,12 +42,12 @@ pub record TellsUsers (checkables users periods : ℕ) (n : NotifySpec) : Type 0
   pub once : AreDistinct n.users
   pub period : IsIndexOrNone periods n.period
 
--- every index is in range, names that stand for one thing are distinct, and each list is short enough for
--- its places to be named by 32 bits
+-- every index is in range, names that stand for one thing are distinct, a problem needs an attempt at least to be HARD, and
+-- each list is short enough for its places to be named by 32 bits
 pub record IsSound (s : PlainSite) : Type 0 where
   pub in_order : AreHostsThenServices s.checkables
-  pub named : s.names ≡ full_names s
-  pub distinct : AreDistinct s.names
+  pub names : HasNames s
+  pub attempts : All (λ c. 1 ≤ c.max) s.checkables
   pub places : All (λ o. IsIndex (length s.files) o.place.file) s.objects
   pub commands : All (λ c. IsIndex (length s.commands) c.command) s.checkables
   pub periods : All (λ c. IsIndexOrNone (length s.periods) c.period) s.checkables

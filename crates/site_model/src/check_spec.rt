@@ -1,4 +1,7 @@
 // Checkables as the configuration sets them.
+ghost use Rattle.std.specs.Prelude.{◌≡◌};
+ghost use Rattle.site_model.specs.PlainSite.{check_view, plain_check};
+
 use site_base::{Text, Tree};
 
 /// A host or a service and how it is checked (Icinga 2 documentation, Object Types, "Host" and
@@ -26,6 +29,37 @@ pub struct CheckSpec {
     /// `enable_notifications`.
     pub notify: bool,
     pub volatile: bool,
+    /// `enable_flapping`.
+    pub flapping: bool,
+    /// `flapping_threshold_low`, in thousandths of a percent: below it flapping ends.
+    pub low: u64,
+    /// `flapping_threshold_high`, in thousandths of a percent: above it flapping begins.
+    pub high: u64,
     /// The object's attributes, a `Dict`.
     pub tree: Tree,
+}
+
+impl CheckSpec {
+    /// A host, or a service of the host of this index, that sets nothing: all else is as the defaults are.
+    pub fn plain(name: Text, host: Option<u32>) -> CheckSpec
+        ensures { check_view result ≡ plain_check name host }
+    {
+        CheckSpec {
+            name,
+            host,
+            command: 0,
+            max: 3,
+            check_secs: 300,
+            retry_secs: 60,
+            period: None,
+            active: true,
+            passive: true,
+            notify: true,
+            volatile: false,
+            flapping: false,
+            low: 25_000,
+            high: 30_000,
+            tree: Tree::Null,
+        }
+    }
 }

@@ -21,8 +21,6 @@ mod sight;
 mod site;
 mod state;
 mod state_set;
-#[cfg(test)]
-mod tests;
 mod user_spec;
 mod view;
 

@@ -15,6 +15,8 @@ pub enum Outcome {
     Host { checkable: u32 },
     /// The downtime in effect, by the number of the entry that began it.
     Downtime { number: u64 },
+    /// The checkable changes its state too often.
+    Flapping,
     /// The problem is acknowledged.
     Acknowledged,
     /// It is outside the notification's period.

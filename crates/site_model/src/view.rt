@@ -14,11 +14,14 @@ pub struct View {
     pub hard: bool,
     /// The check attempt, from 1.
     pub attempt: u32,
-    /// When the state changed last.
+    /// The moment of the last result that made it a HARD problem or changed the state of one, also after
+    /// the problem's end; 0 where none did.
     pub change: Moment,
     pub ack: Ack,
-    /// Whether active checks are switched on.
+    /// Whether active checks are on: they are set on, and weren't switched off last.
     pub checks_on: bool,
-    /// Whether notifications are switched on.
+    /// Whether notifications are on: they are set on, and weren't switched off last.
     pub notes_on: bool,
+    /// Whether it changes its state too often (Icinga 2 documentation, Monitoring Basics, "Flapping").
+    pub flapping: bool,
 }

@@ -1,6 +1,6 @@
-// Tests of names, of sets and of the site.
-use super::*;
-use site_base::{OutOfMemory, Row, Text, Tree};
+// Names, sets and the site.
+use site_base::{OutOfMemory, Row, Text};
+use site_model::{CheckSpec, KindSet, Names, NoteKind, Site, State, StateSet};
 use std::alloc::Global;
 use std::test::Fail;
 
@@ -106,51 +106,16 @@ fn sets_of_kinds(rt: HostRuntime) {
     }
 }
 
-fn checkable(alloc: Global, name: &str, host: Option<u32>) -> Result<CheckSpec, OutOfMemory> {
-    Ok(CheckSpec {
-        name: Text::copy_of(alloc, name)?,
-        host,
-        command: 0,
-        max: 3,
-        check_secs: 300,
-        retry_secs: 60,
-        period: None,
-        active: true,
-        passive: true,
-        notify: true,
-        volatile: false,
-        tree: Tree::Null,
-    })
-}
-
 fn host_and_service(alloc: Global) -> Result<Site, OutOfMemory> {
     let mut checkables = Row::new(alloc);
-    checkables.push(checkable(alloc, "h", None)?)?;
-    checkables.push(checkable(alloc, "h!s", Some(0))?)?;
+    checkables.push(CheckSpec::plain(Text::copy_of(alloc, "h")?, None))?;
+    checkables.push(CheckSpec::plain(Text::copy_of(alloc, "h!s")?, Some(0)))?;
     let mut names = Names::new(alloc);
     names.add(Text::copy_of(alloc, "h")?)?;
-    let mut commands = Row::new(alloc);
-    commands.push(CommandSpec {
-        name: Text::copy_of(alloc, "c")?,
-        tree: Tree::Null,
-    })?;
     if names.len() < 2 {
         names.add(Text::copy_of(alloc, "h!s")?)?;
     }
-    Ok(Site {
-        files: Row::new(alloc),
-        objects: Row::new(alloc),
-        checkables,
-        depends: Row::new(alloc),
-        notifies: Row::new(alloc),
-        users: Row::new(alloc),
-        commands,
-        periods: Row::new(alloc),
-        names,
-        vars: Tree::Null,
-        zone: None,
-        max_orders: 512,
-    })
+    Ok(Site::plain(alloc, checkables, names))
 }
 
 #[test]

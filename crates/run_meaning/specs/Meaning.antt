@@ -1,0 +1,20 @@
+-- What a run over a site stands on, with all of its rules.
+use Rattle.std.specs.Prelude.{ℕ, Bool}
+use Rattle.site_model.specs.PlainSite.{PlainSite}
+use Rattle.run_meaning.specs.Turns.{Command, Feed}
+use Rattle.run_meaning.specs.Acts.{Basis}
+use Rattle.run_meaning.specs.Downtimes.{is_live}
+use Rattle.run_meaning.specs.Reachability.{ancestors}
+use Rattle.run_meaning.specs.Decisions.{decisions_of}
+use Rattle.run_meaning.specs.Schedule.{schedule}
+
+-- a site whose periods hold so at moments, whose checkables are checked by these commands, and whose turns are fed so
+abbrev pub basis_of : PlainSite → (ℕ → ℕ → Bool) → (ℕ → Command) → Feed → Basis
+basis_of s holds command feed = record {
+  site = s;
+  is_live = is_live;
+  ancestors = ancestors s;
+  decisions = decisions_of s holds;
+  schedule = schedule s holds command;
+  feed = feed;
+}
