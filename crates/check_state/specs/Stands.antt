@@ -4,12 +4,16 @@ use Rattle.site_model.specs.PlainSite.{PlainCheck}
 use Rattle.site_model.specs.declared.entry.Entry.{Entry}
 use Rattle.site_model.specs.declared.event.Event.{Event}
 use Rattle.site_model.specs.declared.event.Event.TheVariants as event
-use Rattle.run_meaning.specs.View.{view_of, problems, status_in}
+use Rattle.run_meaning.specs.View.{view_of, changes_back, problems, status_in}
+use Rattle.check_state.specs.Slots.{padded}
 use Rattle.check_state.specs.declared.status.Status.{Status}
 
 -- it is what these entries of a checkable show
 pub record StandsFor (s : Status) (c : PlainCheck) (history : List Entry) : Type 0 where
   pub view : s.view ≡ view_of c history
+  pub active : s.active ≡ c.active
+  pub notify : s.notify ≡ c.notify
+  pub changes : s.changes.slots ≡ padded 20 (changes_back c (reverse history))
   pub problems : s.problems ≡ min (problems c (reverse history)) c.max
 
 -- the entry is a result of this status at this moment

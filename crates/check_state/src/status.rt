@@ -1,11 +1,12 @@
 // The running status of a checkable.
-ghost use Rattle.std.specs.Prelude.{◌≡◌, ◌<◌, ◌≤◌, ◌-◌, ◌^◌, ◌+◌, ◌++◌, ◌∷◌, [], ℕ, List, None, min, nat_lt, not, ◌&&◌, if◌then◌else◌};
+ghost use Rattle.std.specs.Prelude.{◌≡◌, ◌<◌, ◌≤◌, ◌-◌, ◌^◌, ◌+◌, ◌++◌, ◌∷◌, [], ℕ, List, None, min, nat_lt, not, ◌&&◌, Bool, if◌then◌else◌};
 ghost use Rattle.site_model.specs.PlainSite.{PlainCheck, check_view};
 ghost use Rattle.site_model.specs.declared.entry.Entry.{Entry};
-ghost use Rattle.run_meaning.specs.View.{status_in, has_effect, hard_at, same_state, is_problem as problem};
+ghost use Rattle.run_meaning.specs.View.{status_in, has_effect, hard_at, flapping_at, same_state, is_hard_problem as hard_problem, is_problem as problem};
 ghost use Rattle.check_state.specs.Stands.{StandsFor, IsResult, IsSwitch};
 
-use crate::acks::{ack_past, is_on};
+use crate::acks::{ack_after, is_on};
+use crate::changes::Changes;
 use crate::states::{is_problem, is_same, state_at, unchecked};
 use site_base::Moment;
 use site_model::{Ack, CheckSpec, Event, State, View};
@@ -18,6 +19,10 @@ pub struct Status {
     view: View,
     /// How many results at the end are problems, and at most the attempts that make one HARD.
     problems: u32,
+    /// `enable_active_checks` and `enable_notifications`.
+    active: bool,
+    notify: bool,
+    changes: Changes,
 }
 
 impl Status {
@@ -36,8 +41,12 @@ impl Status {
                 ack: Ack::Off,
                 checks_on: spec.active,
                 notes_on: spec.notify,
+                flapping: false,
             },
             problems: 0,
+            active: spec.active,
+            notify: spec.notify,
+            changes: Changes::none(),
         }
     }
 
@@ -48,10 +57,12 @@ impl Status {
     {
         let before = self.view;
         let state = state_at(spec.host, status);
-        let problems = problems_behind(self.problems, spec.max, is_problem(state));
+        let problems = problems_after(self.problems, spec.max, is_problem(state));
         let hard = is_hard(spec, is_problem(state), problems);
-        let change = change_behind(&before, state, hard, moment);
+        let change = change_after(&before, state, hard, moment);
+        let changes = self.changes.with(is_change(&before, state));
         self.problems = problems;
+        self.changes = changes;
         self.view = View {
             count: before.count + 1,
             has_result: true,
@@ -59,9 +70,10 @@ impl Status {
             hard,
             attempt: attempt_at(is_problem(state), problems),
             change,
-            ack: ack_past(before.state, state, before.ack),
+            ack: ack_after(before.state, state, before.ack),
             checks_on: before.checks_on,
             notes_on: before.notes_on,
+            flapping: flapping_after(spec, changes.value(), before.flapping),
         };
     }
 
@@ -73,29 +85,33 @@ impl Status {
         ensures effect { result ≡ has_effect self.old.view event.now }
         ensures stands { (c : PlainCheck) (h : List Entry) (e : Entry) → StandsFor self.old c h → IsSwitch e event.now result → StandsFor self.new c (h ++ e ∷ []) }
     {
+        let taken = takes_effect(&self.view, event);
+        self.step_kept(event, taken);
+        taken
+    }
+
+    /// Takes any event but a result as an entry tells it: an acknowledgement or the end of one is taken or void as the
+    /// entry says.
+    pub fn step_kept(&mut self, event: &Event, taken: bool)
+        requires count { self.old.view.count < 2 ^ 64 - 1 }
+        requires switch { status_in event.now ≡ None }
+        ensures stands { (c : PlainCheck) (h : List Entry) (e : Entry) → StandsFor self.old c h → IsSwitch e event.now taken → StandsFor self.new c (h ++ e ∷ []) }
+    {
         self.view.count += 1;
         match event {
             Event::Ack { sticky, .. } => {
-                let problem = is_problem(self.view.state);
-                if problem {
+                if taken {
                     self.view.ack = if *sticky { Ack::Sticky } else { Ack::Normal };
                 }
-                problem
             }
             Event::Unack => {
-                let on = is_on(self.view.ack);
-                self.view.ack = Ack::Off;
-                on
+                if taken {
+                    self.view.ack = Ack::Off;
+                }
             }
-            Event::Checks { on } => {
-                self.view.checks_on = *on;
-                true
-            }
-            Event::Notes { on } => {
-                self.view.notes_on = *on;
-                true
-            }
-            _ => true,
+            Event::Checks { on } => self.view.checks_on = self.active && *on,
+            Event::Notes { on } => self.view.notes_on = self.notify && *on,
+            _ => {}
         }
     }
 
@@ -107,8 +123,8 @@ impl Status {
     }
 }
 
-/// How many results at the end are problems behind one more, at most `most`.
-fn problems_behind(before: u32, most: u32, problem: bool) -> u32
+/// How many results at the end are problems after one more, at most `most`.
+fn problems_after(before: u32, most: u32, problem: bool) -> u32
     ensures { (n : ℕ) → before ≡ min n most → result ≡ (if problem then min (n + 1) most else 0) }
 {
     if !problem {
@@ -127,9 +143,9 @@ fn is_hard(spec: &CheckSpec, problem: bool, problems: u32) -> bool
     spec.volatile || !problem || problems >= spec.max
 }
 
-/// When a checkable last became a HARD problem or changed its state as one, behind a result with this state.
-fn change_behind(before: &View, state: State, hard: bool, moment: Moment) -> Moment
-    ensures { result ≡ (if (hard && problem state) && not ((before.now.hard && problem before.now.state) && same_state before.now.state state) then moment else before.now.change) }
+/// When a checkable last became a HARD problem or changed its state as one, after a result with this state.
+fn change_after(before: &View, state: State, hard: bool, moment: Moment) -> Moment
+    ensures { result ≡ (if hard_problem hard state && not (hard_problem before.now.hard before.now.state && same_state before.now.state state) then moment else before.now.change) }
 {
     if is_hard_problem(hard, state) && !is_still(before, state) {
         moment
@@ -139,16 +155,41 @@ fn change_behind(before: &View, state: State, hard: bool, moment: Moment) -> Mom
 }
 
 fn is_hard_problem(hard: bool, state: State) -> bool
-    ensures { result ≡ (hard && problem state) }
+    ensures { result ≡ hard_problem hard state }
 {
     hard && is_problem(state)
 }
 
 /// Whether the view is a HARD problem of this very state.
 fn is_still(view: &View, state: State) -> bool
-    ensures { result ≡ ((view.now.hard && problem view.now.state) && same_state view.now.state state) }
+    ensures { result ≡ (hard_problem view.now.hard view.now.state && same_state view.now.state state) }
 {
     is_hard_problem(view.hard, view.state) && is_same(view.state, state)
+}
+
+/// Whether a result with this state has one with another state before it.
+fn is_change(before: &View, state: State) -> bool
+    ensures { result ≡ (before.now.has_result && not (same_state before.now.state state)) }
+{
+    before.has_result && !is_same(before.state, state)
+}
+
+/// Whether a checkable flaps at this value, as it did before.
+fn flapping_after(spec: &CheckSpec, value: u64, before: bool) -> bool
+    ensures { (was : Bool) → before ≡ (spec.now.flapping && was) → result ≡ (spec.now.flapping && flapping_at (check_view spec.now) value was) }
+{
+    spec.flapping && (value > spec.high || (value >= spec.low && before))
+}
+
+/// Whether an event has an effect where a checkable is seen so.
+fn takes_effect(view: &View, event: &Event) -> bool
+    ensures { result ≡ has_effect view.now event.now }
+{
+    match event {
+        Event::Ack { .. } => is_problem(view.state),
+        Event::Unack => is_on(view.ack),
+        _ => true,
+    }
 }
 
 /// The attempt after a result, with so many problems at the end.
