@@ -7,7 +7,7 @@ use Rattle.std.specs.List.{slice_get}
 use Rattle.std.specs.Option.{option_map}
 use Rattle.site_model.specs.Names.{place_of, IsPlaceOf}
 use Rattle.site_model.specs.PlainSite.{PlainSite, PlainCheck, full_names}
-use Rattle.site_model.specs.Sound.{IsSound, AreDistinct}
+use Rattle.site_model.specs.Sound.{HasNames, AreDistinct}
 use Rattle.site_model.proofs.Places.{place_is}
 use Rattle.event_text.specs.Checkables.{full_name, IsHost, IsService, is_none, is_some_of, is_host, is_service_of, host_at, service_at, host_named, service_below, service_named}
 
@@ -61,30 +61,30 @@ host_at_place s name j k named here (Some check) at e = by (is_none check.host) 
         subst (λ i. IsHost s name i) same (record { check = check; at = at; named = name_there s name j check named at here; own = none_is check.host own })
     by false own e = cc
 
-pub host_is : (s : PlainSite) (name : List ℕ) (k : ℕ) → IsSound s → host_named s name ≡ Some k → IsHost s name k
+pub host_is : (s : PlainSite) (name : List ℕ) (k : ℕ) → HasNames s → host_named s name ≡ Some k → IsHost s name k
 unfolding host_named
-host_is s name k sound e = by (place_of name s.names) (place_is name s.names) e
+host_is s name k has e = by (place_of name s.names) (place_is name s.names) e
   where
     by : (r : Option ℕ) → IsPlaceOf name s.names r → host_at s r ≡ Some k → IsHost s name k
     by None lacks e = cc
-    by (Some j) here e = host_at_place s name j k sound.named here (slice_get s.checkables j) refl e
+    by (Some j) here e = host_at_place s name j k has.named here (slice_get s.checkables j) refl e
 
-pub host_found : (s : PlainSite) (name : List ℕ) (k : ℕ) → IsSound s → IsHost s name k → host_named s name ≡ Some k
+pub host_found : (s : PlainSite) (name : List ℕ) (k : ℕ) → HasNames s → IsHost s name k → host_named s name ≡ Some k
 unfolding host_named
-host_found s name k sound h =
-    let there : slice_get s.names k ≡ Some name = name_at s k h.check sound.named h.at ∙ ap Some h.named in
-    ap (host_at s) (place_found s.names name k sound.distinct there)
+host_found s name k has h =
+    let there : slice_get s.names k ≡ Some name = name_at s k h.check has.named h.at ∙ ap Some h.named in
+    ap (host_at s) (place_found s.names name k has.distinct there)
     ∙ (ap (λ r. cond (is_host r) (Some k) None) h.at ∙ ap (λ r. cond (is_none r) (Some k) None) h.own)
 
-pub no_host : (s : PlainSite) (name : List ℕ) → IsSound s → ((k : ℕ) → IsHost s name k → ⊥) → host_named s name ≡ None
-no_host s name sound h = by (host_named s name) refl
+pub no_host : (s : PlainSite) (name : List ℕ) → HasNames s → ((k : ℕ) → IsHost s name k → ⊥) → host_named s name ≡ None
+no_host s name has h = by (host_named s name) refl
   where
     by : (r : Option ℕ) → host_named s name ≡ r → host_named s name ≡ None
     by None e = e
-    by (Some k) e = absurd (h k (host_is s name k sound e))
+    by (Some k) e = absurd (h k (host_is s name k has e))
 
-pub host_lacks : (s : PlainSite) (name : List ℕ) → IsSound s → host_named s name ≡ None → (k : ℕ) → IsHost s name k → ⊥
-host_lacks s name sound e k h = let found : host_named s name ≡ Some k = host_found s name k sound h in cc
+pub host_lacks : (s : PlainSite) (name : List ℕ) → HasNames s → host_named s name ≡ None → (k : ℕ) → IsHost s name k → ⊥
+host_lacks s name has e k h = let found : host_named s name ≡ Some k = host_found s name k has h in cc
 
 -- services
 service_at_place : (s : PlainSite) (host service : List ℕ) (p j k : ℕ) → s.names ≡ full_names s → IsHost s host p → slice_get s.names j ≡ Some (full_name host service) → (r : Option PlainCheck) → slice_get s.checkables j ≡ r
@@ -98,33 +98,33 @@ service_at_place s host service p j k named below here (Some check) at e = by (i
         subst (λ i. IsService s host service i) same (record { place = p; below = below; check = check; at = at; named = name_there s (full_name host service) j check named at here; joined = some_is p check.host own })
     by false own e = cc
 
-pub service_is : (s : PlainSite) (host service : List ℕ) (k : ℕ) → IsSound s → service_named s host service ≡ Some k → IsService s host service k
+pub service_is : (s : PlainSite) (host service : List ℕ) (k : ℕ) → HasNames s → service_named s host service ≡ Some k → IsService s host service k
 unfolding service_named
-service_is s host service k sound e = by (host_named s host) refl e
+service_is s host service k has e = by (host_named s host) refl e
   where
     at_host : (p : ℕ) → IsHost s host p → (r : Option ℕ) → IsPlaceOf (full_name host service) s.names r → service_at s p r ≡ Some k → IsService s host service k
     at_host p below None lacks e = cc
-    at_host p below (Some j) here e = service_at_place s host service p j k sound.named below here (slice_get s.checkables j) refl e
+    at_host p below (Some j) here e = service_at_place s host service p j k has.named below here (slice_get s.checkables j) refl e
 
     by : (r : Option ℕ) → host_named s host ≡ r → service_below s (full_name host service) r ≡ Some k → IsService s host service k
     by None h e = cc
-    by (Some p) h e = at_host p (host_is s host p sound h) (place_of (full_name host service) s.names) (place_is (full_name host service) s.names) e
+    by (Some p) h e = at_host p (host_is s host p has h) (place_of (full_name host service) s.names) (place_is (full_name host service) s.names) e
 
-pub service_found : (s : PlainSite) (host service : List ℕ) (k : ℕ) → IsSound s → IsService s host service k → service_named s host service ≡ Some k
+pub service_found : (s : PlainSite) (host service : List ℕ) (k : ℕ) → HasNames s → IsService s host service k → service_named s host service ≡ Some k
 unfolding service_named
-service_found s host service k sound h =
-    let there : slice_get s.names k ≡ Some (full_name host service) = name_at s k h.check sound.named h.at ∙ ap Some h.named in
-    ap (service_below s (full_name host service)) (host_found s host h.place sound h.below)
-    ∙ (ap (service_at s h.place) (place_found s.names (full_name host service) k sound.distinct there)
+service_found s host service k has h =
+    let there : slice_get s.names k ≡ Some (full_name host service) = name_at s k h.check has.named h.at ∙ ap Some h.named in
+    ap (service_below s (full_name host service)) (host_found s host h.place has h.below)
+    ∙ (ap (service_at s h.place) (place_found s.names (full_name host service) k has.distinct there)
     ∙ (ap (λ r. cond (is_service_of h.place r) (Some k) None) h.at
     ∙ (ap (λ r. cond (is_some_of h.place r) (Some k) None) h.joined ∙ ap (λ t. cond t (Some k) None) (is_same h.place))))
 
-pub no_service : (s : PlainSite) (host service : List ℕ) → IsSound s → ((k : ℕ) → IsService s host service k → ⊥) → service_named s host service ≡ None
-no_service s host service sound h = by (service_named s host service) refl
+pub no_service : (s : PlainSite) (host service : List ℕ) → HasNames s → ((k : ℕ) → IsService s host service k → ⊥) → service_named s host service ≡ None
+no_service s host service has h = by (service_named s host service) refl
   where
     by : (r : Option ℕ) → service_named s host service ≡ r → service_named s host service ≡ None
     by None e = e
-    by (Some k) e = absurd (h k (service_is s host service k sound e))
+    by (Some k) e = absurd (h k (service_is s host service k has e))
 
-pub service_lacks : (s : PlainSite) (host service : List ℕ) → IsSound s → service_named s host service ≡ None → (k : ℕ) → IsService s host service k → ⊥
-service_lacks s host service sound e k h = let found : service_named s host service ≡ Some k = service_found s host service k sound h in cc
+pub service_lacks : (s : PlainSite) (host service : List ℕ) → HasNames s → service_named s host service ≡ None → (k : ℕ) → IsService s host service k → ⊥
+service_lacks s host service has e k h = let found : service_named s host service ≡ Some k = service_found s host service k has h in cc

@@ -5,7 +5,7 @@ use Rattle.std.specs.List.{slice_get}
 use Rattle.std.specs.Option.{option_map}
 use Rattle.std.specs.Str.{IsUtf8, is_utf8}
 use Rattle.site_model.specs.PlainSite.{PlainSite}
-use Rattle.site_model.specs.Sound.{IsSound}
+use Rattle.site_model.specs.Sound.{HasNames}
 use Rattle.site_model.specs.declared.event.Event.{Event}
 use Rattle.event_text.specs.Checkables.{IsNamed, takes_passive, host_named, service_named}
 use Rattle.event_text.specs.Commands.{command_name, command_named, is_result}
@@ -89,21 +89,21 @@ looked_line : (s : PlainSite) (host : List ℕ) (service : Option (List ℕ)) (s
 looked_line s host None status output = refl
 looked_line s host (Some service) status output = ap (λ q. passive_read s (service_named s host service) q output) (same_status service (status_in status))
 
-named_is : (s : PlainSite) (host : List ℕ) (service : Option (List ℕ)) (k : ℕ) → IsSound s → looked_up s host service ≡ Some k → IsNamed s host service k
-named_is s host None k sound e = host_is s host k sound e
-named_is s host (Some service) k sound e = service_is s host service k sound e
+named_is : (s : PlainSite) (host : List ℕ) (service : Option (List ℕ)) (k : ℕ) → HasNames s → looked_up s host service ≡ Some k → IsNamed s host service k
+named_is s host None k has e = host_is s host k has e
+named_is s host (Some service) k has e = service_is s host service k has e
 
-named_found : (s : PlainSite) (host : List ℕ) (service : Option (List ℕ)) (k : ℕ) → IsSound s → IsNamed s host service k → looked_up s host service ≡ Some k
-named_found s host None k sound h = host_found s host k sound h
-named_found s host (Some service) k sound h = service_found s host service k sound h
+named_found : (s : PlainSite) (host : List ℕ) (service : Option (List ℕ)) (k : ℕ) → HasNames s → IsNamed s host service k → looked_up s host service ≡ Some k
+named_found s host None k has h = host_found s host k has h
+named_found s host (Some service) k has h = service_found s host service k has h
 
-unnamed : (s : PlainSite) (host : List ℕ) (service : Option (List ℕ)) → IsSound s → ((k : ℕ) → IsNamed s host service k → ⊥) → looked_up s host service ≡ None
-unnamed s host None sound h = no_host s host sound h
-unnamed s host (Some service) sound h = no_service s host service sound h
+unnamed : (s : PlainSite) (host : List ℕ) (service : Option (List ℕ)) → HasNames s → ((k : ℕ) → IsNamed s host service k → ⊥) → looked_up s host service ≡ None
+unnamed s host None has h = no_host s host has h
+unnamed s host (Some service) has h = no_service s host service has h
 
-named_lacks : (s : PlainSite) (host : List ℕ) (service : Option (List ℕ)) → IsSound s → looked_up s host service ≡ None → (k : ℕ) → IsNamed s host service k → ⊥
-named_lacks s host None sound e k h = host_lacks s host sound e k h
-named_lacks s host (Some service) sound e k h = service_lacks s host service sound e k h
+named_lacks : (s : PlainSite) (host : List ℕ) (service : Option (List ℕ)) → HasNames s → looked_up s host service ≡ None → (k : ℕ) → IsNamed s host service k → ⊥
+named_lacks s host None has e k h = host_lacks s host has e k h
+named_lacks s host (Some service) has e k h = service_lacks s host service has e k h
 
 result_line : (s : PlainSite) (line host : List ℕ) (service : Option (List ℕ)) (status output : List ℕ) → IsResult line host service status output
     → line_read s line ≡ passive_read s (looked_up s host service) (option_map (status_of service) (status_in status)) output
@@ -143,42 +143,42 @@ few_line : (s : PlainSite) (c : Command) (fields : Option (List ℕ)) → is_res
 few_line s c None e h = alone c e
 few_line s c (Some text) e h = ap (λ r. command_with s r text) (command_found c) ∙ few_with s text c e h
 
-fault_read : (s : PlainSite) (line : List ℕ) (f : LineFault) → IsSound s → HasFault s line f → line_read s line ≡ faulty f
-fault_read s line fault.NotText sound h = other_line s line h
-fault_read s line fault.NoBracket sound h = text_line s line h.0 ∙ by (head_of s line)
+fault_read : (s : PlainSite) (line : List ℕ) (f : LineFault) → HasNames s → HasFault s line f → line_read s line ≡ faulty f
+fault_read s line fault.NotText has h = other_line s line h
+fault_read s line fault.NoBracket has h = text_line s line h.0 ∙ by (head_of s line)
   where
     by : HeadOf s line → text_read s line ≡ faulty fault.NoBracket
     by (headless none e) = e
     by (headed m c head e) = absurd (h.1 m c head)
-fault_read s line fault.BadMoment sound h =
+fault_read s line fault.BadMoment has h =
     text_line s line h.0 ∙ (head_found s line h.1 h.2 h.3 ∙ untimed s h.1 h.2 h.4)
-fault_read s line fault.UnknownCommand sound h =
+fault_read s line fault.UnknownCommand has h =
     command_line s line h.0 h.1 h.2 ∙ unknown_line s h.0 h.1 (command_none h.0 h.3)
-fault_read s line fault.FieldCount sound h =
+fault_read s line fault.FieldCount has h =
     command_line s line (command_name h.0) h.1 h.3 ∙ few_line s h.0 h.1 h.2 h.4
-fault_read s line fault.UnknownCheckable sound h =
+fault_read s line fault.UnknownCheckable has h =
     result_line s line h.0 h.1 h.2 h.3 h.4
-    ∙ ap (λ r. passive_read s r (option_map (status_of h.1) (status_in h.2)) h.3) (unnamed s h.0 h.1 sound h.5)
-fault_read s line fault.BadNumber sound h =
+    ∙ ap (λ r. passive_read s r (option_map (status_of h.1) (status_in h.2)) h.3) (unnamed s h.0 h.1 has h.5)
+fault_read s line fault.BadNumber has h =
     result_line s line h.0 h.1 h.2 h.3 h.5
-    ∙ (ap (λ r. passive_read s r (option_map (status_of h.1) (status_in h.2)) h.3) (named_found s h.0 h.1 h.4 sound h.6)
+    ∙ (ap (λ r. passive_read s r (option_map (status_of h.1) (status_in h.2)) h.3) (named_found s h.0 h.1 h.4 has h.6)
     ∙ ap (λ q. passive_read s (Some h.4) (option_map (status_of h.1) q) h.3) (no_status h.2 h.7))
-fault_read s line fault.BadSpan sound h = absurd h
-fault_read s line fault.PassiveOff sound h =
+fault_read s line fault.BadSpan has h = absurd h
+fault_read s line fault.PassiveOff has h =
     result_line s line h.0 h.1 h.2 h.3 h.6
-    ∙ (ap (λ r. passive_read s r (option_map (status_of h.1) (status_in h.2)) h.3) (named_found s h.0 h.1 h.4 sound h.7)
+    ∙ (ap (λ r. passive_read s r (option_map (status_of h.1) (status_in h.2)) h.3) (named_found s h.0 h.1 h.4 has h.7)
     ∙ (ap (λ q. passive_read s (Some h.4) (option_map (status_of h.1) q) h.3) (status_found h.2 h.5 h.8)
     ∙ ap (λ t. cond t (told h.4 (passive_event (status_of h.1 h.5) h.3)) (faulty fault.PassiveOff)) h.9))
 
-pub has_read : (s : PlainSite) (line : List ℕ) (a : Answer) → IsSound s → Has s line a → line_read s line ≡ a
-has_read s line (told k e) sound h =
+pub has_read : (s : PlainSite) (line : List ℕ) (a : Answer) → HasNames s → Has s line a → line_read s line ≡ a
+has_read s line (told k e) has h =
     result_line s line h.host h.service h.status h.output h.result
-    ∙ (ap (λ r. passive_read s r (option_map (status_of h.service) (status_in h.status)) h.output) (named_found s h.host h.service k sound h.named)
+    ∙ (ap (λ r. passive_read s r (option_map (status_of h.service) (status_in h.status)) h.output) (named_found s h.host h.service k has h.named)
     ∙ (ap (λ q. passive_read s (Some k) (option_map (status_of h.service) q) h.output) (status_found h.status h.n h.value)
     ∙ (ap (λ t. cond t (told k (passive_event (status_of h.service h.n) h.output)) (faulty fault.PassiveOff)) h.taken
     ∙ ap (told k) (sym h.event))))
-has_read s line later sound h = command_line s line (command_name h.0) h.1 h.3 ∙ later_line s h.0 h.1 h.2
-has_read s line (faulty f) sound h = fault_read s line f sound h
+has_read s line later has h = command_line s line (command_name h.0) h.1 h.3 ∙ later_line s h.0 h.1 h.2
+has_read s line (faulty f) has h = fault_read s line f has h
 
 -- And what is read is what the line has.
 abbrev Judged : PlainSite → List ℕ → Type 0
@@ -187,10 +187,10 @@ Judged s line = Has s line (line_read s line)
 judged_as : (s : PlainSite) (line : List ℕ) (a : Answer) → line_read s line ≡ a → Has s line a → Judged s line
 judged_as s line a e h = subst (Has s line) (sym e) h
 
-judged_status : (s : PlainSite) (line host : List ℕ) (service : Option (List ℕ)) (status output : List ℕ) (k : ℕ) → IsSound s → IsResult line host service status output → IsNamed s host service k
+judged_status : (s : PlainSite) (line host : List ℕ) (service : Option (List ℕ)) (status output : List ℕ) (k : ℕ) → HasNames s → IsResult line host service status output → IsNamed s host service k
     → (q : Option ℕ) → status_in status ≡ q → Has s line (passive_read s (Some k) (option_map (status_of service) q) output)
-judged_status s line host service status output k sound h named None e = (host, service, status, output, k, h, named, status_lacks status e)
-judged_status s line host service status output k sound h named (Some n) e = by (takes_passive (slice_get s.checkables k)) refl
+judged_status s line host service status output k has h named None e = (host, service, status, output, k, h, named, status_lacks status e)
+judged_status s line host service status output k has h named (Some n) e = by (takes_passive (slice_get s.checkables k)) refl
   where
     by : (t : Bool) → takes_passive (slice_get s.checkables k) ≡ t → Has s line (cond (takes_passive (slice_get s.checkables k)) (told k (passive_event (status_of service n) output)) (faulty fault.PassiveOff))
     by true on =
@@ -200,64 +200,64 @@ judged_status s line host service status output k sound h named (Some n) e = by 
         subst (λ t. Has s line (cond t (told k (passive_event (status_of service n) output)) (faulty fault.PassiveOff))) (sym off)
         (host, service, status, output, k, n, h, named, status_is status n e, off)
 
-judged_result : (s : PlainSite) (line host : List ℕ) (service : Option (List ℕ)) (status output : List ℕ) → IsSound s → IsResult line host service status output → Judged s line
-judged_result s line host service status output sound h = by (looked_up s host service) refl
+judged_result : (s : PlainSite) (line host : List ℕ) (service : Option (List ℕ)) (status output : List ℕ) → HasNames s → IsResult line host service status output → Judged s line
+judged_result s line host service status output has h = by (looked_up s host service) refl
   where
     by : (r : Option ℕ) → looked_up s host service ≡ r → Judged s line
     by None e =
         judged_as s line (faulty fault.UnknownCheckable)
         (result_line s line host service status output h ∙ ap (λ r. passive_read s r (option_map (status_of service) (status_in status)) output) e)
-        (host, service, status, output, h, named_lacks s host service sound e)
+        (host, service, status, output, h, named_lacks s host service has e)
     by (Some k) e =
         judged_as s line (passive_read s (Some k) (option_map (status_of service) (status_in status)) output)
         (result_line s line host service status output h ∙ ap (λ r. passive_read s r (option_map (status_of service) (status_in status)) output) e)
-        (judged_status s line host service status output k sound h (named_is s host service k sound e) (status_in status) refl)
+        (judged_status s line host service status output k has h (named_is s host service k has e) (status_in status) refl)
 
-judged_as_fields : (s : PlainSite) (line : List ℕ) (c : Command) (text : List ℕ) → IsSound s → is_result c ≡ true → IsCommand line (command_name c) (Some text) → (r : Fields) → Are c text r
+judged_as_fields : (s : PlainSite) (line : List ℕ) (c : Command) (text : List ℕ) → HasNames s → is_result c ≡ true → IsCommand line (command_name c) (Some text) → (r : Fields) → Are c text r
     → ((host : List ℕ) (service : Option (List ℕ)) (status output : List ℕ) → AreFields c text host service status output → r ≡ fields host service status output)
     → command_with s (Some c) text ≡ fields_read s r → Judged s line
-judged_as_fields s line c text sound result h (fields host service status output) are once e =
-    judged_result s line host service status output sound (record { command = c; fields = text; is = h; parts = are })
-judged_as_fields s line c text sound result h too_few are once e =
+judged_as_fields s line c text has result h (fields host service status output) are once e =
+    judged_result s line host service status output has (record { command = c; fields = text; is = h; parts = are })
+judged_as_fields s line c text has result h too_few are once e =
     judged_as s line (faulty fault.FieldCount) (command_line s line (command_name c) (Some text) h ∙ (ap (λ r. command_with s r text) (command_found c) ∙ e))
     (c, Some text, result, h, λ f. absurd (let is : too_few ≡ fields f.0 f.1 f.2 f.3 = once f.0 f.1 f.2 f.3 f.4 in cc))
 
-judged_with : (s : PlainSite) (line : List ℕ) (c : Command) (text : List ℕ) → IsSound s → IsCommand line (command_name c) (Some text) → Judged s line
-judged_with s line c text sound h = by c (kind_of c) h
+judged_with : (s : PlainSite) (line : List ℕ) (c : Command) (text : List ℕ) → HasNames s → IsCommand line (command_name c) (Some text) → Judged s line
+judged_with s line c text has h = by c (kind_of c) h
   where
     by : (c : Command) → Kind c → IsCommand line (command_name c) (Some text) → Judged s line
-    by c host_result h = judged_as_fields s line command.HostResult text sound refl h (host_fields text) (host_fields_are text) (host_fields_found text) refl
-    by c service_result h = judged_as_fields s line command.ServiceResult text sound refl h (service_fields text) (service_fields_are text) (service_fields_found text) refl
+    by c host_result h = judged_as_fields s line command.HostResult text has refl h (host_fields text) (host_fields_are text) (host_fields_found text) refl
+    by c service_result h = judged_as_fields s line command.ServiceResult text has refl h (service_fields text) (service_fields_are text) (service_fields_found text) refl
     by c (other miss is_later none) h =
         judged_as s line later (command_line s line (command_name c) (Some text) h ∙ later_line s c (Some text) miss) (c, Some text, miss, h)
 
-judged_alone : (s : PlainSite) (line : List ℕ) (c : Command) → IsSound s → IsCommand line (command_name c) None → Judged s line
-judged_alone s line c sound h = by (is_result c) refl
+judged_alone : (s : PlainSite) (line : List ℕ) (c : Command) → HasNames s → IsCommand line (command_name c) None → Judged s line
+judged_alone s line c has h = by (is_result c) refl
   where
     by : (t : Bool) → is_result c ≡ t → Judged s line
     by true e = judged_as s line (faulty fault.FieldCount) (command_line s line (command_name c) None h ∙ alone c e) (c, None, e, h, λ f. f)
     by false e = judged_as s line later (command_line s line (command_name c) None h ∙ later_alone c e) (c, None, e, h)
 
-judged_known : (s : PlainSite) (line : List ℕ) (c : Command) (fields : Option (List ℕ)) → IsSound s → IsCommand line (command_name c) fields → Judged s line
-judged_known s line c None sound h = judged_alone s line c sound h
-judged_known s line c (Some text) sound h = judged_with s line c text sound h
+judged_known : (s : PlainSite) (line : List ℕ) (c : Command) (fields : Option (List ℕ)) → HasNames s → IsCommand line (command_name c) fields → Judged s line
+judged_known s line c None has h = judged_alone s line c has h
+judged_known s line c (Some text) has h = judged_with s line c text has h
 
-judged_command : (s : PlainSite) (line name : List ℕ) (fields : Option (List ℕ)) → IsSound s → IsCommand line name fields → Judged s line
-judged_command s line name parts sound h = by (command_named name) refl
+judged_command : (s : PlainSite) (line name : List ℕ) (fields : Option (List ℕ)) → HasNames s → IsCommand line name fields → Judged s line
+judged_command s line name parts has h = by (command_named name) refl
   where
     by : (r : Option Command) → command_named name ≡ r → Judged s line
     by None e =
         judged_as s line (faulty fault.UnknownCommand) (command_line s line name parts h ∙ unknown_line s name parts e)
         (name, parts, h, command_lacks name e)
-    by (Some c) e = judged_known s line c parts sound (subst (λ n. IsCommand line n parts) (command_sound name c e) h)
+    by (Some c) e = judged_known s line c parts has (subst (λ n. IsCommand line n parts) (command_sound name c e) h)
 
-judged_text : (s : PlainSite) (line : List ℕ) → IsSound s → IsUtf8 line → Judged s line
-judged_text s line sound text = by (head_of s line)
+judged_text : (s : PlainSite) (line : List ℕ) → HasNames s → IsUtf8 line → Judged s line
+judged_text s line has text = by (head_of s line)
   where
     timely : (moment command : List ℕ) → IsHead line moment command → IsNumber 11 moment → Judged s line
     timely m command head h =
         let n : NameOf command = name_of command in
-        judged_command s line n.name n.fields sound (record { moment = m; command = command; text = text; head = head; in_time = h; has_name = n.is })
+        judged_command s line n.name n.fields has (record { moment = m; command = command; text = text; head = head; in_time = h; has_name = n.is })
 
     late : (moment command : List ℕ) → IsHead line moment command → text_read s line ≡ head_read s (cut moment command) → (IsNumber 11 moment → ⊥) → Judged s line
     late m command head f h = judged_as s line (faulty fault.BadMoment) (text_line s line text ∙ (f ∙ untimed s m command h)) (text, m, command, head, h)
@@ -270,14 +270,14 @@ judged_text s line sound text = by (head_of s line)
     by (headless none f) = judged_as s line (faulty fault.NoBracket) (text_line s line text ∙ f) (text, none)
     by (headed m command head f) = moment_of m command head f (is_number 11 m) refl
 
-pub judged : (s : PlainSite) (line : List ℕ) → IsSound s → Judged s line
-judged s line sound = by (is_utf8 line) refl
+pub judged : (s : PlainSite) (line : List ℕ) → HasNames s → Judged s line
+judged s line has = by (is_utf8 line) refl
   where
     no_text : is_utf8 line ≡ false → IsUtf8 line → ⊥
     no_text e h = let hit : is_utf8 line ≡ true = is_utf8-from_IsUtf8 line h in cc
 
     by : (t : Bool) → is_utf8 line ≡ t → Judged s line
-    by true e = judged_text s line sound (IsUtf8-from_is_utf8 line e)
+    by true e = judged_text s line has (IsUtf8-from_is_utf8 line e)
     by false e = judged_as s line (faulty fault.NotText) (other_line s line (no_text e)) (no_text e)
 
 -- what a call gave

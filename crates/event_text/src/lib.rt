@@ -12,8 +12,6 @@ mod naming;
 mod numbers;
 mod reading;
 mod results;
-#[cfg(test)]
-mod tests;
 
 pub use command::Command;
 pub use line_error::LineError;

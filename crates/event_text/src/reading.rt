@@ -1,7 +1,7 @@
 // Reading command lines.
 ghost use Rattle.std.specs.Prelude.{◌≡◌};
 ghost use Rattle.site_model.specs.PlainSite.{site_view};
-ghost use Rattle.site_model.specs.Sound.{IsSound};
+ghost use Rattle.site_model.specs.Sound.{HasNames};
 ghost use Rattle.event_text.specs.Lines.{Answer, Has};
 ghost use Rattle.event_text.specs.Reading.{Gives, IsError, Tells, line_read, text_read, command_read, named_read, bare_read};
 
@@ -35,8 +35,8 @@ const MOMENT_DIGITS: usize = 11;
 /// name, and `OutOfMemory` where there is no memory for the event.
 pub fn read_line(alloc: Global, bytes: &[u8], site: &Site) -> Result<(u32, Event), LineError>
     ensures value { Gives result (line_read (site_view site.now) bytes.now) }
-    ensures told { IsSound (site_view site.now) → Tells (Has (site_view site.now) bytes.now) result }
-    ensures only { IsSound (site_view site.now) → (a : Answer) → Has (site_view site.now) bytes.now a → Gives result a }
+    ensures told { HasNames (site_view site.now) → Tells (Has (site_view site.now) bytes.now) result }
+    ensures only { HasNames (site_view site.now) → (a : Answer) → Has (site_view site.now) bytes.now a → Gives result a }
 {
     read_bytes(alloc, bytes, site)
 }

@@ -3,8 +3,6 @@
 
 mod plugin_result;
 mod reading;
-#[cfg(test)]
-mod tests;
 mod trimming;
 
 pub use plugin_result::PluginResult;

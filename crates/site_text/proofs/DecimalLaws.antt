@@ -13,7 +13,7 @@ use Rattle.std.specs.Result.{result_ok, OkIff}
 use Rattle.std.specs.Str.Parse.{AllDigits, digits_value, ParsesUnsigned}
 use Rattle.site_text.specs.ScriptReading.{Read, got, bad, byte_at, is_decimal, decimal_of, decimal_at, ended_by, number_end, number_at}
 
-own : IsNumeralModel (AllDigits 10) (digits_value 10)
+pub own : IsNumeralModel (AllDigits 10) (digits_value 10)
 own = numerals_by_value (AllDigits 10) tells_digits
 
 digit_is : (b : ℕ) → is_ascii_digit b ≡ true → digit_value b < 10
@@ -47,12 +47,12 @@ decimal_few most [] e = cc
 decimal_few most (d ∷ []) e = grind (arith, nat_tests)
 decimal_few most (d ∷ e ∷ ds) h = let g = (both (not (d == 48)) (nat_le (length (d ∷ e ∷ ds)) most) h).1 in grind (arith, nat_tests, g)
 
-decimal_first : (most : ℕ) (ds : List ℕ) → is_decimal most ds ≡ true → get_or ds 0 0 ≡ 48 → length ds ≡ 1
+pub decimal_first : (most : ℕ) (ds : List ℕ) → is_decimal most ds ≡ true → get_or ds 0 0 ≡ 48 → length ds ≡ 1
 decimal_first most [] e h = cc
 decimal_first most (d ∷ []) e h = refl
 decimal_first most (d ∷ e ∷ ds) t h = let g = (both (not (d == 48)) (nat_le (length (d ∷ e ∷ ds)) most) t).0 in absurd (grind (arith, nat_tests, g))
 
-decimal_test : (most : ℕ) (ds : List ℕ) → 0 < length ds → length ds ≤ most → (get_or ds 0 0 ≡ 48 → length ds ≡ 1) → is_decimal most ds ≡ true
+pub decimal_test : (most : ℕ) (ds : List ℕ) → 0 < length ds → length ds ≤ most → (get_or ds 0 0 ≡ 48 → length ds ≡ 1) → is_decimal most ds ≡ true
 decimal_test most [] some few first = absurd (omega arith)
 decimal_test most (d ∷ []) some few first = grind (arith, nat_tests)
 decimal_test most (d ∷ e ∷ ds) some few first = by (d == 48) refl
@@ -113,12 +113,12 @@ prefix_stop : (rest : List ℕ) → IsStop rest → prefix_len is_ascii_digit re
 prefix_stop [] h = refl
 prefix_stop (b ∷ bs) h = ap (λ t. cond t (1 + prefix_len is_ascii_digit bs) 0) h
 
-prefix_digits : (ds rest : List ℕ) → AllDigits 10 ds → IsStop rest → prefix_len is_ascii_digit (ds ++ rest) ≡ length ds
+pub prefix_digits : (ds rest : List ℕ) → AllDigits 10 ds → IsStop rest → prefix_len is_ascii_digit (ds ++ rest) ≡ length ds
 prefix_digits [] rest h s = prefix_stop rest s
 prefix_digits (d ∷ ds) rest h s =
     ap (λ t. cond t (1 + prefix_len is_ascii_digit (ds ++ rest)) 0) (is_digit d h.0) ∙ omega (arith, prefix_digits ds rest h.1 s)
 
-one_digit : (n : ℕ) → n < 2 ^ 64 → get_or (decimal n) 0 0 ≡ 48 → length (decimal n) ≡ 1
+pub one_digit : (n : ℕ) → n < 2 ^ 64 → get_or (decimal n) 0 0 ≡ 48 → length (decimal n) ≡ 1
 one_digit zero small h = ap length (decimal_digit 0 (omega arith))
 one_digit (suc n) small h = absurd (let first : 48 < get_or (decimal (suc n)) 0 0 = first_decimal (suc n) (omega arith) small in omega arith)
 

@@ -5,3 +5,5 @@ pub mod Parts
 pub mod ScriptLaws
 pub mod ScriptLineLaws
 pub mod UnitLaws
+pub mod Walks
+pub mod WholeLaws

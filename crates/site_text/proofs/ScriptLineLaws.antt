@@ -151,7 +151,7 @@ report_complete r rest h =
     ∙ ap (report_of r.order r.status) (quoted_line_complete rest r.output)))
 
 -- lines
-begins_is : (word bs : List ℕ) → begins word bs ≡ true → bs ≡ word ++ drop (length word) bs
+pub begins_is : (word bs : List ℕ) → begins word bs ≡ true → bs ≡ word ++ drop (length word) bs
 begins_is word bs e =
     sym (take-append-drop (length word) bs) ∙ ap (λ w. w ++ drop (length word) bs) ((bytes_eq-Decides (take (length word) bs) word).0 e)
 

@@ -90,6 +90,7 @@ outcome_text s outcome.Disabled = codes "Disabled"
 outcome_text s (outcome.Dependency depend) = codes "Dependency " ++ name_text (depend_names s) depend
 outcome_text s (outcome.Host checkable) = codes "Host " ++ name_text (full_names s) checkable
 outcome_text s (outcome.Downtime number) = codes "Downtime " ++ decimal number
+outcome_text s outcome.Flapping = codes "Flapping"
 outcome_text s outcome.Acknowledged = codes "Acknowledged"
 outcome_text s outcome.Period = codes "Period"
 outcome_text s outcome.Kind = codes "Type"

@@ -4,8 +4,34 @@ ghost use Rattle.std.specs.Char.{is_ascii_digit};
 ghost use Rattle.std.specs.List.{prefix_len};
 ghost use Rattle.std.specs.Str.Parse.{AllDigits, digits_value};
 ghost use Rattle.site_text.specs.ScriptReading.{got, bad, decimal_at, number_at, is_decimal as decimal_test};
+ghost use Rattle.site_text.specs.Wholes.{whole_at, whole_value as value_of};
 
 use crate::unquoting::behind_byte;
+
+/// A number of 64 bits has at most so many digits.
+const MOST_DIGITS: usize = 20;
+
+/// The number of 64 bits at the front of some bytes, written in decimal digits without a leading zero,
+/// and what stands behind it; `None` where no digit stands there, or the digits are of no such number.
+#[tactic(auto, unfolding(crate::specs::Wholes::whole_at))]
+pub fn read_whole(bytes: &[u8]) -> Option<(u64, &[u8])>
+    ensures { MatchOption result (whole_at bytes.now ≡ bad) (λ x. whole_at bytes.now ≡ got x.0 x.1.now) }
+{
+    let (digits, rest) = bytes.split_at(digits_len(bytes));
+    let number = whole_value(digits)?;
+    Some((number, rest))
+}
+
+/// The number of 64 bits that these digits are the decimal of.
+fn whole_value(digits: &[u8]) -> Option<u64>
+    requires { AllDigits 10 digits.now }
+    ensures { result ≡ value_of digits.now }
+{
+    if !is_decimal(digits, MOST_DIGITS) {
+        return None;
+    }
+    digits_text(digits).parse().ok()
+}
 
 /// The number at the front of some bytes and the byte behind it, and what stands behind that.
 #[tactic(auto, unfolding(crate::specs::ScriptReading::number_at))]

@@ -52,7 +52,8 @@ fn push_decision(out: &mut Text, decision: &Decision, site: &Site) -> Result<(),
     push_outcome(out, &decision.outcome, site)
 }
 
-fn kind_name(kind: NoteKind) -> &'static str
+/// The name of a kind of notification.
+pub fn kind_name(kind: NoteKind) -> &'static str
     ensures { result.now ≡ note_text kind }
 {
     match kind {
@@ -90,6 +91,7 @@ fn push_outcome(out: &mut Text, outcome: &Outcome, site: &Site) -> Result<(), Ou
             out.push_str("Downtime ")?;
             out.push_decimal(*number)
         }
+        Outcome::Flapping => out.push_str("Flapping"),
         Outcome::Acknowledged => out.push_str("Acknowledged"),
         Outcome::Period => out.push_str("Period"),
         Outcome::Kind => out.push_str("Type"),

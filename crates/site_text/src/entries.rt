@@ -23,11 +23,24 @@ pub fn print_entry(
     ensures { IfOk result (λ t. t ≡ entry_line (site_view site.now) checkable entry.now) }
 {
     let mut out = Text::new(alloc);
-    push_start(&mut out, entry, checkable, site)?;
-    push_effect(&mut out, entry)?;
-    push_lists(&mut out, entry, site)?;
+    push_entry(&mut out, entry, checkable, site)?;
     out.push('\n')?;
     Ok(out)
+}
+
+/// Adds the line of an entry without its newline, as [`print_entry`] prints it.
+pub fn push_entry(
+    out: &mut Text,
+    entry: &Entry,
+    checkable: u32,
+    site: &Site,
+) -> Result<(), OutOfMemory>
+    requires { IsPrintable (site_view site.now) checkable entry.now }
+    ensures { OnOk result (out.new ≡ out.old ++ (start_text (site_view site.now) checkable entry.now ++ (effect_text entry.now ++ lists_text (site_view site.now) entry.now))) }
+{
+    push_start(out, entry, checkable, site)?;
+    push_effect(out, entry)?;
+    push_lists(out, entry, site)
 }
 
 /// Adds the checkable's name, and which entry of its history this is.
@@ -91,7 +104,8 @@ fn push_status(out: &mut Text, state: State, hard: bool, attempt: u32) -> Result
     out.push_decimal(u64::from(attempt))
 }
 
-fn state_name(state: State) -> &'static str
+/// The name of a state.
+pub fn state_name(state: State) -> &'static str
     ensures { result.now ≡ state_text state }
 {
     match state {

@@ -13,12 +13,15 @@ mod script_line;
 mod script_lines;
 mod scripts;
 mod site_names;
-#[cfg(test)]
-mod tests;
 mod unquoting;
+mod walk;
 
+pub use decimals::read_whole;
+pub use decisions::kind_name;
 pub use diags::print_diag;
-pub use entries::print_entry;
+pub use entries::{print_entry, push_entry, state_name};
 pub use objects::print_object;
 pub use script_error::ScriptError;
 pub use scripts::read_script;
+pub use site_names::push_checkable;
+pub use unquoting::read_quoted;

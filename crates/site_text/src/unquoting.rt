@@ -7,7 +7,7 @@ use std::alloc::Global;
 
 /// The text that the quoted string at the front of some bytes spells, and what stands behind it.
 #[tactic(auto, unfolding(crate::specs::ScriptReading::quoted_at))]
-pub(crate) fn read_quoted(alloc: Global, bytes: &[u8]) -> Result<Option<(Blob, &[u8])>, OutOfMemory>
+pub fn read_quoted(alloc: Global, bytes: &[u8]) -> Result<Option<(Blob, &[u8])>, OutOfMemory>
     ensures value { IfOk result (λ r. MatchOption r (quoted_at bytes.now ≡ bad) (λ x. quoted_at bytes.now ≡ got x.0 x.1.now)) }
     ensures shorter { IfOk result (λ r. IfSome r (λ x. length x.1.now ≤ length bytes.now)) }
 {

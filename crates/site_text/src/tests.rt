@@ -1,6 +1,0 @@
-// Tests.
-mod entries;
-mod events;
-mod printable;
-mod scripts;
-mod site;
