@@ -1,0 +1,23 @@
+-- How a run ends.
+use Rattle.std.specs.Prelude.{ℕ, ◌≡◌, Bool, true, false, List, Option, Some, None}
+use Rattle.std.specs.List.{concat}
+use Rattle.site_edge.specs.Lists.{Adds, AddsPart}
+use Rattle.site_program.specs.declared.status.Status.{Status}
+use Rattle.site_program.specs.declared.status.Status.TheVariants.{Done, Diagnosed, Usage, ReadFault, WriteFault, WorldFault, OutOfMemory}
+use Rattle.site_program.specs.Replies.{PlainReply}
+use Rattle.site_program.specs.Tasks.{Task}
+use Rattle.site_program.specs.TaskAnswers.{Answers}
+
+-- what was written, by the status: all of the reply, or after a fault a prefix; a refused read leaves nothing written
+abbrev pub Ends : Status → PlainReply → Option (List ℕ) → Option (List ℕ) → Type 0
+Ends Done reply old new = (reply.diagnosed ≡ false) × Adds (concat reply.lines) old new
+Ends Diagnosed reply old new = (reply.diagnosed ≡ true) × Adds (concat reply.lines) old new
+Ends Usage reply old new = ⊥
+Ends ReadFault reply old new = new ≡ old
+Ends WriteFault reply old new = AddsPart (concat reply.lines) old new
+Ends WorldFault reply old new = ⊥
+Ends OutOfMemory reply old new = AddsPart (concat reply.lines) old new
+
+-- a run for a task ended so: what was written is, as far as it was written, what answers to the task over the files
+abbrev pub EndsRun : Status → Task → Option (List (List ℕ × List ℕ)) → Option (List ℕ) → Option (List ℕ) → Type 0
+EndsRun status task told old new = (reply : PlainReply) × Answers task told reply × Ends status reply old new

@@ -1,0 +1,5 @@
+pub mod LogFaults
+pub mod LogText
+pub mod ReadTurns
+pub mod Replay
+pub mod Standings
