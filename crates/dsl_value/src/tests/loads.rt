@@ -17,7 +17,7 @@ fn a_tree_is_given_back(rt: HostRuntime) -> Result<(), Fail> {
     store.array(Row::new(alloc))?;
     let value = store.load_tree(&Tree::Dict(pairs))?;
     let tree = store.tree_of(&value).ok();
-    let Some(Tree::Dict(again)) = tree else {
+    let Some(Tree::Dict(again)) = &tree else {
         assert!(rt; false);
         return Ok(());
     };
