@@ -1,10 +1,10 @@
 // What a row asks for.
 use crate::deep::copied_levels;
 use crate::lists::{push_blob, push_copied, push_lists_order, push_periods};
-use crate::marks::unmarked;
 use crate::numbers::{
     item_of, push_calculated, push_later, push_moment, push_seconds, push_whole, push_written,
 };
+use case_rows::unmarked;
 use site_base::{Num, OutOfMemory, Text, push_quoted, quote};
 use std::alloc::Global;
 use std::cmp::Ordering;

@@ -7,9 +7,9 @@
 mod answers;
 mod deep;
 mod lists;
-mod marks;
 mod numbers;
 
+use case_rows::{ANSWER, row_of};
 use site_base::{OutOfMemory, Text};
 use std::alloc::Global;
 use std::io::{BufRead, BufReader};
@@ -34,14 +34,9 @@ fn main(rt: HostRuntime) -> anyhow::Result<()> {
 /// The line, with the answer behind it if it is a row.
 fn told(alloc: Global, line: &str) -> Result<Text, OutOfMemory> {
     let mut out = Text::copy_of(alloc, line)?;
-    if line.is_empty() || line.starts_with('#') {
-        return Ok(out);
+    if let Some((word, text)) = row_of(line) {
+        out.push_str(ANSWER)?;
+        answers::push_answer(alloc, &mut out, word, text)?;
     }
-    out.push_str("  →  ")?;
-    let (word, text) = match line.split_once(' ') {
-        Some((word, text)) => (word, text.trim_start()),
-        None => (line, ""),
-    };
-    answers::push_answer(alloc, &mut out, word, text)?;
     Ok(out)
 }

@@ -8,6 +8,7 @@ mod described;
 mod shown;
 mod stepping;
 
+use case_rows::{ANSWER, is_row};
 use check_state::Status;
 use described::described;
 use shown::push_view;
@@ -27,10 +28,10 @@ fn main(rt: HostRuntime) -> anyhow::Result<()> {
 /// The line, with the answer behind it if it is a row.
 fn told(alloc: Global, line: &str) -> Result<Text, OutOfMemory> {
     let mut out = Text::copy_of(alloc, line)?;
-    if line.is_empty() || line.starts_with('#') {
+    if !is_row(line) {
         return Ok(out);
     }
-    out.push_str("  →  ")?;
+    out.push_str(ANSWER)?;
     let (kind, events) = match line.split_once(':') {
         Some((kind, events)) => (kind, events),
         None => (line, ""),

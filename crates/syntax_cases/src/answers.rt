@@ -2,7 +2,7 @@
 ghost use Rattle.std.specs.Prelude.{IfOk, IfSome};
 ghost use Rattle.dsl_lexer.specs.Lists.{IsWhole};
 
-use crate::marks::push_marked;
+use case_rows::push_marked;
 use dsl_depth::too_deep;
 use dsl_lexer::{LexError, Token, TokenKind, lex};
 use dsl_parser::{ParseError, parse};

@@ -12,6 +12,7 @@ mod scripts;
 mod site;
 
 use crate::marks::bytes_of;
+use case_rows::{ANSWER, is_row};
 use site_base::{OutOfMemory, Text};
 use site_model::Site;
 use std::alloc::Global;
@@ -29,10 +30,10 @@ fn main(rt: HostRuntime) -> anyhow::Result<()> {
 /// The line, with the answer behind it if it is a row.
 fn told(alloc: Global, line: &str, site: &Site) -> Result<Text, OutOfMemory> {
     let mut out = Text::copy_of(alloc, line)?;
-    if line.is_empty() || line.starts_with('#') {
+    if !is_row(line) {
         return Ok(out);
     }
-    out.push_str("  →  ")?;
+    out.push_str(ANSWER)?;
     let (word, text) = line.split_once(' ').unwrap_or((line, ""));
     let bytes = bytes_of(alloc, text)?;
     match word {

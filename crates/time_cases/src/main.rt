@@ -7,12 +7,12 @@
 #![tactic(auto)]
 
 mod books;
-mod marks;
 mod periods;
 mod ranges;
 mod zone_files;
 mod zones;
 
+use case_rows::{ANSWER, row_of};
 use site_base::{OutOfMemory, Text};
 use std::alloc::Global;
 use std::io::{BufRead, BufReader};
@@ -28,14 +28,10 @@ fn main(rt: HostRuntime) -> anyhow::Result<()> {
 /// The line, with the answer behind it if it is a row.
 fn told(alloc: Global, line: &str) -> Result<Text, OutOfMemory> {
     let mut out = Text::copy_of(alloc, line)?;
-    if line.is_empty() || line.starts_with('#') {
+    let Some((word, row)) = row_of(line) else {
         return Ok(out);
-    }
-    out.push_str("  →  ")?;
-    let (word, row) = match line.split_once(' ') {
-        Some((word, row)) => (word, row.trim_start()),
-        None => (line, ""),
     };
+    out.push_str(ANSWER)?;
     match word {
         "read" => ranges::push_read(alloc, &mut out, row)?,
         "file" => zones::push_file(alloc, &mut out, row)?,

@@ -3,7 +3,7 @@ ghost use Rattle.std.specs.Prelude.{IfOk};
 ghost use Rattle.site_base.specs.View.{view};
 ghost use Rattle.time_range.specs.Ranges.{CanRead};
 
-use crate::marks::unmarked;
+use case_rows::unmarked;
 use site_base::{Day, DaySpan, Num, OutOfMemory, Ranges, Text, Tree, push_quoted};
 use std::alloc::Global;
 use time_range::{RangeFault, read_ranges};

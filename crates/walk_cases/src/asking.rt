@@ -5,12 +5,14 @@ use site_base::{OutOfMemory, Text};
 use site_conf::{LoadFault, walk};
 use std::alloc::Global;
 
-/// Adds the answer to a row, whose parts stand between `‖`.
-pub(crate) fn push_answer(alloc: Global, out: &mut Text, row: &str) -> Result<(), OutOfMemory> {
-    let (head, parts) = row.split_once(" ‖ ").unwrap_or((row, ""));
-    let Some((word, root)) = head.split_once(' ') else {
-        return out.push_str("no such row");
-    };
+/// Adds the answer to a row: a word, and a root with the files behind it, each behind a `‖`.
+pub(crate) fn push_answer(
+    alloc: Global,
+    out: &mut Text,
+    word: &str,
+    row: &str,
+) -> Result<(), OutOfMemory> {
+    let (root, parts) = row.split_once(" ‖ ").unwrap_or((row, ""));
     let mut files = files_of(alloc, parts)?;
     match walk(alloc, &mut files, root) {
         Ok(answer) => match word {

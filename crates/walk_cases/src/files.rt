@@ -1,5 +1,5 @@
 // The files of a row.
-use case_marks::{bytes_of, push_unmarked};
+use case_rows::{bytes_of, unmarked};
 use site_base::{Blob, OutOfMemory, Row, Text};
 use site_edge::MemFiles;
 use std::alloc::Global;
@@ -29,7 +29,5 @@ fn failing_call(part: &str) -> Option<u64> {
 }
 
 fn content(alloc: Global, text: &str) -> Result<Blob, OutOfMemory> {
-    let mut unmarked = Text::new(alloc);
-    push_unmarked(&mut unmarked, text)?;
-    Blob::copy_of(alloc, unmarked.as_bytes())
+    Blob::copy_of(alloc, unmarked(alloc, text)?.as_bytes())
 }

@@ -8,6 +8,7 @@ mod asking;
 mod files;
 mod shown;
 
+use case_rows::{ANSWER, row_of};
 use site_base::{OutOfMemory, Text};
 use std::alloc::Global;
 use std::io::{BufRead, BufReader};
@@ -23,10 +24,9 @@ fn main(rt: HostRuntime) -> anyhow::Result<()> {
 /// The line, with the answer behind it if it is a row.
 fn told(alloc: Global, line: &str) -> Result<Text, OutOfMemory> {
     let mut out = Text::copy_of(alloc, line)?;
-    if line.is_empty() || line.starts_with('#') {
-        return Ok(out);
+    if let Some((word, files)) = row_of(line) {
+        out.push_str(ANSWER)?;
+        asking::push_answer(alloc, &mut out, word, files)?;
     }
-    out.push_str("  →  ")?;
-    asking::push_answer(alloc, &mut out, line)?;
     Ok(out)
 }
