@@ -1,0 +1,5 @@
+pub mod Checks
+pub mod Lawful
+pub mod Names
+pub mod Schema
+pub mod Values
