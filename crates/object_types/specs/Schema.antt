@@ -38,11 +38,11 @@ checkable_schema groups =
     ∷ row attribute.EnablePassiveChecks kind.Bool (unset.Bool true)
     ∷ row attribute.EnableNotifications kind.Bool (unset.Bool true)
     ∷ row attribute.EnableEventHandler kind.Bool unset.Nothing
-    ∷ row attribute.EnableFlapping kind.Bool unset.Nothing
+    ∷ row attribute.EnableFlapping kind.Bool (unset.Bool false)
     ∷ row attribute.EnablePerfdata kind.Bool unset.Nothing
     ∷ row attribute.EventCommand (kind.Name object.EventCommand) unset.Nothing
-    ∷ row attribute.FlappingThresholdLow kind.Seconds unset.Nothing
-    ∷ row attribute.FlappingThresholdHigh kind.Seconds unset.Nothing
+    ∷ row attribute.FlappingThresholdLow kind.Seconds (unset.Number 25)
+    ∷ row attribute.FlappingThresholdHigh kind.Seconds (unset.Number 30)
     ∷ row attribute.Volatile kind.Bool (unset.Bool false)
     ∷ row attribute.CommandEndpoint kind.Text unset.Nothing
     ∷ row attribute.Notes kind.Text unset.Nothing

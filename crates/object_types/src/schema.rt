@@ -32,11 +32,11 @@ macro_rules! checkable_rows {
             EnablePassiveChecks: Bool, Bool(true);
             EnableNotifications: Bool, Bool(true);
             EnableEventHandler: Bool, Nothing;
-            EnableFlapping: Bool, Nothing;
+            EnableFlapping: Bool, Bool(false);
             EnablePerfdata: Bool, Nothing;
             EventCommand: Name(ObjectType::EventCommand), Nothing;
-            FlappingThresholdLow: Seconds, Nothing;
-            FlappingThresholdHigh: Seconds, Nothing;
+            FlappingThresholdLow: Seconds, Number(25);
+            FlappingThresholdHigh: Seconds, Number(30);
             Volatile: Bool, Bool(false);
             CommandEndpoint: Text, Nothing;
             Notes: Text, Nothing;
