@@ -1,0 +1,5 @@
+pub mod Lists
+pub mod Telling
+pub mod Noting
+pub mod Standing
+pub mod Decided
