@@ -2,4 +2,5 @@ pub mod Lists
 pub mod LookBack
 pub mod NamingLemmas
 pub mod Order
+pub mod Together
 pub mod Steps

@@ -1,13 +1,15 @@
 -- Which downtime is named: along a permutation, past what isn't in effect, and in the rule's own words.
-use Rattle.std.proofs.Common.{◌≡◌, ℕ, suc, ◌<◌, ◌≤◌, ◌⊎◌, inl, inr, Bool, true, false, ◌&&◌, cond, Option, Some, None, MatchOption, List, [], ◌∷◌, map, filter, IsPermutation, refl, sym, ap, ap₂, ◌∙◌, subst, arith}
-use Rattle.std.specs.List.{All, Any, fold, reduce}
+use Rattle.std.proofs.Common.{◌≡◌, ℕ, suc, ◌<◌, ◌≤◌, ◌⊎◌, inl, inr, Bool, true, false, ◌&&◌, cond, Option, Some, None, MatchOption, List, [], ◌∷◌, ◌++◌, map, filter, IsPermutation, refl, sym, ap, ap₂, ◌∙◌, subst, arith}
+use Rattle.std.specs.List.{All, Any, cons_option, filter_map, fold, reduce}
 use Rattle.std.specs.Option.{IsSomeAnd}
 use Rattle.std.proofs.lemmas.Bool.{true≢false}
 use Rattle.std.proofs.lemmas.Bool.Decides.{nat_tests}
-use Rattle.std.proofs.lemmas.List.Elements.{All-nil, All-cons, All-weaker}
+use Rattle.std.proofs.lemmas.List.Elements.{All-nil, All-cons, All-weaker, filter-append}
+use Rattle.std.proofs.lemmas.List.{map-append}
 use Rattle.downtime_book.specs.declared.downtime.Downtime.{Downtime}
 use Rattle.downtime_book.specs.declared.rank.Rank.{Rank}
 use Rattle.downtime_book.specs.Downtime.{is_in_effect, is_triggered_by, triggered_at, after_result}
+use Rattle.downtime_book.specs.Contents.{together}
 use Rattle.downtime_book.specs.Naming.{rank_of, goes_first, lesser, least, number_of, named, Precedes, Names}
 use Rattle.downtime_book.proofs.Lists.{along_permutation}
 
@@ -153,6 +155,51 @@ module _ (pick : Rank → Rank → Rank) (picks : (a b : Rank) → pick a b ≡ 
         | true ↦ ap (λ (z : Rank). Some z) (fold-kept (rank_of x) xs ∙ ap (λ (z : Rank). lesser z o) (sym (rank_of-after_result m p x)))
         | false ↦ reduce-kept xs
       ]
+
+-- ---- the least rank of two lists, and of many
+-- the lesser of two ranks, where there are such
+abbrev lesser_of : Option Rank → Option Rank → Option Rank
+lesser_of None o = o
+lesser_of (Some r) o = Some (lesser r o)
+
+lesser_of_both : (r : Rank) (o q : Option Rank) → lesser r (lesser_of o q) ≡ lesser (lesser r o) q
+lesser_of_both r None q = refl
+lesser_of_both r (Some s) q = sym (lesser_group r s q)
+
+least-append : (m : ℕ) (xs ys : List Downtime) → least m (xs ++ ys) ≡ lesser_of (least m xs) (least m ys)
+least-append m [] ys = refl
+least-append m (x ∷ xs) ys =
+    let r = rank_of x in
+    let o = least m xs in
+    let q = least m ys in
+    ap (λ (z : Option Rank). cond (is_in_effect m x) (Some (lesser r z)) z) (least-append m xs ys) ∙ elim (is_in_effect m x) as (λ b. cond b (Some (lesser r (lesser_of o q))) (lesser_of o q) ≡ lesser_of (cond b (Some (lesser r o)) o) q)
+    [ true ↦ ap (λ (z : Rank). Some z) (lesser_of_both r o q) | false ↦ refl ]
+
+module _ (pick : Rank → Rank → Rank) (picks : (a b : Rank) → pick a b ≡ lesser a (Some b)) (m : ℕ) (f : Downtime → Downtime) (q : Downtime → Bool) where
+  abbrev of_run : List Downtime → Option Rank
+  of_run run = least m (map f (filter q run))
+
+  of_runs : (run : List Downtime) (runs : List (List Downtime)) → of_run (together (run ∷ runs)) ≡ lesser_of (of_run run) (of_run (together runs))
+  of_runs run runs =
+      ap (λ (l : List Downtime). least m (map f l)) (filter-append q run (together runs)) ∙ ap (least m) (map-append f (filter q run) (filter q (together runs))) ∙ least-append m (map f (filter q run)) (map f (filter q (together runs)))
+
+  fold-found : (r : Rank) (runs : List (List Downtime)) → fold pick r (filter_map of_run runs) ≡ lesser r (of_run (together runs))
+  fold-found r [] = refl
+  fold-found r (run ∷ runs) = by (of_run run) (λ z. fold-found z runs) ∙ ap (lesser r) (sym (of_runs run runs))
+    where
+      by : (o : Option Rank) → ((z : Rank) → fold pick z (filter_map of_run runs) ≡ lesser z (of_run (together runs))) → fold pick r (cons_option o (filter_map of_run runs)) ≡ lesser r (lesser_of o (of_run (together runs)))
+      by None more = more r
+      by (Some s) more =
+          ap (λ (z : Rank). fold pick z (filter_map of_run runs)) (picks r s) ∙ more (lesser r (Some s)) ∙ lesser_group r s (of_run (together runs))
+
+  -- the first of the firsts of all lists is that of them together
+  pub reduce-found : (runs : List (List Downtime)) → reduce pick (filter_map of_run runs) ≡ of_run (together runs)
+  reduce-found [] = refl
+  reduce-found (run ∷ runs) = by (of_run run) (reduce-found runs) ∙ sym (of_runs run runs)
+    where
+      by : (o : Option Rank) → reduce pick (filter_map of_run runs) ≡ of_run (together runs) → reduce pick (cons_option o (filter_map of_run runs)) ≡ lesser_of o (of_run (together runs))
+      by None more = more
+      by (Some s) more = ap (λ (z : Rank). Some z) (fold-found s runs)
 
 -- the number of the rank, if there is one
 pub number_given : (o : Option Rank) (r : Option ℕ) (post : Rank → ℕ → Type 0) → MatchOption o (r ≡ None) (λ x. IsSomeAnd r (post x)) → ((x : Rank) (n : ℕ) → post x n → n ≡ x.number) → r ≡ number_of o

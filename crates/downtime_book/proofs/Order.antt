@@ -54,6 +54,15 @@ pub on_err : {A E F : Type 0} (r : Result A E) (o : Option A) (s : Result A F) (
 on_err (Ok x) o s e P Q is made p f = rw (made, is) tt
 on_err (Err x) o s e P Q is made p f = rw (made, is) (f p)
 
+-- what one answer has brings what another has
+pub on_answer : {A E : Type 0} (r : Result A E) (P Q : Type 0) → OnOk r P → (P → Q) → OnOk r Q
+on_answer (Ok x) P Q p f = f p
+on_answer (Err x) P Q p f = tt
+
+pub on_refusal : {A E : Type 0} (r : Result A E) (P Q : Type 0) → OnErr r P → (P → Q) → OnErr r Q
+on_refusal (Ok x) P Q p f = tt
+on_refusal (Err x) P Q p f = f p
+
 -- a downtime of this kind
 abbrev pub with_kind : ℕ → ℕ → ℕ → Kind → Downtime
 with_kind n s e k = record { number = n; start = s; «end» = e; kind = k }

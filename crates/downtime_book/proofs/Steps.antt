@@ -93,16 +93,15 @@ after_result-ok m d = refl
 pub map-after_ok : (m : ℕ) (ds : List Downtime) → map (after_result m false) ds ≡ ds
 map-after_ok m ds = map_same (after_result m false) (after_result-ok m) ds
 
-pub StandsFor-resulted : (book : Contents) (h : List Call) (m : ℕ) (p : Bool) (met kept : List Downtime) → StandsFor book h → book.latest ≤ m → IsPermutation (map (after_result m p) book.downtimes) met → kept ≡ filter (is_live m) met → StandsFor (contents m kept) (h ++ resulted m p ∷ [])
-StandsFor-resulted book h m p met kept s l met_is e =
+pub StandsFor-resulted : (book : Contents) (h : List Call) (m : ℕ) (p : Bool) (kept : List Downtime) → StandsFor book h → book.latest ≤ m → IsPermutation (filter (is_live m) (map (after_result m p) book.downtimes)) kept → StandsFor (contents m kept) (h ++ resulted m p ∷ [])
+StandsFor-resulted book h m p kept s l kept_is =
     let u : latest h ≤ m = omega (arith, s.latest) in
     let f = after_result m p in
     let past : (d : Downtime) → is_live (latest h) d ≡ false → is_live m (f d) ≡ false = λ d g. past-after_result m p d (is_live-later (latest h) m d u g) in
     let same : filter (is_live m) (downtimes (h ++ resulted m p ∷ [])) ≡ filter (is_live m) (map f (live_downtimes h)) =
     ap (filter (is_live m)) (downtimes-resulted m p h) ∙ sym (filter_map_within (is_live m) f (is_live (latest h)) past (downtimes h)) in
     let at : live_downtimes (h ++ resulted m p ∷ []) ≡ filter (is_live m) (map f (live_downtimes h)) = ap (λ (k : ℕ). filter (is_live k) (downtimes (h ++ resulted m p ∷ []))) (latest-resulted m p h u) ∙ same in
-    let through : IsPermutation (map f (live_downtimes h)) met = IsPermutation-trans _ _ _ (IsPermutation-map f _ _ s.downtimes) met_is in
-    let moved : IsPermutation (filter (is_live m) (map f (live_downtimes h))) kept = subst (λ (l : List Downtime). IsPermutation (filter (is_live m) (map f (live_downtimes h))) l) (sym e) (IsPermutation-filter (is_live m) _ _ through) in
+    let moved : IsPermutation (filter (is_live m) (map f (live_downtimes h))) kept = IsPermutation-trans _ _ _ (IsPermutation-filter (is_live m) _ _ (IsPermutation-map f _ _ s.downtimes)) kept_is in
     record { latest = sym (latest-resulted m p h u); downtimes = IsPermutation-same _ _ _ at moved }
 
 -- ---- the answers

@@ -1,5 +1,6 @@
 -- What a book keeps, and the calls that it stands for.
 use Rattle.std.specs.Prelude.{◌≡◌, ℕ, List, filter, IsPermutation}
+use Rattle.std.specs.List.{flat_map}
 use Rattle.std.specs.List.Sorted.{IsNonDecreasingBy}
 use Rattle.downtime_book.specs.declared.downtime.Downtime.{Downtime}
 use Rattle.downtime_book.specs.Downtime.{until, is_live}
@@ -9,6 +10,10 @@ use Rattle.downtime_book.specs.Calls.{Call, downtimes, latest}
 pub record Contents : Type 0 where
   pub latest : ℕ
   pub downtimes : List Downtime
+
+-- the downtimes of all of these lists
+abbrev pub together : List (List Downtime) → List Downtime
+together runs = flat_map (λ run. run) runs
 
 -- none ends before one that stands ahead of it
 abbrev pub IsInOrder : List Downtime → Type 0

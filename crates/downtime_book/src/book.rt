@@ -1,40 +1,40 @@
 // The downtimes of one checkable.
 ghost use Rattle.std.specs.Prelude.{◌≡◌, ◌≤◌, ◌↔◌, ◌==◌, List, [], ◌∷◌, ◌++◌};
-ghost use Rattle.std.specs.Prelude.{IsTrue, OnOk, OnErr, is_ok, length, filter};
-ghost use Rattle.std.specs.VecDeque.Iter.{deque_iter_rest};
-ghost use Rattle.downtime_book.specs.Downtime.{is_live};
+ghost use Rattle.std.specs.Prelude.{IsTrue, OnOk, OnErr, is_ok, length};
 
 use crate::downtime::Downtime;
-use crate::keeping::{drop_past, meet_result, remove, trim};
 use crate::kind::Kind;
-use crate::naming::first_in_effect;
 use crate::no_downtime::NoDowntime;
+use crate::runs::{cancel, count, drop_empty, first_in_effect, meet_result, put};
+use crate::sorted_run::SortedRun;
 use site_base::{Moment, OutOfMemory};
 use std::alloc::Global;
-use std::collections::VecDeque;
-use std::collections::vec_deque::Iter;
 use std::marker::Model;
 
 /// A book of downtimes, which answers by what was added, resulted and cancelled.
 ///
 /// Moments don't fall: none is below the latest one that a result or a cancel brought. So the book
-/// keeps only what wasn't past then, in order of when it ends, and a call walks what is live or
-/// still to come at most: past downtimes cost neither time nor memory. One that is added goes in
-/// at its place from the nearer end. Only `add` takes memory.
+/// keeps only what wasn't past then, and a call walks what is live or still to come at most: past
+/// downtimes cost neither time nor memory. They lie in a few sorted runs, each about twice as long
+/// as the next, so that adding one moves few others, in whatever order they come. Only `add` takes
+/// memory.
 #[derive(Debug, Drop)]
 pub struct Book {
     latest: Moment,
-    downtimes: VecDeque<Downtime>,
+    /// How many downtimes there are.
+    count: usize,
+    runs: Vec<SortedRun>,
 }
 
 impl Model for Book {
-    ghost use Rattle.downtime_book.specs.Contents.{Contents, IsInOrder};
+    ghost use Rattle.std.specs.Prelude.{◌≡◌, length};
+    ghost use Rattle.downtime_book.specs.Contents.{Contents, together};
 
     ghost Value = { Contents };
 
-    ghost view = { λ b. record { latest = b.latest; downtimes = b.downtimes.items } };
+    ghost view = { λ b. record { latest = b.latest; downtimes = together b.runs.items } };
 
-    ghost invariant = { λ b. IsInOrder b.downtimes.items };
+    ghost invariant = { λ b. b.count ≡ length (together b.runs.items) };
 }
 
 impl Book {
@@ -50,7 +50,8 @@ impl Book {
     {
         Book {
             latest: Moment::of(0).unwrap(),
-            downtimes: VecDeque::new(alloc),
+            count: 0,
+            runs: Vec::new(alloc),
         }
     }
 
@@ -67,7 +68,7 @@ impl Book {
         ensures live { (calls : List Call) → StandsFor self.now calls →
             result ≡ length (live_downtimes calls) }
     {
-        self.downtimes.len()
+        self.count
     }
 
     /// Whether it keeps none.
@@ -76,14 +77,7 @@ impl Book {
         ensures live { (calls : List Call) → StandsFor self.now calls →
             result ≡ (length (live_downtimes calls) == 0) }
     {
-        self.downtimes.is_empty()
-    }
-
-    /// How many downtimes it has room for without more memory, at least as many as it keeps.
-    pub fn capacity(&self) -> usize
-        ensures { length self.now.downtimes ≤ result }
-    {
-        self.downtimes.capacity()
+        self.count == 0
     }
 
     /// Adds a downtime from `start` up to but not at `end`. A flexible one is in effect for
@@ -110,22 +104,18 @@ impl Book {
         if end <= self.latest {
             return Ok(());
         }
-        trim(&mut self.downtimes);
-        let until = u128::from(end.secs());
-        let place = self
-            .downtimes
-            .partition_point(|other| other.until() <= until);
-        let kind = Kind::new(fixed, duration);
         let downtime = Downtime {
             number,
             start,
             end,
-            kind,
+            kind: Kind::new(fixed, duration),
         };
-        self.downtimes
-            .insert(place, downtime)
-            .ok()
-            .ok_or(OutOfMemory)
+        let Some(count) = self.count.checked_add(1) else {
+            return Err(OutOfMemory);
+        };
+        put(&mut self.runs, downtime)?;
+        self.count = count;
+        Ok(())
     }
 
     /// Takes the downtime of this number away for good.
@@ -146,8 +136,9 @@ impl Book {
             return Err(NoDowntime);
         }
         self.latest = moment;
-        remove(&mut self.downtimes, number);
-        drop_past(&mut self.downtimes, moment);
+        cancel(&mut self.runs, number, moment);
+        drop_empty(&mut self.runs);
+        self.count = count(&self.runs, self.count);
         Ok(())
     }
 
@@ -157,8 +148,7 @@ impl Book {
         ensures { (calls : List Call) → StandsFor self.now calls →
             result ≡ is_live_in calls number moment }
     {
-        self.live_at(moment)
-            .any(|downtime| downtime.number == number)
+        self.runs.iter().any(|run| run.is_live(number, moment))
     }
 
     /// Takes note of a result. A problem triggers each flexible downtime that waits for one.
@@ -169,8 +159,9 @@ impl Book {
         ensures latest { self.new.latest ≡ moment }
     {
         self.latest = moment;
-        meet_result(&mut self.downtimes, moment, problem);
-        drop_past(&mut self.downtimes, moment);
+        meet_result(&mut self.runs, moment, problem);
+        drop_empty(&mut self.runs);
+        self.count = count(&self.runs, self.count);
     }
 
     /// The number of the downtime that is in effect at this moment: of several the one that starts
@@ -182,7 +173,7 @@ impl Book {
         ensures first { (calls : List Call) → StandsFor self.now calls →
             Names moment (downtimes calls) result }
     {
-        first_in_effect(self.live_at(moment), moment, false)
+        first_in_effect(&self.runs, moment, false)
     }
 
     /// What `in_effect` gives at this moment once `on_result` took this result. It changes nothing.
@@ -193,16 +184,6 @@ impl Book {
         ensures first { (calls : List Call) → StandsFor self.now calls →
             Names moment (downtimes (calls ++ resulted moment problem ∷ [])) result }
     {
-        first_in_effect(self.live_at(moment), moment, problem)
-    }
-
-    // The downtimes that aren't past at this moment.
-    fn live_at(&self, moment: Moment) -> Iter<'_, Downtime>
-        ensures { deque_iter_rest result ≡ filter (is_live moment) self.now.downtimes }
-    {
-        let past = self
-            .downtimes
-            .partition_point(|downtime| !downtime.is_live(moment));
-        self.downtimes.range(past..)
+        first_in_effect(&self.runs, moment, problem)
     }
 }

@@ -1,6 +1,5 @@
-// How the list of downtimes is kept: in order of when they end, without what is past.
-ghost use Rattle.std.specs.Prelude.{◌≡◌, ◌==◌, true, false, not, filter, map, IsPermutation, []};
-ghost use Rattle.std.specs.VecDeque.{deque_capacity};
+// How a list of downtimes is kept in order of when they end, without what is past.
+ghost use Rattle.std.specs.Prelude.{◌≡◌, ◌==◌, true, false, not, filter, map, IsPermutation};
 ghost use Rattle.downtime_book.specs.Downtime.{is_live, after_result};
 ghost use Rattle.downtime_book.specs.Contents.{IsInOrder};
 
@@ -9,7 +8,7 @@ use site_base::Moment;
 use std::collections::VecDeque;
 
 /// Gives room back where less than a quarter of it is used.
-pub fn trim(downtimes: &mut VecDeque<Downtime>)
+fn trim(downtimes: &mut VecDeque<Downtime>)
     ensures { downtimes.new.items ≡ downtimes.old.items }
 {
     let held = downtimes.len();
@@ -25,18 +24,22 @@ pub fn remove(downtimes: &mut VecDeque<Downtime>, number: u64)
     downtimes.retain(|downtime| downtime.number != number);
 }
 
-/// Drops what is past at this moment, and the room too where nothing is left. It asks for no
-/// memory.
+/// Drops what is past at this moment, and most of its room where little is left.
 pub fn drop_past(downtimes: &mut VecDeque<Downtime>, moment: Moment)
     requires { IsInOrder downtimes.old.items }
-    ensures kept { downtimes.new.items ≡ filter (is_live moment) downtimes.old.items }
-    ensures freed { downtimes.new.items ≡ [] → deque_capacity downtimes.new ≡ 0 }
+    ensures { downtimes.new.items ≡ filter (is_live moment) downtimes.old.items }
 {
     let past = downtimes.partition_point(|downtime| !downtime.is_live(moment));
     downtimes.drain(..past);
-    if downtimes.is_empty() {
-        downtimes.shrink_to_fit();
-    }
+    trim(downtimes);
+}
+
+/// Puts downtimes in order of when they end.
+pub fn sort(downtimes: &mut [Downtime])
+    ensures same { IsPermutation downtimes.old downtimes.new }
+    ensures ordered { IsInOrder downtimes.new }
+{
+    downtimes.sort_unstable_by_key(|downtime| downtime.until());
 }
 
 /// Lets each downtime meet the result, and puts them back in order.
@@ -57,7 +60,7 @@ fn meet_problem(downtimes: &mut [Downtime], moment: Moment)
     ensures ordered { IsInOrder downtimes.old → IsInOrder downtimes.new }
 {
     if trigger_all(downtimes, moment) {
-        downtimes.sort_unstable_by_key(|downtime| downtime.until());
+        sort(downtimes);
     }
 }
 

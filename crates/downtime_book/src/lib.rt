@@ -19,17 +19,18 @@
 //!
 //! Downtimes that another downtime triggers, and recurring ones, are none of this crate's.
 //!
-//! In reading order: what a downtime is, which of several is named, how the list of them is kept,
-//! and the book.
+//! In reading order: what a downtime is, how a list of them is kept, a sorted run, several runs, and
+//! the book.
 #![tactic(auto)]
 
 mod book;
 mod downtime;
 mod keeping;
 mod kind;
-mod naming;
 mod no_downtime;
 mod rank;
+mod runs;
+mod sorted_run;
 
 pub use book::Book;
 pub use no_downtime::NoDowntime;

@@ -26,11 +26,8 @@ fn past_downtimes_cost_nothing(rt: HostRuntime) -> Result<(), Fail> {
     assert_eq!(rt; book.len(), 1);
     assert_eq!(rt; book.in_effect(next(&rt, &book, 200_000)), Some(100_000));
 
-    // The room for what is past is given back by the next downtime, or once nothing is left.
-    book.add(100_002, at(&rt, 400_000), at(&rt, 500_000), true, 0)?;
-    assert!(rt; book.capacity() < 100);
-    let moment = next(&rt, &book, 500_000);
+    let moment = next(&rt, &book, 300_000);
     book.on_result(moment, true);
-    assert_eq!(rt; book.capacity(), 0);
+    assert!(rt; book.is_empty());
     Ok(())
 }

@@ -5,8 +5,8 @@ use Rattle.downtime_book.specs.Downtime.{is_live}
 use Rattle.downtime_book.proofs.Order.{is_past, past_first, live_from}
 use Rattle.downtime_book.proofs.keeping.drop_past.Goals as goal
 
-pub returns-then-is_empty-clause-kept : goal.returns-then-is_empty-clause-kept
-returns-then-is_empty-clause-kept c =
+pub returns : goal.returns
+returns c =
     let m = c.args.moment in
     let xs = c.args.downtimes.now.items in
     let k = c.partition_point-past.result in
@@ -15,16 +15,4 @@ returns-then-is_empty-clause-kept c =
     let within : k ≤ length xs = omega (arith, long, c.partition_point-past.ensures.bound) in
     let rest : drop k xs ≡ filter (is_live m) xs = live_from m xs k point within in
     let dropped = c.drop-drain.ensures.items ∙ c.drain.ensures.kept ∙ rest in
-    search (rules, dropped)
-
-pub returns-else-is_empty-clause-kept : goal.returns-else-is_empty-clause-kept
-returns-else-is_empty-clause-kept c =
-    let m = c.args.moment in
-    let xs = c.args.downtimes.now.items in
-    let k = c.partition_point-past.result in
-    let point = IsPartitionPoint-from_clause (is_past m) xs k c.partition_point-past.ensures.partitioned (past_first m xs c.requires) (λ a r f' k. search rules) in
-    let long = c.args.downtimes.now.ok.0 in
-    let within : k ≤ length xs = omega (arith, long, c.partition_point-past.ensures.bound) in
-    let rest : drop k xs ≡ filter (is_live m) xs = live_from m xs k point within in
-    let dropped = c.drop-drain.ensures.items ∙ c.drain.ensures.kept ∙ rest in
-    search (rules, dropped)
+    search (rules, dropped, c.trim.ensures)

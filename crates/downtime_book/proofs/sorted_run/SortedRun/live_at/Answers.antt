@@ -1,10 +1,9 @@
 -- The downtimes from the first that isn't past on are those that are live.
 use Rattle.std.proofs.Common.{◌≤◌, ◌-◌, length, take, drop, filter, ◌∙◌, ap, rules, arith}
 use Rattle.std.proofs.lemmas.List.Sorted.{IsPartitionPoint-from_clause}
-use Rattle.downtime_book.specs.Contents.{Contents}
 use Rattle.downtime_book.specs.Downtime.{is_live}
 use Rattle.downtime_book.proofs.Order.{is_past, past_first, live_rest}
-use Rattle.downtime_book.proofs.book.Book.live_at.Goals as goal
+use Rattle.downtime_book.proofs.sorted_run.SortedRun.live_at.Goals as goal
 
 pub returns : goal.returns
 returns c =
@@ -15,4 +14,4 @@ returns c =
     let long = c.self.inside.downtimes.ok.0 in
     let bound = c.partition_point-past.ensures.bound in
     let within : k ≤ length xs = omega (arith, long, bound) in
-    c.range.ensures.rest ∙ ap (λ n. take (n - k) (drop k xs)) long ∙ live_rest m xs k point within ∙ ap (λ (b : Contents). filter (is_live m) b.downtimes) c.self.view_is
+    c.range.ensures.rest ∙ ap (λ n. take (n - k) (drop k xs)) long ∙ live_rest m xs k point within ∙ ap (filter (is_live m)) c.self.view_is
