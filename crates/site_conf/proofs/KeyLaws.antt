@@ -50,7 +50,7 @@ absent_by true n e = cc
 absent_by false n e = refl
 
 -- what has no place is among none
-absent : {X : Type 0} (p : X → Bool) (xs : List X) → position p xs ≡ None → list_any p xs ≡ false
+pub absent : {X : Type 0} (p : X → Bool) (xs : List X) → position p xs ≡ None → list_any p xs ≡ false
 absent p xs e = any_is p xs ∙ absent_by (nat_lt (position_or_len p xs) (length xs)) (position_or_len p xs) e
 
 -- a key whose file isn't there is added at the end

@@ -7,3 +7,9 @@ pub mod NamingLaws
 pub mod WalkLaws
 pub mod SoundLaws
 pub mod Outcomes
+pub mod CountLaws
+pub mod OrderLaws
+pub mod ReadLaws
+pub mod Through
+pub mod TreeLaws
+pub mod FaultLaws

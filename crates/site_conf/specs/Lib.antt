@@ -10,3 +10,5 @@ pub mod Reading
 pub mod Walks
 pub mod Views
 pub mod Sound
+pub mod Reads
+pub mod Findings

@@ -1,5 +1,5 @@
 -- The walk over the files of a site.
-use Rattle.std.specs.Prelude.{ℕ, zero, suc, ◌+◌, List, [], ◌∷◌, ◌++◌, ◌==◌, length, slice_get, nat_lt, Bool, true, false, Option, Some, None, if◌then◌else◌}
+use Rattle.std.specs.Prelude.{ℕ, zero, suc, ◌+◌, ◌-◌, List, [], ◌∷◌, ◌++◌, ◌==◌, length, set, slice_get, nat_lt, Bool, true, false, Option, Some, None, if◌then◌else◌}
 use Rattle.site_base.specs.Quoted.{quoted}
 use Rattle.dsl_syntax.specs.Syntax.{Statements}
 use Rattle.site_base.specs.declared.diag.Diag.{Diag}
@@ -45,6 +45,10 @@ or_nothing (Some xs) = xs
 -- one number more in the order
 abbrev pub with_number : ℕ → WalkState → WalkState
 with_number n s = record s { order = s.order ++ n ∷ [] }
+
+-- the number at this place of the order is how many stand behind it
+abbrev pub with_length : ℕ → WalkState → WalkState
+with_length start s = record s { order = set s.order start (length s.order - start - 1) }
 
 -- a fault of an inclusion of this name, at its place
 abbrev pub with_fault : Place → DiagKind → List ℕ → WalkState → WalkState
@@ -116,8 +120,10 @@ abbrev pub each_inclusion : Told → (Entered → WalkState) → ℕ → ℕ →
 each_inclusion files onward left index file [] s = s
 each_inclusion files onward left index file (i ∷ more) s = each_inclusion files onward left index file more (one_inclusion files onward left index file i s)
 
+-- its length is known once the inclusions were followed
 unfoldable pub part_with : Told → (Entered → WalkState) → ℕ → ℕ → WalkState → WalkState
-part_with files onward left index s = each_inclusion files onward left index (or_nothing (slice_get s.names index)) (or_nothing (slice_get s.inclusions index)) s
+part_with files onward left index s =
+    with_length (length s.order) (each_inclusion files onward left index (or_nothing (slice_get s.names index)) (or_nothing (slice_get s.inclusions index)) (with_number 0 s))
 
 -- nothing is followed, or what is to be followed is
 abbrev pub stopped : Entered → WalkState

@@ -1,8 +1,9 @@
 // One inclusion of the walk.
-ghost use Rattle.std.specs.Prelude.{◌≡◌, ◌≤◌, ◌<◌, List, ℕ, Some, None, IfOk, OnOk, IfSome, IsErrOf, length, slice_get, ◌≢◌, Err};
+ghost use Rattle.std.specs.Prelude.{◌≡◌, ◌≤◌, ◌<◌, List, ℕ, Option, Some, None, IfOk, OnOk, IfSome, IsErrOf, length, slice_get, ◌≢◌, Err};
 ghost use Rattle.site_edge.specs.Told.{Rose};
 ghost use Rattle.site_conf.specs.Sources.{source_at, content_of, full_name as full_name_of};
 ghost use Rattle.site_conf.specs.Reading.{kept_content};
+ghost use Rattle.site_conf.specs.Reads.{HaveRead};
 ghost use Rattle.site_conf.specs.Sound.{IsSound, IsFound, IsOneMore, MayStand};
 ghost use Rattle.site_conf.specs.Views.{state_view, IsEntered};
 ghost use Rattle.site_conf.specs.Walks.{Told, entered, met, settled, follows, with_number, with_fault, with_kept};
@@ -35,6 +36,8 @@ pub(crate) fn enter<F: Files>(
     ensures left { IfOk result (λ found. IfSome found (λ _. 0 < left)) }
     ensures sound { IsSound (state_view progress.old) → at.file < length (state_view progress.old).names →
         IfOk result (IsFound (state_view progress.old) (state_view progress.new)) }
+    ensures reads { (before : Option (List (List ℕ))) → HaveRead before (state_view progress.old) (F.reads files.old) →
+        OnOk result (HaveRead before (state_view progress.new) (F.reads files.new)) }
     ensures same { F.told files.new ≡ F.told files.old }
     ensures cause { IsErrOf result LoadFault.Failed → Rose (F.faults files.old) (F.faults files.new) }
     ensures counts { F.faults files.old ≤ F.faults files.new }
@@ -71,6 +74,8 @@ pub(crate) fn meet<F: Files>(
         IfOk result (IsEntered (met all at source.now (state_view progress.old)) (state_view progress.new)) }
     ensures sound { IsSound (state_view progress.old) → MayStand at source.now (state_view progress.old) →
         IfOk result (IsFound (state_view progress.old) (state_view progress.new)) }
+    ensures reads { (before : Option (List (List ℕ))) → HaveRead before (state_view progress.old) (F.reads files.old) →
+        OnOk result (HaveRead before (state_view progress.new) (F.reads files.new)) }
     ensures same { F.told files.new ≡ F.told files.old }
     ensures cause { IsErrOf result LoadFault.Failed → Rose (F.faults files.old) (F.faults files.new) }
     ensures counts { F.faults files.old ≤ F.faults files.new }
@@ -98,6 +103,8 @@ fn read<F: Files>(
         OnOk result (state_view progress.new ≡ with_kept source.now (kept_content (length (state_view progress.old).names) (content_of all source.now)) (state_view progress.old)) }
     ensures index { IfOk result (λ k. k ≡ length (state_view progress.old).names) }
     ensures sound { IsSound (state_view progress.old) → OnOk result (IsOneMore (state_view progress.old) (state_view progress.new)) }
+    ensures reads { (before : Option (List (List ℕ))) → HaveRead before (state_view progress.old) (F.reads files.old) →
+        OnOk result (HaveRead before (state_view progress.new) (F.reads files.new)) }
     ensures same { F.told files.new ≡ F.told files.old }
     ensures cause { IsErrOf result LoadFault.Failed → Rose (F.faults files.old) (F.faults files.new) }
     ensures counts { F.faults files.old ≤ F.faults files.new }

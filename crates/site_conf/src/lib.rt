@@ -3,7 +3,8 @@
 //! In reading order: the parts of names (`names`), the statements that include
 //! others (`inclusion`, `inclusions`) and what they name (`source`, `known`, `listings`, `naming`), the built-in library
 //! (`library`), what a file comes to when it is read (`holding`, `kept`, `reading`), what stands at a
-//! moment of the walk (`sources`, `progress`), one inclusion (`entering`), and the walk itself (`walking`).
+//! moment of the walk (`sources`, `progress`), one inclusion (`entering`), the walk itself (`walking`), and what holds of it
+//! (`laws`).
 #![tactic(auto)]
 
 mod entering;
@@ -12,6 +13,7 @@ mod inclusion;
 mod inclusions;
 mod kept;
 mod known;
+mod laws;
 mod library;
 mod listings;
 mod load_fault;
@@ -25,6 +27,7 @@ mod sources;
 mod walk_answer;
 mod walking;
 
+pub use laws::{each_diagnostic_is_of_a_fault, trees_are_those_of_their_files};
 pub use load_fault::LoadFault;
 pub use site_walk::Walk;
 pub use walk_answer::WalkAnswer;

@@ -47,6 +47,7 @@ pub(crate) fn wild_files<F: Files>(
     ensures value { (all : Told) → F.told files.old ≡ Some all → IfOk result (λ v. v.items ≡ map Source.File (wild_names_of all name.now)) }
     ensures known { OnOk result (IsKnown (F.told files.new) listings.new.folders listings.new.wildcards) }
     ensures same { F.told files.new ≡ F.told files.old }
+    ensures uncounted { F.reads files.new ≡ F.reads files.old }
     ensures cause { IsErrOf result LoadFault.Failed → Rose (F.faults files.old) (F.faults files.new) }
     ensures counts { F.faults files.old ≤ F.faults files.new }
     ensures calm { F.calm files.old → F.calm files.new }
@@ -71,6 +72,7 @@ fn find_wild<F: Files>(
     ensures value { (all : Told) → F.told files.old ≡ Some all → IfOk result (λ names. names ≡ wild_names_of all name.now) }
     ensures known { OnOk result (IsKnown (F.told files.new) listings.new.folders listings.new.wildcards) }
     ensures same { F.told files.new ≡ F.told files.old }
+    ensures uncounted { F.reads files.new ≡ F.reads files.old }
     ensures cause { IsErrOf result LoadFault.Failed → Rose (F.faults files.old) (F.faults files.new) }
     ensures counts { F.faults files.old ≤ F.faults files.new }
     ensures calm { F.calm files.old → F.calm files.new }
@@ -97,6 +99,7 @@ pub(crate) fn names_below<F: Files>(
     ensures value { (all : Told) → F.told files.old ≡ Some all → IfOk result (λ names. names ≡ those_below pattern.now (listing folder.now all)) }
     ensures known { OnOk result (IsKnown (F.told files.new) listings.new.folders listings.new.wildcards) }
     ensures same { F.told files.new ≡ F.told files.old }
+    ensures uncounted { F.reads files.new ≡ F.reads files.old }
     ensures cause { IsErrOf result LoadFault.Failed → Rose (F.faults files.old) (F.faults files.new) }
     ensures counts { F.faults files.old ≤ F.faults files.new }
     ensures calm { F.calm files.old → F.calm files.new }

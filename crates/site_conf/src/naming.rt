@@ -26,6 +26,7 @@ pub(crate) fn sources<F: Files>(
         IfOk result (λ v. v.items ≡ sources_of all file.now inclusion.now) }
     ensures known { OnOk result (IsKnown (F.told files.new) listings.new.folders listings.new.wildcards) }
     ensures same { F.told files.new ≡ F.told files.old }
+    ensures uncounted { F.reads files.new ≡ F.reads files.old }
     ensures cause { IsErrOf result LoadFault.Failed → Rose (F.faults files.old) (F.faults files.new) }
     ensures counts { F.faults files.old ≤ F.faults files.new }
     ensures calm { F.calm files.old → F.calm files.new }
@@ -58,6 +59,7 @@ fn named<F: Files>(
         IfOk result (λ v. v.items ≡ named_in all name) }
     ensures known { OnOk result (IsKnown (F.told files.new) listings.new.folders listings.new.wildcards) }
     ensures same { F.told files.new ≡ F.told files.old }
+    ensures uncounted { F.reads files.new ≡ F.reads files.old }
     ensures cause { IsErrOf result LoadFault.Failed → Rose (F.faults files.old) (F.faults files.new) }
     ensures counts { F.faults files.old ≤ F.faults files.new }
     ensures calm { F.calm files.old → F.calm files.new }

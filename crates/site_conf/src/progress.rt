@@ -1,8 +1,8 @@
 // What stands at a moment of the walk.
-ghost use Rattle.std.specs.Prelude.{◌≡◌, None, IfOk, OnOk, slice_get};
+ghost use Rattle.std.specs.Prelude.{◌≡◌, None, IfOk, OnOk, length, slice_get};
 ghost use Rattle.site_conf.specs.Sources.{source_at};
 ghost use Rattle.site_conf.specs.Views.{state_view, kept_view};
-ghost use Rattle.site_conf.specs.Walks.{empty_state, with_number, with_fault, with_kept, or_nothing};
+ghost use Rattle.site_conf.specs.Walks.{empty_state, with_number, with_length, with_fault, with_kept, or_nothing};
 
 use crate::holding::Holding;
 use crate::inclusion::Inclusion;
@@ -57,6 +57,30 @@ impl Progress {
         ensures { OnOk result (state_view self.new ≡ with_number number (state_view self.old)) }
     {
         self.order.push(number)?;
+        Ok(())
+    }
+
+    /// Begins the part of a file, and gives its place in the order. Its length isn't known yet.
+    pub(crate) fn begin_part(&mut self) -> Result<usize, OutOfMemory>
+        ensures value { OnOk result (state_view self.new ≡ with_number 0 (state_view self.old)) }
+        ensures start { IfOk result (λ start. start ≡ length (state_view self.old).order) }
+    {
+        let start = self.order.len();
+        self.order.push(0)?;
+        Ok(start)
+    }
+
+    /// Ends the part of a file that begins at this place: what stands behind it is the part.
+    pub(crate) fn end_part(&mut self, start: usize) -> Result<(), OutOfMemory>
+        ensures { OnOk result (state_view self.new ≡ with_length start (state_view self.old)) }
+    {
+        let length = self.order.len().saturating_sub(start).saturating_sub(1);
+        let Ok(length) = u32::try_from(length) else {
+            return Err(OutOfMemory);
+        };
+        if start < self.order.len() {
+            self.order[start] = length;
+        }
         Ok(())
     }
 

@@ -3,9 +3,11 @@ ghost use Rattle.std.specs.Prelude.{◌≡◌, ◌≤◌, ◌<◌, ◌-◌, ◌^
 ghost use Rattle.dsl_syntax.specs.SyntaxView.{file_view};
 ghost use Rattle.dsl_lexer.specs.Lists.{IsWhole};
 ghost use Rattle.dsl_grammar.specs.Files.{file_outcome};
+ghost use Rattle.site_edge.specs.Lists.{Adds};
 ghost use Rattle.site_edge.specs.Told.{Rose};
 ghost use Rattle.site_conf.specs.Reading.{kept_none, kept_fault, kept_tree, kept_outcome, kept_bytes, kept_content, diag_at, in_file as place_in_file};
 ghost use Rattle.site_conf.specs.Library.{library_text as library_text_of};
+ghost use Rattle.site_conf.specs.Reads.{file_name};
 ghost use Rattle.site_conf.specs.Walks.{Told};
 ghost use Rattle.site_conf.specs.Sources.{content_of};
 ghost use Rattle.site_conf.specs.Views.{kept_view};
@@ -69,6 +71,7 @@ pub(crate) fn content<F: Files>(
     ensures value { (all : Told) → F.told files.old ≡ Some all →
         IfOk result (λ c. c ≡ content_of all source.now) }
     ensures same { F.told files.new ≡ F.told files.old }
+    ensures counted { OnOk result (Adds (file_name source.now) (F.reads files.old) (F.reads files.new)) }
     ensures cause { IsErrOf result LoadFault.Failed → Rose (F.faults files.old) (F.faults files.new) }
     ensures counts { F.faults files.old ≤ F.faults files.new }
     ensures calm { F.calm files.old → F.calm files.new }

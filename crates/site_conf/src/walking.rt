@@ -1,9 +1,10 @@
 // The walk over the files of a site.
-ghost use Rattle.std.specs.Prelude.{◌≡◌, ◌≤◌, ◌<◌, Some, IfOk, OnOk, IsErrOf, length, ◌≢◌, Err};
+ghost use Rattle.std.specs.Prelude.{◌≡◌, ◌≤◌, ◌<◌, ℕ, List, Option, Some, IfOk, OnOk, IsErrOf, length, ◌≢◌, Err};
 ghost use Rattle.dsl_lexer.specs.Places.{start_of};
 ghost use Rattle.site_edge.specs.Told.{Rose};
 ghost use Rattle.site_conf.specs.Known.{IsKnown};
-ghost use Rattle.site_conf.specs.Sound.{IsSound, IsLater, IsWhole, IsFlagged};
+ghost use Rattle.site_conf.specs.Reads.{HaveRead, ReadsOnce};
+ghost use Rattle.site_conf.specs.Sound.{IsSound, IsWalked, a_part, a_file, some_files, an_inclusion, some_inclusions, IsOver, IsWhole, IsFlagged, IsOrdered};
 ghost use Rattle.site_conf.specs.Views.{state_view, answer_view, TellsLibrary};
 ghost use Rattle.site_conf.specs.Walks.{Told, part, each_inclusion, one_inclusion, each_source, onward_at, entered, with_number, empty_state, walked, walk_outcome, outcome_of};
 
@@ -37,6 +38,8 @@ pub fn walk<F: Files>(alloc: Global, files: &mut F, root: &str) -> Result<WalkAn
         IfOk result (TellsLibrary (walked all root.now)) }
     ensures whole { IfOk result IsWhole }
     ensures flagged { IfOk result IsFlagged }
+    ensures ordered { IfOk result IsOrdered }
+    ensures reads { IfOk result (ReadsOnce (F.reads files.old) (F.reads files.new)) }
     ensures same { F.told files.new ≡ F.told files.old }
     ensures cause { IsErrOf result LoadFault.Failed → Rose (F.faults files.old) (F.faults files.new) }
     ensures counts { F.faults files.old ≤ F.faults files.new }
@@ -57,7 +60,8 @@ fn walk_root<F: Files>(
 ) -> Result<(), LoadFault>
     requires { state_view progress.old ≡ empty_state }
     ensures value { (all : Told) → F.told files.old ≡ Some all → OnOk result (state_view progress.new ≡ walked all root.now) }
-    ensures sound { OnOk result (IsSound (state_view progress.new)) }
+    ensures over { OnOk result (IsOver (state_view progress.new)) }
+    ensures reads { OnOk result (HaveRead (F.reads files.old) (state_view progress.new) (F.reads files.new)) }
     ensures same { F.told files.new ≡ F.told files.old }
     ensures cause { IsErrOf result LoadFault.Failed → Rose (F.faults files.old) (F.faults files.new) }
     ensures counts { F.faults files.old ≤ F.faults files.new }
@@ -76,8 +80,11 @@ fn walk_root<F: Files>(
 fn answer(progress: Progress) -> WalkAnswer
     ensures value { answer_view result ≡ outcome_of (state_view progress) }
     ensures library { TellsLibrary (state_view progress) result }
-    ensures whole { IsSound (state_view progress) → IsWhole result }
-    ensures flagged { IsSound (state_view progress) → IsFlagged result }
+    ensures whole { IsOver (state_view progress) → IsWhole result }
+    ensures flagged { IsOver (state_view progress) → IsFlagged result }
+    ensures ordered { IsOver (state_view progress) → IsOrdered result }
+    ensures reads { (old new : Option (List (List ℕ))) → IsOver (state_view progress) → HaveRead old (state_view progress) new →
+        ReadsOnce old new result }
 {
     if progress.diags.is_empty() {
         WalkAnswer::Walked(Walk {
@@ -108,8 +115,10 @@ fn walk_part<F: Files>(
     ensures value { (all : Told) → F.told files.old ≡ Some all →
         OnOk result (state_view progress.new ≡ part all left index (state_view progress.old)) }
     ensures sound { IsSound (state_view progress.old) → index < length (state_view progress.old).names →
-        OnOk result (IsLater (state_view progress.old) (state_view progress.new)) }
+        OnOk result (IsWalked (a_part left index) (state_view progress.old) (state_view progress.new)) }
     ensures known { OnOk result (IsKnown (F.told files.new) listings.new.folders listings.new.wildcards) }
+    ensures reads { (before : Option (List (List ℕ))) → HaveRead before (state_view progress.old) (F.reads files.old) →
+        OnOk result (HaveRead before (state_view progress.new) (F.reads files.new)) }
     ensures same { F.told files.new ≡ F.told files.old }
     ensures cause { IsErrOf result LoadFault.Failed → Rose (F.faults files.old) (F.faults files.new) }
     ensures counts { F.faults files.old ≤ F.faults files.new }
@@ -118,6 +127,7 @@ fn walk_part<F: Files>(
 {
     let name = progress.name_at(index)?;
     let inclusions = progress.inclusions_at(index)?;
+    let start = progress.begin_part()?;
     walk_inclusions(
         files,
         listings,
@@ -126,7 +136,8 @@ fn walk_part<F: Files>(
         index,
         name.as_str(),
         inclusions.as_slice(),
-    )
+    )?;
+    Ok(progress.end_part(start)?)
 }
 
 /// Goes through inclusions in the file of this name.
@@ -144,8 +155,10 @@ fn walk_inclusions<F: Files>(
     ensures value { (all : Told) → F.told files.old ≡ Some all →
         OnOk result (state_view progress.new ≡ each_inclusion all (onward_at all left) left index file.now inclusions.now (state_view progress.old)) }
     ensures sound { IsSound (state_view progress.old) → index < length (state_view progress.old).names →
-        OnOk result (IsLater (state_view progress.old) (state_view progress.new)) }
+        OnOk result (IsWalked (some_inclusions left (length inclusions.now)) (state_view progress.old) (state_view progress.new)) }
     ensures known { OnOk result (IsKnown (F.told files.new) listings.new.folders listings.new.wildcards) }
+    ensures reads { (before : Option (List (List ℕ))) → HaveRead before (state_view progress.old) (F.reads files.old) →
+        OnOk result (HaveRead before (state_view progress.new) (F.reads files.new)) }
     ensures same { F.told files.new ≡ F.told files.old }
     ensures cause { IsErrOf result LoadFault.Failed → Rose (F.faults files.old) (F.faults files.new) }
     ensures counts { F.faults files.old ≤ F.faults files.new }
@@ -173,8 +186,10 @@ fn walk_inclusion<F: Files>(
     ensures value { (all : Told) → F.told files.old ≡ Some all →
         OnOk result (state_view progress.new ≡ one_inclusion all (onward_at all left) left index file.now inclusion.now (state_view progress.old)) }
     ensures sound { IsSound (state_view progress.old) → index < length (state_view progress.old).names →
-        OnOk result (IsLater (state_view progress.old) (state_view progress.new)) }
+        OnOk result (IsWalked (an_inclusion left) (state_view progress.old) (state_view progress.new)) }
     ensures known { OnOk result (IsKnown (F.told files.new) listings.new.folders listings.new.wildcards) }
+    ensures reads { (before : Option (List (List ℕ))) → HaveRead before (state_view progress.old) (F.reads files.old) →
+        OnOk result (HaveRead before (state_view progress.new) (F.reads files.new)) }
     ensures same { F.told files.new ≡ F.told files.old }
     ensures cause { IsErrOf result LoadFault.Failed → Rose (F.faults files.old) (F.faults files.new) }
     ensures counts { F.faults files.old ≤ F.faults files.new }
@@ -210,8 +225,10 @@ fn walk_sources<F: Files>(
     ensures value { (all : Told) → F.told files.old ≡ Some all →
         OnOk result (state_view progress.new ≡ each_source all (onward_at all left) left at named.now (state_view progress.old)) }
     ensures sound { IsSound (state_view progress.old) → at.file < length (state_view progress.old).names →
-        OnOk result (IsLater (state_view progress.old) (state_view progress.new)) }
+        OnOk result (IsWalked (some_files left (length named.now)) (state_view progress.old) (state_view progress.new)) }
     ensures known { OnOk result (IsKnown (F.told files.new) listings.new.folders listings.new.wildcards) }
+    ensures reads { (before : Option (List (List ℕ))) → HaveRead before (state_view progress.old) (F.reads files.old) →
+        OnOk result (HaveRead before (state_view progress.new) (F.reads files.new)) }
     ensures same { F.told files.new ≡ F.told files.old }
     ensures cause { IsErrOf result LoadFault.Failed → Rose (F.faults files.old) (F.faults files.new) }
     ensures counts { F.faults files.old ≤ F.faults files.new }
@@ -238,8 +255,10 @@ fn walk_source<F: Files>(
     ensures value { (all : Told) → F.told files.old ≡ Some all →
         OnOk result (state_view progress.new ≡ onward_at all left (entered all left at source.now (state_view progress.old))) }
     ensures sound { IsSound (state_view progress.old) → at.file < length (state_view progress.old).names →
-        OnOk result (IsLater (state_view progress.old) (state_view progress.new)) }
+        OnOk result (IsWalked (a_file left) (state_view progress.old) (state_view progress.new)) }
     ensures known { OnOk result (IsKnown (F.told files.new) listings.new.folders listings.new.wildcards) }
+    ensures reads { (before : Option (List (List ℕ))) → HaveRead before (state_view progress.old) (F.reads files.old) →
+        OnOk result (HaveRead before (state_view progress.new) (F.reads files.new)) }
     ensures same { F.told files.new ≡ F.told files.old }
     ensures cause { IsErrOf result LoadFault.Failed → Rose (F.faults files.old) (F.faults files.new) }
     ensures counts { F.faults files.old ≤ F.faults files.new }

@@ -1,6 +1,7 @@
-use Rattle.std.proofs.Common.{◌≡◌, ◌≤◌, ◌<◌, length, ◌+◌, ◌*◌, List, ℕ, Some, drop}
+use Rattle.std.proofs.Common.{◌≡◌, ◌≤◌, ◌<◌, length, ◌+◌, ◌*◌, List, ℕ, Option, Some, drop}
 use Rattle.site_conf.specs.Known.{IsKnown}
-use Rattle.site_conf.specs.Sound.{IsSound, IsLater}
+use Rattle.site_conf.specs.Reads.{HaveRead}
+use Rattle.site_conf.specs.Sound.{IsSound, IsWalked, some_files, some_inclusions}
 use Rattle.site_conf.specs.Views.{state_view}
 use Rattle.site_conf.specs.Walks.{each_inclusion, each_source, onward_at}
 use Rattle.site_conf.proofs.walking.+walk.Given as goal
@@ -24,7 +25,8 @@ abbrev pub invariant-walk_inclusions-loop-inclusion : goal.invariant-walk_inclus
 invariant-walk_inclusions-loop-inclusion g l = record {
   known : IsKnown (g.F.Files.told l.files) l.listings.folders l.listings.wildcards;
   same : g.F.Files.told l.files ≡ g.F.Files.told l.fn.files;
-  sound : IsSound (state_view l.fn.progress) → l.index < length (state_view l.fn.progress).names → IsLater (state_view l.fn.progress) (state_view l.progress);
+  sound : IsSound (state_view l.fn.progress) → l.index < length (state_view l.fn.progress).names → IsWalked (some_inclusions l.left l.inclusion-index) (state_view l.fn.progress) (state_view l.progress);
+  reads : (before : Option (List (List ℕ))) → HaveRead before (state_view l.fn.progress) (g.F.Files.reads l.fn.files) → HaveRead before (state_view l.progress) (g.F.Files.reads l.files);
   counts : g.F.Files.faults l.fn.files ≤ g.F.Files.faults l.files;
   calm : g.F.Files.calm l.fn.files → g.F.Files.calm l.files;
   walks : (all : List (List ℕ × List ℕ)) → g.F.Files.told l.fn.files ≡ Some all
@@ -35,7 +37,8 @@ abbrev pub invariant-walk_sources-loop-source : goal.invariant-walk_sources-loop
 invariant-walk_sources-loop-source g l = record {
   known : IsKnown (g.F.Files.told l.files) l.listings.folders l.listings.wildcards;
   same : g.F.Files.told l.files ≡ g.F.Files.told l.fn.files;
-  sound : IsSound (state_view l.fn.progress) → l.at.file < length (state_view l.fn.progress).names → IsLater (state_view l.fn.progress) (state_view l.progress);
+  sound : IsSound (state_view l.fn.progress) → l.at.file < length (state_view l.fn.progress).names → IsWalked (some_files l.left l.source-index) (state_view l.fn.progress) (state_view l.progress);
+  reads : (before : Option (List (List ℕ))) → HaveRead before (state_view l.fn.progress) (g.F.Files.reads l.fn.files) → HaveRead before (state_view l.progress) (g.F.Files.reads l.files);
   counts : g.F.Files.faults l.fn.files ≤ g.F.Files.faults l.files;
   calm : g.F.Files.calm l.fn.files → g.F.Files.calm l.files;
   walks : (all : List (List ℕ × List ℕ)) → g.F.Files.told l.fn.files ≡ Some all
