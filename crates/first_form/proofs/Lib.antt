@@ -4,3 +4,4 @@ pub mod OrderLaws
 pub mod SettingLaws
 pub mod SiteLaws
 pub mod SoundLaws
+pub mod FitLaws

@@ -2,7 +2,8 @@
 use Rattle.std.proofs.Common.{◌≡◌, ℕ, zero, suc, List, [], ◌∷◌, ◌++◌, Bool, true, false, cond, Option, Some, None, slice_get, refl, sym, ap, ◌∙◌}
 use Rattle.std.specs.Option.{option_and_then}
 use Rattle.dsl_syntax.specs.Syntax.{Statement, statement, Statements, no_statements, more_statements}
-use Rattle.first_form.specs.Orders.{Went, went, stuck, further, taken, first_number, with_number, files_by, inclusion_by, is_inclusion, statement_by, statements_by, file_by, part, made, walked_by, listed}
+use Rattle.walk_order.specs.Orders.{is_inclusion}
+use Rattle.first_form.specs.Orders.{Went, went, stuck, further, taken, first_number, with_number, files_by, inclusion_by, statement_by, statements_by, file_by, part, made, walked_by, listed}
 
 -- one file more
 pub files_turn : {S : Type 0} (below : ℕ → List ℕ → S → Went S) (n m i : ℕ) (order more rest : List ℕ) (s t : S)
@@ -127,7 +128,9 @@ fused_file take start f g h (Some tree) = fused_statements take start f g h tree
 fused_part : {S : Type 0} (take : Statement → S → Option S) (start : S) (trees : List Statements) (depth index : ℕ) → Fused take start (part take trees depth index) (part listed trees depth index)
 fused_part take start trees zero index = fused_stuck take start
 fused_part take start trees (suc depth) index =
-    fused_file take start (part take trees depth) (part listed trees depth) (fused_part take start trees depth) (slice_get trees index)
+    let tree : Option Statements = slice_get trees index in
+    fused_number take start (λ n own s. file_by take (part take trees depth) tree own s) (λ n own s. file_by listed (part listed trees depth) tree own s)
+    (λ n. fused_file take start (part take trees depth) (part listed trees depth) (fused_part take start trees depth) tree)
 
 made_taken : {S : Type 0} (rest : List ℕ) (o : Option S) → made (taken rest o) ≡ o
 made_taken rest None = refl

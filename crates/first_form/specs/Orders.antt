@@ -1,7 +1,7 @@
--- The statements of walked files by a walk's order. The order is a flat list of numbers: the root's index and the root's part. The part of
--- a file has for each of its inclusions how many files it names, and for each of these files its index and its own part.
-use Rattle.std.specs.Prelude.{ℕ, zero, suc, List, [], ◌∷◌, ◌++◌, Bool, true, false, Option, Some, None, slice_get, if◌then◌else◌}
-use Rattle.dsl_syntax.specs.Syntax.{Statement, statement, Statements, no_statements, more_statements, StatementKind, include, include_library, include_all}
+-- The statements of walked files by a walk's order.
+use Rattle.std.specs.Prelude.{ℕ, zero, suc, List, [], ◌∷◌, ◌++◌, Option, Some, None, slice_get, if◌then◌else◌}
+use Rattle.dsl_syntax.specs.Syntax.{Statement, statement, Statements, no_statements, more_statements}
+use Rattle.walk_order.specs.Orders.{is_inclusion}
 
 -- what was made of the statements, and the numbers that are left; or that some statement wasn't taken or the numbers fit no walk
 pub data Went (S : Type 0) : Type 0 where
@@ -11,12 +11,6 @@ pub data Went (S : Type 0) : Type 0 where
 abbrev pub further : {S : Type 0} → Went S → (List ℕ → S → Went S) → Went S
 further (went order s) next = next order s
 further stuck next = stuck
-
-abbrev pub is_inclusion : StatementKind → Bool
-is_inclusion (include name at) = true
-is_inclusion (include_library name at) = true
-is_inclusion (include_all dir pattern at) = true
-is_inclusion k = false
 
 abbrev pub taken : {S : Type 0} → List ℕ → Option S → Went S
 taken order None = stuck
@@ -52,10 +46,10 @@ abbrev pub file_by : {S : Type 0} → (Statement → S → Option S) → (ℕ �
 file_by take part None order s = stuck
 file_by take part (Some tree) order s = statements_by take part tree order s
 
--- the part of a file, where files may stand so deep in one another
+-- the part of a file, where files may stand so deep in one another; all of it is gone through, so its length isn't needed
 abbrev pub part : {S : Type 0} → (Statement → S → Option S) → List Statements → ℕ → ℕ → List ℕ → S → Went S
 part take trees zero index order s = stuck
-part take trees (suc depth) index order s = file_by take (part take trees depth) (slice_get trees index) order s
+part take trees (suc depth) index order s = with_number (first_number order) (λ length own. file_by take (part take trees depth) (slice_get trees index) own s)
 
 abbrev pub made : {S : Type 0} → Went S → Option S
 made (went order s) = Some s

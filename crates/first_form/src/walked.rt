@@ -1,22 +1,25 @@
 // The objects of walked files.
 ghost use Rattle.std.specs.Prelude.{◌≡◌, true, map, IfOk};
-ghost use Rattle.dsl_syntax.specs.SyntaxView.{stmt_view, stmts_view, stmt_kind_view, file_view};
+ghost use Rattle.dsl_syntax.specs.SyntaxView.{stmt_view, stmts_view, file_view};
+ghost use Rattle.walk_order.specs.Orders.{IsOrder};
 ghost use Rattle.first_form.specs.FirstSites.{first_site as first_site_of, fits};
 ghost use Rattle.first_form.specs.Gathering.{Gives, Goes};
 ghost use Rattle.first_form.specs.Gathering.{gathering_view, with_statement, objects_view, gathered};
-ghost use Rattle.first_form.specs.Orders.{is_inclusion as includes, part as part_of, statement_by, statements_by, inclusion_by, first_number as first_in};
+ghost use Rattle.first_form.specs.Orders.{part as part_of, statement_by, statements_by, inclusion_by, first_number as first_in};
 
 use crate::form_error::FormError;
 use crate::gathering::{FirstSite, Gathering};
-use dsl_syntax::{File, Stmt, StmtKind};
+use dsl_syntax::{File, Stmt};
 use std::alloc::Global;
+use walk_order::is_inclusion;
 
 /// The root and the files below it: 50 inclusions may stand in one another.
 const MOST_FILES: u32 = 51;
 
-/// The objects of walked files, where these are of the first form. The order is that of the walk.
+/// The objects of walked files, where these are of the first form. The order is that of their walk.
 #[tactic(auto, using(crate::proofs::GatheringLaws::gathers))]
 pub fn first_site(alloc: Global, trees: &[File], order: &[u32]) -> Result<FirstSite, FormError>
+    requires { IsOrder (map file_view trees.now) order.now }
     ensures value { Gives objects_view result (first_site_of (map file_view trees.now) order.now) }
     ensures fits { IfOk result (λ s. fits (objects_view s) ≡ true) }
 {
@@ -53,8 +56,9 @@ fn part<'a>(
     if depth == 0 {
         return Err(FormError::OtherForm);
     }
+    let (_, own) = first_number(order)?;
     match trees.get(index as usize) {
-        Some(file) => statements(alloc, site, trees, depth - 1, &file.statements, order),
+        Some(file) => statements(alloc, site, trees, depth - 1, &file.statements, own),
         None => Err(FormError::OtherForm),
     }
 }
@@ -124,13 +128,4 @@ fn first_number(order: &[u32]) -> Result<(u32, &[u32]), FormError>
         [first, rest @ ..] => Ok((*first, rest)),
         [] => Err(FormError::OtherForm),
     }
-}
-
-fn is_inclusion(statement: &Stmt) -> bool
-    ensures { result ≡ includes (stmt_kind_view statement.now.kind) }
-{
-    matches!(
-        statement.kind,
-        StmtKind::Include { .. } | StmtKind::IncludeLib { .. } | StmtKind::IncludeAll { .. }
-    )
 }
