@@ -1,0 +1,4 @@
+pub mod Orders
+pub mod Moves
+pub mod HostAndService
+pub mod LineAndReport
