@@ -1,0 +1,10 @@
+pub mod ArgumentLaws
+pub mod CutLaws
+pub mod LookupLaws
+pub mod MacroLaws
+pub mod MadeLaws
+pub mod OrderLaws
+pub mod PieceLaws
+pub mod SignLaws
+pub mod TreeViews
+pub mod WalkLaws

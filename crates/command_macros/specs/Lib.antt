@@ -1,0 +1,14 @@
+pub mod Arguments
+pub mod Cuts
+pub mod Lookups
+pub mod Macros
+pub mod Made
+pub mod Orders
+pub mod Pieces
+pub mod Resolved
+pub mod Returns
+pub mod Scopes
+pub mod Sorted
+pub mod Truth
+pub mod Values
+pub mod Walk

@@ -1,0 +1,21 @@
+//! The words of a check's command: what its macros stand for, and which of its arguments it gets.
+//!
+//! In reading order: what can go wrong; where macros are looked up (`scope`, `lookups`), what a text or a value becomes of
+//! them (`texts`), which arguments are kept (`truth`), their order (`orders`), their words (`values`, `arguments`), and
+//! the command as a whole (`commands`).
+#![tactic(auto)]
+
+mod arguments;
+mod commands;
+mod cutting;
+mod lookups;
+mod macro_error;
+mod orders;
+mod scope;
+mod stop;
+mod texts;
+mod truth;
+mod values;
+
+pub use commands::resolve;
+pub use macro_error::MacroError;
