@@ -1,7 +1,8 @@
 // What files make of a root and a script, before the first turn is run.
 ghost use Rattle.std.specs.Prelude.{◌≡◌, ◌≤◌, [], map, IfOk, IsErrOf, Some, ◌≢◌, Err};
 ghost use Rattle.dsl_syntax.specs.SyntaxView.{file_view};
-ghost use Rattle.site_conf.specs.Sound.{IsWhole};
+ghost use Rattle.walk_order.specs.Orders.{IsOrder};
+ghost use Rattle.site_conf.specs.Sound.{IsWhole, IsOrdered};
 ghost use Rattle.site_conf.specs.Views.{answer_view};
 ghost use Rattle.site_conf.specs.Walks.{Told};
 ghost use Rattle.site_edge.specs.Told.{Rose};
@@ -47,7 +48,8 @@ pub fn plan<F: Files>(
 
 /// The site of walked files, or what is told in its place.
 fn found(alloc: Global, root: &str, walked: WalkAnswer) -> Result<Found, OutOfMemory>
-    requires { IsWhole walked }
+    requires whole { IsWhole walked }
+    requires ordered { IsOrdered walked }
     ensures { IfOk result (λ f. found_view f ≡ found_in root.now (answer_view walked)) }
 {
     match walked {
@@ -64,6 +66,7 @@ fn found_of(
     trees: &[File],
     order: &[u32],
 ) -> Result<Found, OutOfMemory>
+    requires { IsOrder (map file_view trees.now) order.now }
     ensures { IfOk result (λ f. found_view f ≡ found_by root.now names (first_site_of (map file_view trees.now) order.now)) }
 {
     match first_site(alloc, trees, order) {

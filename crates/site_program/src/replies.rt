@@ -2,7 +2,8 @@
 ghost use Rattle.std.specs.Prelude.{◌≡◌, ◌++◌, map, length, IfOk, OnOk};
 ghost use Rattle.dsl_syntax.specs.SyntaxView.{file_view};
 ghost use Rattle.site_text.specs.Listing.{object_line};
-ghost use Rattle.site_conf.specs.Sound.{AreIn, IsWhole};
+ghost use Rattle.walk_order.specs.Orders.{IsOrder};
+ghost use Rattle.site_conf.specs.Sound.{AreIn, IsWhole, IsOrdered};
 ghost use Rattle.site_conf.specs.Views.{answer_view};
 ghost use Rattle.site_program.specs.Replies.{reply_view, reply_to, reply_to_site, diagnoses as diagnoses_of, listing as listing_of, not_yet as not_yet_of, no_script as no_script_of, bad_script as bad_script_of, fault_at as fault_of};
 ghost use Rattle.first_form.specs.FirstSites.{first_site as first_site_of};
@@ -25,7 +26,8 @@ pub struct Reply {
 
 /// What answers to a walk from the root.
 pub fn reply_to_walk(alloc: Global, root: &str, walked: WalkAnswer) -> Result<Reply, OutOfMemory>
-    requires { IsWhole walked }
+    requires whole { IsWhole walked }
+    requires ordered { IsOrdered walked }
     ensures { IfOk result (λ r. reply_view r ≡ reply_to root.now (answer_view walked)) }
 {
     match walked {
@@ -41,6 +43,7 @@ fn reply_to_trees(
     trees: &[File],
     order: &[u32],
 ) -> Result<Reply, OutOfMemory>
+    requires { IsOrder (map file_view trees.now) order.now }
     ensures { IfOk result (λ r. reply_view r ≡ reply_to_site root.now (first_site_of (map file_view trees.now) order.now)) }
 {
     match first_site(alloc, trees, order) {

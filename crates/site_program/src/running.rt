@@ -1,7 +1,7 @@
 // The whole run, with one worker.
 ghost use Rattle.std.specs.Prelude.{◌≡◌, ◌≢◌, ◌↔◌, None, Some, IsSome, IfSome};
 ghost use Rattle.site_edge.specs.Told.{Rose};
-ghost use Rattle.site_conf.specs.Sound.{IsWhole};
+ghost use Rattle.site_conf.specs.Sound.{IsWhole, IsOrdered};
 ghost use Rattle.site_conf.specs.Views.{answer_view};
 ghost use Rattle.site_program.specs.Replies.{reply_to};
 ghost use Rattle.site_program.specs.Tasks.{task_of as task_in, task_view, objects};
@@ -88,7 +88,8 @@ fn list_objects<F: Files, S: Sink>(alloc: Global, root: &str, files: &mut F, out
 
 /// Writes what answers to a walk from the root.
 fn write_listing<S: Sink>(alloc: Global, root: &str, walked: WalkAnswer, out: &mut S) -> Status
-    requires { IsWhole walked }
+    requires whole { IsWhole walked }
+    requires ordered { IsOrdered walked }
     ensures no_read_fault { result ≢ Status.ReadFault }
     ensures written { Ends result (reply_to root.now (answer_view walked)) (S.written out.old) (S.written out.new) }
     ensures write_fault { result ≡ Status.WriteFault → Rose (S.faults out.old) (S.faults out.new) }
