@@ -35,6 +35,10 @@ impl Model for SentBook {
 impl SentBook {
     /// The book of a checkable without entries. It takes the room for every user of its notifications, so that no later
     /// call takes memory.
+    ///
+    /// # Errors
+    ///
+    /// `OutOfMemory` where there is none for that room.
     pub fn new(alloc: Global, site: &Site, checkable: u32) -> Result<SentBook, OutOfMemory>
         requires checkable { checkable < length site.now.checkables }
         requires notifies { length site.now.notifies < 2 ^ 32 }
