@@ -1,0 +1,75 @@
+// Lines of entries, read and printed again.
+ghost use Rattle.std.specs.Prelude.{◌≡◌};
+ghost use Rattle.site_model.specs.PlainSite.{site_view};
+ghost use Rattle.log_text.specs.SiteNames.{names_of, names_view};
+
+use crate::telling::push_entry;
+use case_marks::{push_marked, push_unmarked};
+use log_text::{EntryError, SiteNames, print_entry_two, read_entry, read_entry_two};
+use site_base::{OutOfMemory, Text};
+use site_model::Site;
+use site_text::print_entry;
+use std::alloc::Global;
+
+/// Adds what a line of version one tells, and whether that is printed as this line.
+pub(crate) fn push_one(
+    alloc: Global,
+    out: &mut Text,
+    text: &str,
+    site: &Site,
+    names: &SiteNames<'_>,
+) -> Result<(), OutOfMemory>
+    requires { names_view names.now ≡ names_of (site_view site.now) }
+{
+    let line = unmarked(alloc, text)?;
+    match read_entry(alloc, line.as_str(), names) {
+        Ok((checkable, entry)) => {
+            push_entry(out, checkable, &entry)?;
+            let printed = print_entry(alloc, &entry, checkable, site)?;
+            push_printed(out, line.as_str(), printed.as_str())
+        }
+        Err(error) => push_error(out, error),
+    }
+}
+
+/// The same of version two.
+pub(crate) fn push_two(
+    alloc: Global,
+    out: &mut Text,
+    text: &str,
+    site: &Site,
+    names: &SiteNames<'_>,
+) -> Result<(), OutOfMemory>
+    requires { names_view names.now ≡ names_of (site_view site.now) }
+{
+    let line = unmarked(alloc, text)?;
+    match read_entry_two(alloc, line.as_str(), names) {
+        Ok((checkable, entry)) => {
+            push_entry(out, checkable, &entry)?;
+            let printed = print_entry_two(alloc, &entry, checkable, site)?;
+            push_printed(out, line.as_str(), printed.as_str())
+        }
+        Err(error) => push_error(out, error),
+    }
+}
+
+fn unmarked(alloc: Global, text: &str) -> Result<Text, OutOfMemory> {
+    let mut line = Text::new(alloc);
+    push_unmarked(&mut line, text)?;
+    Ok(line)
+}
+
+fn push_printed(out: &mut Text, line: &str, printed: &str) -> Result<(), OutOfMemory> {
+    if printed == line {
+        return out.push_str("; printed so");
+    }
+    out.push_str("; printed as ")?;
+    push_marked(out, printed)
+}
+
+fn push_error(out: &mut Text, error: EntryError) -> Result<(), OutOfMemory> {
+    match error {
+        EntryError::BadLine => out.push_str("bad line"),
+        EntryError::OutOfMemory => Err(OutOfMemory),
+    }
+}

@@ -1,0 +1,77 @@
+// The lines that are of no entry.
+use case_marks::push_marked;
+use log_text::{print_missing, print_order, print_order_two, print_turn, version_line};
+use site_base::{Moment, OutOfMemory, Row, Text};
+use site_model::Site;
+use std::alloc::Global;
+use std::str::SplitWhitespace;
+
+/// Adds the line that a row asks for: that of a turn or of an order, in each version.
+pub(crate) fn push_line(
+    alloc: Global,
+    out: &mut Text,
+    word: &str,
+    text: &str,
+    site: &Site,
+) -> Result<(), OutOfMemory> {
+    let mut words = text.split_whitespace();
+    match word {
+        "version" => push_marked(out, version_line()),
+        "turn" => push_turn(alloc, out, &mut words),
+        "order" | "missing" => push_order(alloc, out, word == "order", &mut words, site),
+        _ => out.push_str("no such word"),
+    }
+}
+
+fn number(words: &mut SplitWhitespace<'_>) -> Option<u64> {
+    words.next()?.parse::<u64>().ok()
+}
+
+fn place(words: &mut SplitWhitespace<'_>) -> Option<u32> {
+    words.next()?.parse::<u32>().ok()
+}
+
+fn push_turn(
+    alloc: Global,
+    out: &mut Text,
+    words: &mut SplitWhitespace<'_>,
+) -> Result<(), OutOfMemory> {
+    let (Some(turn), Some(secs)) = (number(words), number(words)) else {
+        return out.push_str("no such turn");
+    };
+    let Some(moment) = Moment::of(secs) else {
+        return out.push_str("no such moment");
+    };
+    push_marked(out, print_turn(alloc, turn, moment)?.as_str())
+}
+
+/// Adds an order with the words of its command, in both versions, or with the missing macro.
+fn push_order(
+    alloc: Global,
+    out: &mut Text,
+    has_words: bool,
+    words: &mut SplitWhitespace<'_>,
+    site: &Site,
+) -> Result<(), OutOfMemory> {
+    let (Some(order), Some(checkable)) = (number(words), place(words)) else {
+        return out.push_str("no such order");
+    };
+    if checkable as usize >= site.checkables.len() {
+        return out.push_str("no such checkable");
+    }
+    if !has_words {
+        let name = words.next().unwrap_or("");
+        return push_marked(
+            out,
+            print_missing(alloc, order, checkable, name, site)?.as_str(),
+        );
+    }
+    let mut command = Row::new(alloc);
+    for word in words {
+        command.push(Text::copy_of(alloc, word)?)?;
+    }
+    push_marked(out, print_order(alloc, order, checkable, site)?.as_str())?;
+    out.push_str("  and  ")?;
+    let two = print_order_two(alloc, order, checkable, command.as_slice(), site)?;
+    push_marked(out, two.as_str())
+}

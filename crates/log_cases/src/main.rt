@@ -1,0 +1,48 @@
+//! Reads rows from standard input, and writes each with what lines of logs tell, or what is written for it.
+//!
+//! A row is a word and what it asks of (the head of the file `stdin` says which words there are). Empty lines and
+//! those that begin with `#` are written as they are, so that line N of the output is of line N of the input.
+#![tactic(auto)]
+
+ghost use Rattle.std.specs.Prelude.{◌≡◌};
+ghost use Rattle.site_model.specs.PlainSite.{site_view};
+ghost use Rattle.log_text.specs.SiteNames.{names_of, names_view};
+
+mod entries;
+mod lines;
+mod site;
+mod telling;
+
+use log_text::SiteNames;
+use site_base::{OutOfMemory, Text};
+use site_model::Site;
+use std::alloc::Global;
+use std::io::{BufRead, BufReader};
+
+fn main(rt: HostRuntime) -> anyhow::Result<()> {
+    let site = site::site(rt.alloc())?;
+    let names = SiteNames::of(rt.alloc(), &site)?;
+    for line in BufReader::new(rt.alloc(), rt.reader())?.lines(rt.alloc()) {
+        let told = told(rt.alloc(), line?.as_str(), &site, &names)?;
+        println!(rt; "{}", told.as_str())?;
+    }
+    Ok(())
+}
+
+/// The line, with the answer behind it if it is a row.
+fn told(alloc: Global, line: &str, site: &Site, names: &SiteNames<'_>) -> Result<Text, OutOfMemory>
+    requires { names_view names.now ≡ names_of (site_view site.now) }
+{
+    let mut out = Text::copy_of(alloc, line)?;
+    if line.is_empty() || line.starts_with('#') {
+        return Ok(out);
+    }
+    out.push_str("  →  ")?;
+    let (word, text) = line.split_once(' ').unwrap_or((line, ""));
+    match word {
+        "one" => entries::push_one(alloc, &mut out, text, site, names)?,
+        "two" => entries::push_two(alloc, &mut out, text, site, names)?,
+        _ => lines::push_line(alloc, &mut out, word, text, site)?,
+    }
+    Ok(out)
+}
