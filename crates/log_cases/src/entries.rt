@@ -4,7 +4,7 @@ ghost use Rattle.site_model.specs.PlainSite.{site_view};
 ghost use Rattle.log_text.specs.SiteNames.{names_of, names_view};
 
 use crate::telling::push_entry;
-use case_marks::{push_marked, push_unmarked};
+use case_rows::{push_marked, unmarked};
 use log_text::{EntryError, SiteNames, print_entry_two, read_entry, read_entry_two};
 use site_base::{OutOfMemory, Text};
 use site_model::Site;
@@ -51,12 +51,6 @@ pub(crate) fn push_two(
         }
         Err(error) => push_error(out, error),
     }
-}
-
-fn unmarked(alloc: Global, text: &str) -> Result<Text, OutOfMemory> {
-    let mut line = Text::new(alloc);
-    push_unmarked(&mut line, text)?;
-    Ok(line)
 }
 
 fn push_printed(out: &mut Text, line: &str, printed: &str) -> Result<(), OutOfMemory> {

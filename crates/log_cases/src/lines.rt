@@ -1,5 +1,5 @@
 // The lines that are of no entry.
-use case_marks::push_marked;
+use case_rows::push_marked;
 use log_text::{print_missing, print_order, print_order_two, print_turn, version_line};
 use site_base::{Moment, OutOfMemory, Row, Text};
 use site_model::Site;

@@ -13,6 +13,7 @@ mod lines;
 mod site;
 mod telling;
 
+use case_rows::{ANSWER, is_row};
 use log_text::SiteNames;
 use site_base::{OutOfMemory, Text};
 use site_model::Site;
@@ -34,10 +35,10 @@ fn told(alloc: Global, line: &str, site: &Site, names: &SiteNames<'_>) -> Result
     requires { names_view names.now ≡ names_of (site_view site.now) }
 {
     let mut out = Text::copy_of(alloc, line)?;
-    if line.is_empty() || line.starts_with('#') {
+    if !is_row(line) {
         return Ok(out);
     }
-    out.push_str("  →  ")?;
+    out.push_str(ANSWER)?;
     let (word, text) = line.split_once(' ').unwrap_or((line, ""));
     match word {
         "one" => entries::push_one(alloc, &mut out, text, site, names)?,

@@ -7,6 +7,7 @@
 mod rows;
 mod steps;
 
+use case_rows::{ANSWER, is_row};
 use site_base::{OutOfMemory, Text};
 use std::alloc::Global;
 use std::io::{BufRead, BufReader};
@@ -22,11 +23,10 @@ fn main(rt: HostRuntime) -> anyhow::Result<()> {
 /// The line, with the answers behind it if it is a row.
 fn told(alloc: Global, line: &str) -> Result<Text, OutOfMemory> {
     let mut out = Text::copy_of(alloc, line)?;
-    if line.is_empty() || line.starts_with('#') {
-        return Ok(out);
+    if is_row(line) {
+        let answers = rows::answers(alloc, &out)?;
+        out.push_str(ANSWER)?;
+        out.push_str(answers.as_str())?;
     }
-    let answers = rows::answers(alloc, &out)?;
-    out.push_str("  →  ")?;
-    out.push_str(answers.as_str())?;
     Ok(out)
 }
