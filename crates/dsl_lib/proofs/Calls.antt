@@ -1,8 +1,8 @@
 -- Calls that change nothing.
-use Rattle.std.proofs.Common.{◌≡◌, ◌+◌, ◌<◌, ◌^◌, [], ◌∷◌, length, Result, Ok, Err, refl, sym, ap, subst, arith, length-append, length-set}
+use Rattle.std.proofs.Common.{◌≡◌, ◌+◌, [], ◌∷◌, length, Result, Ok, Err, refl, sym, ap, subst, arith, length-append, length-set}
 use Rattle.dsl_value.specs.Contents.{Contents}
 use Rattle.dsl_value.specs.declared.value.Value.{Value}
-use Rattle.dsl_lib.specs.Answers.{Answer, gives, makes, writes, refuses, Gave, Returns, Answers, Keeps, HasRoom}
+use Rattle.dsl_lib.specs.Answers.{Answer, gives, makes, writes, refuses, Gave, Returns, Answers, Keeps}
 use Rattle.dsl_lib.specs.declared.lib_fault.LibFault.{LibFault}
 
 -- a call that changes nothing is a call on a store
@@ -23,10 +23,3 @@ gave_keeps old new (refuses e) v h = absurd h
 pub answers_keep : (old new : Contents) (a : Answer) (r : Result Value LibFault) → Answers old a r new → Keeps old new
 answers_keep old new a (Ok v) h = gave_keeps old new a v h
 answers_keep old new a (Err e) h = keeps_same old new h.1
-
--- a store with few cells has room for a new one
-pub room : (s : Contents) (a : Answer) → length s.cells + 1 < 2 ^ 32 → HasRoom s a
-room s (gives v) h = tt
-room s (makes c) h = h
-room s (writes k c) h = tt
-room s (refuses e) h = tt

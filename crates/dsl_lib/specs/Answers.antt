@@ -1,5 +1,5 @@
 -- What a call of the library answers, and what it does to the store.
-use Rattle.std.specs.Prelude.{◌≡◌, ◌<◌, ◌≤◌, ◌+◌, ◌==◌, ◌^◌, ℕ, nat_lt, [], ◌∷◌, ◌++◌, length, Option, Some, None, Result, Ok, Err, if◌then◌else◌}
+use Rattle.std.specs.Prelude.{◌≡◌, ◌≤◌, ◌==◌, ℕ, nat_lt, [], ◌∷◌, ◌++◌, length, Option, Some, None, Result, Ok, Err, if◌then◌else◌}
 use Rattle.dsl_value.specs.Contents.{Contents, PlainCell, with_cells, with_cell}
 use Rattle.dsl_value.specs.declared.value.Value.{Value}
 use Rattle.dsl_value.specs.declared.value.Value.TheVariants as value
@@ -57,13 +57,6 @@ Returns a (Err e) = Refused a e
 -- no cell or function is lost, and the base stays
 abbrev pub Keeps : Contents → Contents → Type 0
 Keeps old new = (length old.cells ≤ length new.cells) × (new.base ≡ old.base) × (new.functions ≡ old.functions)
-
--- there is a number for a new cell
-abbrev pub HasRoom : Contents → Answer → Type 0
-HasRoom s (gives v) = Unit {0}
-HasRoom s (makes c) = length s.cells + 1 < 2 ^ 32
-HasRoom s (writes k c) = Unit {0}
-HasRoom s (refuses e) = Unit {0}
 
 -- there is no such value, so its type is wrong, unless memory ran out
 abbrev pub IsWrong : {A : Type 0} → Option A → LibFault → Type 0

@@ -2,7 +2,7 @@
 ghost use Rattle.std.specs.Prelude.{IfOk, length};
 ghost use Rattle.std.specs.List.{AllByRecursion};
 ghost use Rattle.dsl_value.specs.Whole.{Names};
-ghost use Rattle.dsl_lib.specs.Answers.{Answers, HasRoom, Keeps};
+ghost use Rattle.dsl_lib.specs.Answers.{Answers, Keeps};
 ghost use Rattle.dsl_lib.specs.Library.{answer};
 
 use crate::{
@@ -31,7 +31,6 @@ pub fn call_plain(
     store: &mut Store,
 ) -> Result<Value, LibFault>
     requires stands { AllByRecursion (Names (length store.old.cells) (length store.old.functions)) args.now }
-    requires few { HasRoom store.old (answer name store.old args.now) }
     ensures answer { Answers store.old (answer name store.old args.now) result store.new }
     ensures keeps { Keeps store.old store.new }
     ensures stands { IfOk result (Names (length store.new.cells) (length store.new.functions)) }

@@ -2,7 +2,7 @@
 ghost use Rattle.std.specs.Prelude.{◌≡◌, ◌<◌, IfOk, map, length};
 ghost use Rattle.std.specs.List.{AllByRecursion};
 ghost use Rattle.dsl_value.specs.Whole.{Names};
-ghost use Rattle.dsl_lib.specs.Answers.{Returns, Answers, HasRoom};
+ghost use Rattle.dsl_lib.specs.Answers.{Returns, Answers};
 ghost use Rattle.dsl_lib.specs.Dicts.{key_of, value_of, keys as keys_answer, values as values_answer, len as len_answer, contains as contains_answer, get as get_answer, set as set_answer, remove as remove_answer};
 
 use crate::LibFault;
@@ -16,7 +16,6 @@ use std::alloc::Global;
 /// `keys(dictionary)` and `dictionary.keys()`: a new array of the keys.
 pub(crate) fn keys(alloc: Global, args: &[Value], store: &mut Store) -> Result<Value, LibFault>
     requires stands { AllByRecursion (Names (length store.old.cells) (length store.old.functions)) args.now }
-    requires few { HasRoom store.old (keys_answer store.old args.now) }
     ensures answer { Answers store.old (keys_answer store.old args.now) result store.new }
     ensures stands { IfOk result (Names (length store.new.cells) (length store.new.functions)) }
 {
@@ -37,7 +36,6 @@ fn key_values(alloc: Global, pairs: &[(Text, Value)]) -> Result<Row<Value>, OutO
 /// `dictionary.values()`: a new array of the values, in the order of their keys.
 pub(crate) fn values(alloc: Global, args: &[Value], store: &mut Store) -> Result<Value, LibFault>
     requires stands { AllByRecursion (Names (length store.old.cells) (length store.old.functions)) args.now }
-    requires few { HasRoom store.old (values_answer store.old args.now) }
     ensures answer { Answers store.old (values_answer store.old args.now) result store.new }
     ensures stands { IfOk result (Names (length store.new.cells) (length store.new.functions)) }
 {

@@ -1,7 +1,7 @@
 // Arrays of numbers.
 ghost use Rattle.std.specs.Prelude.{◌≡◌, ◌<◌, pos, ◌<ℤ◌, length, IfOk};
 ghost use Rattle.dsl_value.specs.Whole.{Names};
-ghost use Rattle.dsl_lib.specs.Answers.{Answers, HasRoom};
+ghost use Rattle.dsl_lib.specs.Answers.{Answers};
 ghost use Rattle.dsl_lib.specs.Sets.{numbers_below, ranged as ranged_answer, range as range_answer};
 
 use crate::LibFault;
@@ -13,7 +13,6 @@ use std::alloc::Global;
 /// `range(end)`, `range(start, end)`, `range(start, end, step)`: a new array of the numbers from 0 or the
 /// start, below the end, by 1 or the step, which has to be above 0.
 pub(crate) fn range(alloc: Global, args: &[Value], store: &mut Store) -> Result<Value, LibFault>
-    requires { HasRoom store.old (range_answer args.now) }
     ensures answer { Answers store.old (range_answer args.now) result store.new }
     ensures stands { IfOk result (Names (length store.new.cells) (length store.new.functions)) }
 {
@@ -32,7 +31,6 @@ fn ranged(
     step: Num,
     store: &mut Store,
 ) -> Result<Value, LibFault>
-    requires { HasRoom store.old (ranged_answer start end step) }
     ensures { Answers store.old (ranged_answer start end step) result store.new }
 {
     if step.thousandths() <= 0 {

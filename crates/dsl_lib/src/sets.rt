@@ -3,7 +3,7 @@ ghost use Rattle.std.specs.Prelude.{◌≡◌, ◌<◌, List, [], filter, length
 ghost use Rattle.std.specs.List.{AllByRecursion, flat_map};
 ghost use Rattle.dsl_value.specs.Whole.{Names};
 ghost use Rattle.dsl_value.specs.declared.value.Value.{Value};
-ghost use Rattle.dsl_lib.specs.Answers.{Answers, HasRoom, IsWrong};
+ghost use Rattle.dsl_lib.specs.Answers.{Answers, IsWrong};
 ghost use Rattle.dsl_lib.specs.Arguments.{items_in};
 ghost use Rattle.dsl_lib.specs.Arrays.{all_in};
 ghost use Rattle.dsl_lib.specs.Sets.{with_distinct, distinct, union as union_answer, is_common, intersection as intersection_answer};
@@ -18,7 +18,6 @@ use std::alloc::Global;
 /// `union(array, ..)`: a new array of the distinct elements, in the order in which each first comes.
 pub(crate) fn union(alloc: Global, args: &[Value], store: &mut Store) -> Result<Value, LibFault>
     requires stands { AllByRecursion (Names (length store.old.cells) (length store.old.functions)) args.now }
-    requires few { HasRoom store.old (union_answer store.old args.now) }
     ensures answer { Answers store.old (union_answer store.old args.now) result store.new }
     ensures stands { IfOk result (Names (length store.new.cells) (length store.new.functions)) }
 {
@@ -76,7 +75,6 @@ pub(crate) fn intersection(
     store: &mut Store,
 ) -> Result<Value, LibFault>
     requires stands { AllByRecursion (Names (length store.old.cells) (length store.old.functions)) args.now }
-    requires few { HasRoom store.old (intersection_answer store.old args.now) }
     ensures answer { Answers store.old (intersection_answer store.old args.now) result store.new }
     ensures stands { IfOk result (Names (length store.new.cells) (length store.new.functions)) }
 {

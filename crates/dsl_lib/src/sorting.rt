@@ -5,7 +5,7 @@ ghost use Rattle.std.specs.Ordering.{int_cmp};
 ghost use Rattle.dsl_value.specs.Pairs.{key_cmp};
 ghost use Rattle.dsl_value.specs.Whole.{Names};
 ghost use Rattle.dsl_value.specs.declared.value.Value.TheVariants as value;
-ghost use Rattle.dsl_lib.specs.Answers.{Answers, HasRoom, IsWrong};
+ghost use Rattle.dsl_lib.specs.Answers.{Answers, IsWrong};
 ghost use Rattle.dsl_lib.specs.Arguments.{text_in, number_in};
 ghost use Rattle.dsl_lib.specs.Arrays.{all_in, sorted as sorted_list, sorted_values, sort as sort_answer};
 
@@ -18,7 +18,6 @@ use std::alloc::Global;
 /// `array.sort()`: a new array of all texts by their bytes, or of all numbers.
 pub(crate) fn sort(alloc: Global, args: &[Value], store: &mut Store) -> Result<Value, LibFault>
     requires stands { AllByRecursion (Names (length store.old.cells) (length store.old.functions)) args.now }
-    requires few { HasRoom store.old (sort_answer store.old args.now) }
     ensures answer { Answers store.old (sort_answer store.old args.now) result store.new }
     ensures stands { IfOk result (Names (length store.new.cells) (length store.new.functions)) }
 {

@@ -2,7 +2,7 @@
 ghost use Rattle.std.specs.Prelude.{◌≡◌, ◌<◌, length, map, IfOk};
 ghost use Rattle.dsl_value.specs.declared.value.Value.TheVariants as value;
 ghost use Rattle.dsl_value.specs.Whole.{Names};
-ghost use Rattle.dsl_lib.specs.Answers.{Answers, HasRoom};
+ghost use Rattle.dsl_lib.specs.Answers.{Answers};
 ghost use Rattle.dsl_lib.specs.Texts.{pieces as pieces_of, split as split_answer};
 
 use crate::LibFault;
@@ -16,7 +16,6 @@ use std::mem;
 /// `text.split(separators)`: a new array of the pieces between the separators, each of which is one
 /// character.
 pub(crate) fn split(alloc: Global, args: &[Value], store: &mut Store) -> Result<Value, LibFault>
-    requires { HasRoom store.old (split_answer args.now) }
     ensures answer { Answers store.old (split_answer args.now) result store.new }
     ensures stands { IfOk result (Names (length store.new.cells) (length store.new.functions)) }
 {

@@ -1,5 +1,5 @@
 -- What an operator gives: a value, a new cell, or a fault.
-use Rattle.std.specs.Prelude.{◌≡◌, ℕ, ◌+◌, ◌<◌, ◌^◌, [], ◌∷◌, ◌++◌, Option, Some, None, ℤ, Bool, Result, Ok, Err}
+use Rattle.std.specs.Prelude.{◌≡◌, ℕ, [], ◌∷◌, ◌++◌, Option, Some, None, ℤ, Bool, Result, Ok, Err}
 use Rattle.std.specs.List.{AllByRecursion}
 use Rattle.dsl_value.specs.Pairs.{dict_of}
 use Rattle.dsl_value.specs.Contents.{PlainCell, array, dict, Contents, with_cells}
@@ -37,12 +37,6 @@ abbrev pub answer : ℕ → Outcome → Result Value OpFault
 answer count (gives v) = Ok v
 answer count (makes c) = Ok (value.Ref count)
 answer count (faults e) = Err e
-
--- there is room for the new cell
-abbrev pub HasRoom : ℕ → Outcome → Type 0
-HasRoom count (gives v) = Unit {0}
-HasRoom count (makes c) = count + 1 < 2 ^ 32
-HasRoom count (faults e) = Unit {0}
 
 -- a result is this one, unless memory ran out
 abbrev pub IsUnlessMemory : Result Value OpFault → Result Value OpFault → Type 0

@@ -2,7 +2,7 @@
 ghost use Rattle.std.specs.Prelude.{◌≡◌, ◌<◌, ◌^◌, length, IfOk, OnOk, OnErr, ℕ, ℤ, Bool, List, T, if◌then◌else◌};
 ghost use Rattle.dsl_value.specs.Whole.{Names};
 ghost use Rattle.dsl_ops.specs.Operands.{operand};
-ghost use Rattle.dsl_ops.specs.Outcomes.{Gives, StandsMade, gives, after, answer, HasRoom, IsUnlessMemory};
+ghost use Rattle.dsl_ops.specs.Outcomes.{Gives, StandsMade, gives, after, answer, IsUnlessMemory};
 ghost use Rattle.dsl_ops.specs.Table.{binary_outcome, merged, without};
 ghost use Rattle.dsl_ops.specs.Laws.{IsMerged, IsWithout, IsRoundedDown};
 ghost use Rattle.std.specs.Int.{int_shr};
@@ -38,7 +38,6 @@ pub fn binary(
 ) -> Result<Value, OpFault>
     requires left { Names (length store.old.cells) (length store.old.functions) left.now }
     requires right { Names (length store.old.cells) (length store.old.functions) right.now }
-    requires few { HasRoom (length store.old.cells) (binary_outcome store.old.cells op left.now right.now) }
     ensures answer { IsUnlessMemory result (answer (length store.old.cells) (binary_outcome store.old.cells op left.now right.now)) }
     ensures names { IfOk result (Names (length store.new.cells) (length store.new.functions)) }
     ensures ok { OnOk result (store.new ≡ after store.old (binary_outcome store.old.cells op left.now right.now)) }

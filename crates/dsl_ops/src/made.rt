@@ -1,7 +1,7 @@
 // What operators make.
 ghost use Rattle.std.specs.Prelude.{◌≡◌, ◌<◌, length, IfOk, OnOk, OnErr, Ok, ℕ};
 ghost use Rattle.dsl_value.specs.Whole.{Names};
-ghost use Rattle.dsl_ops.specs.Outcomes.{Gives, StandsMade, outcome_of, after, answer, HasRoom, number_returned, truth_returned};
+ghost use Rattle.dsl_ops.specs.Outcomes.{Gives, StandsMade, outcome_of, after, answer, number_returned, truth_returned};
 
 use crate::OpFault;
 use dsl_value::{Store, Value};
@@ -18,7 +18,6 @@ pub(crate) enum Made {
 /// The value that was made. A new array or dictionary goes into the store.
 pub(crate) fn put_in(made: Made, store: &mut Store) -> Result<Value, OutOfMemory>
     requires stands { StandsMade (length store.old.cells) (length store.old.functions) made }
-    requires few { HasRoom (length store.old.cells) (outcome_of made) }
     ensures value { IfOk result (λ v. answer (length store.old.cells) (outcome_of made) ≡ Ok v) }
     ensures names { IfOk result (Names (length store.new.cells) (length store.new.functions)) }
     ensures ok { OnOk result (store.new ≡ after store.old (outcome_of made)) }

@@ -7,10 +7,11 @@ use Rattle.std.proofs.Math.Seq.{get_or-append_seam}
 use Rattle.std.proofs.lemmas.List.{get_or_append_left, get_or-append-add, get_or-append_right}
 use Rattle.std.proofs.lemmas.Bool.Decides.{nat_tests}
 use Rattle.site_base.specs.Data.{Data, null, boolean, number, string, list, dict, Items, no_items, item, Pairs as TreePairs, no_pairs, pair}
+use Rattle.site_base.specs.Lawful.{Leads, AreRising, IsLawful, AreLawful, HaveLawful}
 use Rattle.site_base.specs.View.{items_of, pairs_of}
 use Rattle.dsl_value.specs.Contents.{PlainCell, array, dict as pairs_cell, cell_at}
 use Rattle.dsl_value.specs.Pairs.{Pairs, key_cmp, dict_of, is_sorted}
-use Rattle.dsl_value.specs.Loads.{Made, load, load_items, load_pairs, cost, items_cost, pairs_cost, is_before, is_tidy, items_tidy, pairs_tidy, Fits, grown, given}
+use Rattle.dsl_value.specs.Loads.{Made, load, load_items, load_pairs, cost, items_cost, pairs_cost, Fits, grown, given}
 use Rattle.dsl_value.specs.Walks.{most, Walk, walked, stopped, ◌>>=◌, charged, values_walked, pairs_walked, cell_walked, is_open, value_walked, walk, outcome, tree_walked}
 use Rattle.dsl_value.specs.declared.value.Value.{Value}
 use Rattle.dsl_value.specs.declared.value.Value.TheVariants as value
@@ -19,7 +20,7 @@ use Rattle.dsl_value.specs.declared.tree_fault.TreeFault.TheVariants.{Cyclic}
 use Rattle.dsl_value.proofs.Kept.{all_more}
 use Rattle.dsl_value.proofs.Named.{one_longer, load_stands}
 use Rattle.dsl_value.specs.Whole.{Stands}
-use Rattle.dsl_value.proofs.Rising.{both, first, second, dict_of_sorted}
+use Rattle.dsl_value.proofs.Rising.{both, dict_of_sorted}
 use Rattle.dsl_value.proofs.Steps.{a_level, charged_within}
 
 -- elements and pairs of a plain tree, as lists
@@ -39,17 +40,17 @@ pairs_again : (ps : TreePairs) → pairs_of (pair_datas ps) ≡ ps
 pairs_again no_pairs = refl
 pairs_again (pair k d ps) = ap (pair k d) (pairs_again ps)
 
--- the keys of a tidy tree's dictionary rise in the cell too
-before_all : (key : List ℕ) (ps : TreePairs) (n : ℕ) → T (is_before key ps) → T (entries.below_all key_cmp key (load_pairs ps n).value)
+-- the keys of a lawful tree's dictionary rise in the cell too
+before_all : (key : List ℕ) (ps : TreePairs) (n : ℕ) → Leads key ps → T (entries.below_all key_cmp key (load_pairs ps n).value)
 before_all key no_pairs n h = tt
-before_all key (pair k d ps) n h = both (is_lt (key_cmp key k)) _ (first (is_lt (key_cmp key k)) _ h) (before_all key ps (n + length (load d n).cells) (second (is_lt (key_cmp key k)) _ h))
+before_all key (pair k d ps) n h = both (is_lt (key_cmp key k)) _ (subst (λ o. T (is_lt o)) (sym h.0) tt) (before_all key ps (n + length (load d n).cells) h.1)
 
-keys_rise : (ps : TreePairs) (n : ℕ) → T (pairs_tidy ps) → T (is_sorted (load_pairs ps n).value)
+keys_rise : (ps : TreePairs) (n : ℕ) → AreRising ps → T (is_sorted (load_pairs ps n).value)
 keys_rise no_pairs n h = tt
 keys_rise (pair k d ps) n h =
     both (entries.below_all key_cmp k (load_pairs ps (n + length (load d n).cells)).value) _
-    (before_all k ps (n + length (load d n).cells) (first (is_before k ps) _ h))
-    (keys_rise ps (n + length (load d n).cells) (second (is_tidy d) _ (second (is_before k ps) _ h)))
+    (before_all k ps (n + length (load d n).cells) h.0)
+    (keys_rise ps (n + length (load d n).cells) h.1)
 
 apart : (o k : ℕ) → k < o → (o == k) ≡ false
 apart o k lt = grind (arith, nat_tests)
@@ -112,53 +113,52 @@ module _ (cs : List PlainCell) where
       all_more (λ o. n + length (xs ++ ys) ≤ o) (λ o. (n + length xs) + length ys ≤ o) (λ o p. omega (arith, p, e)) open_cells a
 
   mutual
-    back : (d : Data) (levels n c : ℕ) (open_cells : List ℕ) → T (is_tidy d) → cost d < levels → c + cost d ≤ most → Holds n (load d n).cells → AllByRecursion (λ o. n + length (load d n).cells ≤ o) open_cells
+    back : (d : Data) (levels n c : ℕ) (open_cells : List ℕ) → IsLawful d → cost d < levels → c + cost d ≤ most → Holds n (load d n).cells → AllByRecursion (λ o. n + length (load d n).cells ≤ o) open_cells
         → walk levels cs open_cells (load d n).value c ≡ walked d (c + cost d)
-    back null levels n c open_cells tidy deep le h a = a_level levels cs open_cells value.Null c (omega (arith, deep)) ∙ ap (walked null) (omega arith)
-    back (boolean b) levels n c open_cells tidy deep le h a = a_level levels cs open_cells (value.Bool b) c (omega (arith, deep)) ∙ ap (walked (boolean b)) (omega arith)
-    back (number z) levels n c open_cells tidy deep le h a = a_level levels cs open_cells (value.Number z) c (omega (arith, deep)) ∙ ap (walked (number z)) (omega arith)
-    back (string t) levels n c open_cells tidy deep le h a =
+    back null levels n c open_cells lawful deep le h a = a_level levels cs open_cells value.Null c (omega (arith, deep)) ∙ ap (walked null) (omega arith)
+    back (boolean b) levels n c open_cells lawful deep le h a = a_level levels cs open_cells (value.Bool b) c (omega (arith, deep)) ∙ ap (walked (boolean b)) (omega arith)
+    back (number z) levels n c open_cells lawful deep le h a = a_level levels cs open_cells (value.Number z) c (omega (arith, deep)) ∙ ap (walked (number z)) (omega arith)
+    back (string t) levels n c open_cells lawful deep le h a =
         a_level levels cs open_cells (value.Str t) c (omega (arith, deep)) ∙ charged_within (c + length t) (λ c1. walked (string t) c1) le
-    back (list ds) levels n c open_cells tidy deep le h a =
+    back (list ds) levels n c open_cells lawful deep le h a =
         let made = load_items ds n in
         into_cell levels n c open_cells made.cells (array made.value) (omega (arith, deep)) (omega (arith, le)) h a
         ∙ ap (λ w. w >>= λ es c1. walked (list (items_of es)) c1)
-        (items_back ds (levels - 1) n (c + 1) ((n + length made.cells) ∷ open_cells) tidy (omega (arith, deep)) (omega (arith, le)) (holds_left n made.cells (array made.value ∷ []) h) (open_inside n made.cells (array made.value) open_cells a))
+        (items_back ds (levels - 1) n (c + 1) ((n + length made.cells) ∷ open_cells) lawful (omega (arith, deep)) (omega (arith, le)) (holds_left n made.cells (array made.value ∷ []) h) (open_inside n made.cells (array made.value) open_cells a))
         ∙ ap (λ es. walked (list es) ((c + 1) + items_cost ds)) (items_again ds) ∙ ap (walked (list ds)) (omega arith)
-    back (dict ps) levels n c open_cells tidy deep le h a =
+    back (dict ps) levels n c open_cells lawful deep le h a =
         let made = load_pairs ps n in
         let cell = pairs_cell (dict_of made.value []) in
         into_cell levels n c open_cells made.cells cell (omega (arith, deep)) (omega (arith, le)) h a
-        ∙ ap (λ qs. pairs_walked (walk (levels - 1) cs ((n + length made.cells) ∷ open_cells)) qs (c + 1) >>= λ es c1. walked (dict (pairs_of es)) c1) (dict_of_sorted made.value (keys_rise ps n tidy))
+        ∙ ap (λ qs. pairs_walked (walk (levels - 1) cs ((n + length made.cells) ∷ open_cells)) qs (c + 1) >>= λ es c1. walked (dict (pairs_of es)) c1) (dict_of_sorted made.value (keys_rise ps n lawful.0))
         ∙ ap (λ w. w >>= λ es c1. walked (dict (pairs_of es)) c1)
-        (pairs_back ps (levels - 1) n (c + 1) ((n + length made.cells) ∷ open_cells) tidy (omega (arith, deep)) (omega (arith, le)) (holds_left n made.cells (cell ∷ []) h) (open_inside n made.cells cell open_cells a))
+        (pairs_back ps (levels - 1) n (c + 1) ((n + length made.cells) ∷ open_cells) lawful.1 (omega (arith, deep)) (omega (arith, le)) (holds_left n made.cells (cell ∷ []) h) (open_inside n made.cells cell open_cells a))
         ∙ ap (λ es. walked (dict es) ((c + 1) + pairs_cost ps)) (pairs_again ps) ∙ ap (walked (dict ps)) (omega arith)
 
-    items_back : (ds : Items) (levels n c : ℕ) (open_cells : List ℕ) → T (items_tidy ds) → items_cost ds < levels → c + items_cost ds ≤ most → Holds n (load_items ds n).cells → AllByRecursion (λ o. n + length (load_items ds n).cells ≤ o) open_cells
+    items_back : (ds : Items) (levels n c : ℕ) (open_cells : List ℕ) → AreLawful ds → items_cost ds < levels → c + items_cost ds ≤ most → Holds n (load_items ds n).cells → AllByRecursion (λ o. n + length (load_items ds n).cells ≤ o) open_cells
         → values_walked (walk levels cs open_cells) (load_items ds n).value c ≡ walked (datas ds) (c + items_cost ds)
-    items_back no_items levels n c open_cells tidy deep le h a = ap (walked []) (omega arith)
-    items_back (item d ds) levels n c open_cells tidy deep le h a =
+    items_back no_items levels n c open_cells lawful deep le h a = ap (walked []) (omega arith)
+    items_back (item d ds) levels n c open_cells lawful deep le h a =
         let made = load d n in
         let rest = load_items ds (n + length made.cells) in
         ap (λ w. w >>= λ e c2. (values_walked (walk levels cs open_cells) rest.value c2 >>= λ es c3. walked (e ∷ es) c3))
         (charged_within (c + 1) (λ c1. walk levels cs open_cells made.value c1) (omega (arith, le))
-        ∙ back d levels n (c + 1) open_cells (first (is_tidy d) _ tidy) (omega (arith, deep)) (omega (arith, le)) (holds_left n made.cells rest.cells h) (open_left n made.cells rest.cells open_cells a))
+        ∙ back d levels n (c + 1) open_cells lawful.0 (omega (arith, deep)) (omega (arith, le)) (holds_left n made.cells rest.cells h) (open_left n made.cells rest.cells open_cells a))
         ∙ ap (λ w. w >>= λ es c3. walked (d ∷ es) c3)
-        (items_back ds levels (n + length made.cells) ((c + 1) + cost d) open_cells (second (is_tidy d) _ tidy) (omega (arith, deep)) (omega (arith, le)) (holds_right n made.cells rest.cells h) (open_right n made.cells rest.cells open_cells a))
+        (items_back ds levels (n + length made.cells) ((c + 1) + cost d) open_cells lawful.1 (omega (arith, deep)) (omega (arith, le)) (holds_right n made.cells rest.cells h) (open_right n made.cells rest.cells open_cells a))
         ∙ ap (walked (d ∷ datas ds)) (omega arith)
 
-    pairs_back : (ps : TreePairs) (levels n c : ℕ) (open_cells : List ℕ) → T (pairs_tidy ps) → pairs_cost ps < levels → c + pairs_cost ps ≤ most → Holds n (load_pairs ps n).cells → AllByRecursion (λ o. n + length (load_pairs ps n).cells ≤ o) open_cells
+    pairs_back : (ps : TreePairs) (levels n c : ℕ) (open_cells : List ℕ) → HaveLawful ps → pairs_cost ps < levels → c + pairs_cost ps ≤ most → Holds n (load_pairs ps n).cells → AllByRecursion (λ o. n + length (load_pairs ps n).cells ≤ o) open_cells
         → pairs_walked (walk levels cs open_cells) (load_pairs ps n).value c ≡ walked (pair_datas ps) (c + pairs_cost ps)
-    pairs_back no_pairs levels n c open_cells tidy deep le h a = ap (walked []) (omega arith)
-    pairs_back (pair k d ps) levels n c open_cells tidy deep le h a =
+    pairs_back no_pairs levels n c open_cells lawful deep le h a = ap (walked []) (omega arith)
+    pairs_back (pair k d ps) levels n c open_cells lawful deep le h a =
         let made = load d n in
         let rest = load_pairs ps (n + length made.cells) in
-        let later = second (is_before k ps) _ tidy in
         ap (λ w. w >>= λ e c2. (pairs_walked (walk levels cs open_cells) rest.value c2 >>= λ es c3. walked ((k, e) ∷ es) c3))
         (charged_within (c + (1 + length k)) (λ c1. walk levels cs open_cells made.value c1) (omega (arith, le))
-        ∙ back d levels n (c + (1 + length k)) open_cells (first (is_tidy d) _ later) (omega (arith, deep)) (omega (arith, le)) (holds_left n made.cells rest.cells h) (open_left n made.cells rest.cells open_cells a))
+        ∙ back d levels n (c + (1 + length k)) open_cells lawful.0 (omega (arith, deep)) (omega (arith, le)) (holds_left n made.cells rest.cells h) (open_left n made.cells rest.cells open_cells a))
         ∙ ap (λ w. w >>= λ es c3. walked ((k, d) ∷ es) c3)
-        (pairs_back ps levels (n + length made.cells) ((c + (1 + length k)) + cost d) open_cells (second (is_tidy d) _ later) (omega (arith, deep)) (omega (arith, le)) (holds_right n made.cells rest.cells h) (open_right n made.cells rest.cells open_cells a))
+        (pairs_back ps levels (n + length made.cells) ((c + (1 + length k)) + cost d) open_cells lawful.1 (omega (arith, deep)) (omega (arith, le)) (holds_right n made.cells rest.cells h) (open_right n made.cells rest.cells open_cells a))
         ∙ ap (walked ((k, d) ∷ pair_datas ps)) (omega arith)
 
 -- behind the cells of a store
@@ -167,7 +167,7 @@ behind cells ks j lt = get_or-append-add cells ks j (array [])
 
 -- a tree that is loaded behind some cells is given back
 pub given_back : (cells : List PlainCell) (d : Data) → Fits d → tree_walked (cells ++ (load d (length cells)).cells) (load d (length cells)).value ≡ Ok d
-given_back cells d fits = ap outcome (back (cells ++ (load d (length cells)).cells) d (most + 1) (length cells) 0 [] fits.tidy (omega (arith, fits.within)) (omega (arith, fits.within)) (behind cells (load d (length cells)).cells) tt)
+given_back cells d fits = ap outcome (back (cells ++ (load d (length cells)).cells) d (most + 1) (length cells) 0 [] fits.lawful (omega (arith, fits.within)) (omega (arith, fits.within)) (behind cells (load d (length cells)).cells) tt)
 
 -- what is made from nothing
 pub same_cells : (d : Data) (n before : ℕ) (start cs : List PlainCell) → before ≡ n → start ≡ [] → cs ≡ grown before start (load d) → cs ≡ (load d n).cells

@@ -1,132 +1,95 @@
--- Elements and pairs that are made one behind another.
-use Rattle.std.proofs.Common.{◌≡◌, ℕ, ◌+◌, ◌<◌, ◌≤◌, ◌^◌, List, [], ◌∷◌, ◌++◌, length, drop, get_or, map, refl, sym, ap, subst, ◌∙◌, arith, length-append}
-use Rattle.std.proofs.lemmas.List.{append_assoc, append-nil, drop_more}
-use Rattle.std.proofs.Math.ListN.{drop_of_length-le}
+-- Arrays and dictionaries that are loaded part by part.
+use Rattle.std.proofs.Common.{◌≡◌, ℕ, ◌+◌, ◌*◌, ◌<◌, ◌≤◌, List, [], ◌∷◌, ◌++◌, length, refl, sym, ap, ◌∙◌, arith, length-append, Result, Ok, Err, IfOk}
+use Rattle.std.proofs.lemmas.List.{append_assoc, append-nil}
 use Rattle.site_base.specs.Data.{Data, list, dict, Items, no_items, item, Pairs as TreePairs, no_pairs, pair}
 use Rattle.site_base.specs.View.{view, items_view, pairs_view}
+use Rattle.site_base.specs.Weight.{weight, items_weight, pairs_weight}
+use Rattle.site_base.specs.declared.memory.OutOfMemory.{OutOfMemory}
 use Rattle.site_base.specs.declared.tree.Tree.{Tree}
 use Rattle.dsl_value.specs.Contents.{PlainCell, array, dict as pairs_cell}
 use Rattle.dsl_value.specs.Pairs.{Pairs, dict_of}
 use Rattle.dsl_value.specs.Loads.{Made, load, load_items, load_pairs, grown, given}
+use Rattle.dsl_value.specs.Loading.{among, loaded, array_of, dict_of_pairs, filled, wrapped, work_in, work_of, work_outside}
 use Rattle.dsl_value.specs.declared.value.Value.{Value}
-use Rattle.dsl_value.proofs.Named.{one_longer}
+use Rattle.dsl_value.specs.declared.value.Value.TheVariants.{Ref}
+use Rattle.dsl_value.specs.declared.loading.Open.{Open}
+use Rattle.dsl_value.specs.declared.loading.Step.{Step}
 
--- the first of what is left
-pub items_left : (ts : List Tree) (i : ℕ) (t : Tree) → i < length ts → t ≡ get_or ts i t → items_view (drop i ts) ≡ item (view t) (items_view (drop (i + 1) ts))
-items_left ts i t lt is = ap items_view (drop_more ts i t lt) ∙ ap (λ u. item (view u) (items_view (drop (i + 1) ts))) (sym is)
+module _ (before : ℕ) (cells : List PlainCell) where
+  further : (ks : List PlainCell) → before + length (cells ++ ks) ≡ (before + length cells) + length ks
+  further ks = let e = length-append cells ks in omega (arith, e)
 
-pub pairs_left : (ts : List (List ℕ × Tree)) (i : ℕ) (p : List ℕ × Tree) → i < length ts → p ≡ get_or ts i p → pairs_view (drop i ts) ≡ pair p.0 (view p.1) (pairs_view (drop (i + 1) ts))
-pairs_left ts i p lt is = ap pairs_view (drop_more ts i p lt) ∙ ap (λ q. pair q.0 (view q.1) (pairs_view (drop (i + 1) ts))) (sym is)
+  -- what needs no cell
+  pub bare_loaded : (v : Value) → among v cells ≡ record { value = v; cells = cells ++ [] }
+  bare_loaded v = ap (among v) (sym (append-nil cells))
 
-pub no_items_left : (ts : List Tree) (i : ℕ) → length ts ≤ i → items_view (drop i ts) ≡ no_items
-no_items_left ts i le = ap items_view (drop_of_length-le ts le)
+  -- a cell behind those of what it contains
+  closed : (ks : List PlainCell) (c : PlainCell) → among (Ref (before + length (cells ++ ks))) ((cells ++ ks) ++ c ∷ []) ≡ among (Ref ((before + length cells) + length ks)) (cells ++ (ks ++ c ∷ []))
+  closed ks c = (λ j. among (Ref (further ks j)) (append_assoc cells ks (c ∷ []) j))
 
-pub no_pairs_left : (ts : List (List ℕ × Tree)) (i : ℕ) → length ts ≤ i → pairs_view (drop i ts) ≡ no_pairs
-no_pairs_left ts i le = ap pairs_view (drop_of_length-le ts le)
+  -- nothing of it is loaded yet
+  pub array_begun : (ds : Items) → array_of before cells [] ds ≡ loaded before cells (list ds)
+  array_begun ds = let made = load_items ds (before + length cells) in closed made.cells (array made.value)
 
-module _ (before : ℕ) (made : List PlainCell) where
-  further : (ks : List PlainCell) → before + length (made ++ ks) ≡ (before + length made) + length ks
-  further ks = let e = length-append made ks in omega (arith, e)
+  pub dict_begun : (ps : TreePairs) → dict_of_pairs before cells [] ps ≡ loaded before cells (dict ps)
+  dict_begun ps = let made = load_pairs ps (before + length cells) in closed made.cells (pairs_cell (dict_of made.value []))
 
-  module _ (d : Data) (ds : Items) where
-    item_grown : grown before (grown before made (load d)) (load_items ds) ≡ grown before made (load_items (item d ds))
-    item_grown =
-        let ks = (load d (before + length made)).cells in
-        ap (λ n. (made ++ ks) ++ (load_items ds n).cells) (further ks) ∙ append_assoc made ks _
+  -- one more part is loaded
+  module _ (d : Data) where
+    abbrev ks : List PlainCell
+    ks = (load d (before + length cells)).cells
 
-    item_given : (vs : List Value) → (vs ++ given before made (load d) ∷ []) ++ given before (grown before made (load d)) (load_items ds) ≡ vs ++ given before made (load_items (item d ds))
-    item_given vs =
-        let ks = (load d (before + length made)).cells in
-        append_assoc vs (given before made (load d) ∷ []) _ ∙ ap (λ n. vs ++ given before made (load d) ∷ (load_items ds n).value) (further ks)
+    pub array_more : (vs : List Value) (ds : Items) → array_of before (grown before cells (load d)) (vs ++ given before cells (load d) ∷ []) ds ≡ array_of before cells vs (item d ds)
+    array_more vs ds =
+        let all : (cells ++ ks) ++ (load_items ds (before + length (cells ++ ks))).cells ≡ grown before cells (load_items (item d ds)) = ap (λ n. (cells ++ ks) ++ (load_items ds n).cells) (further ks) ∙ append_assoc cells ks _ in
+        let values : (vs ++ given before cells (load d) ∷ []) ++ (load_items ds (before + length (cells ++ ks))).value ≡ vs ++ given before cells (load_items (item d ds)) =
+        append_assoc vs (given before cells (load d) ∷ []) _ ∙ ap (λ n. vs ++ given before cells (load d) ∷ (load_items ds n).value) (further ks) in
+        (λ j. among (Ref (before + length (all j))) (all j ++ array (values j) ∷ []))
 
-  module _ (k : List ℕ) (d : Data) (ps : TreePairs) where
-    pair_grown : grown before (grown before made (load d)) (load_pairs ps) ≡ grown before made (load_pairs (pair k d ps))
-    pair_grown =
-        let ks = (load d (before + length made)).cells in
-        ap (λ n. (made ++ ks) ++ (load_pairs ps n).cells) (further ks) ∙ append_assoc made ks _
+    pub dict_more : (k : List ℕ) (qs : Pairs) (ps : TreePairs) → dict_of_pairs before (grown before cells (load d)) (qs ++ (k, given before cells (load d)) ∷ []) ps ≡ dict_of_pairs before cells qs (pair k d ps)
+    dict_more k qs ps =
+        let all : (cells ++ ks) ++ (load_pairs ps (before + length (cells ++ ks))).cells ≡ grown before cells (load_pairs (pair k d ps)) = ap (λ n. (cells ++ ks) ++ (load_pairs ps n).cells) (further ks) ∙ append_assoc cells ks _ in
+        let values : (qs ++ (k, given before cells (load d)) ∷ []) ++ (load_pairs ps (before + length (cells ++ ks))).value ≡ qs ++ given before cells (load_pairs (pair k d ps)) =
+        append_assoc qs ((k, given before cells (load d)) ∷ []) _ ∙ ap (λ n. qs ++ (k, given before cells (load d)) ∷ (load_pairs ps n).value) (further ks) in
+        (λ j. among (Ref (before + length (all j))) (all j ++ pairs_cell (dict_of (values j) []) ∷ []))
 
-    pair_given : (qs : Pairs) → (qs ++ (k, given before made (load d)) ∷ []) ++ given before (grown before made (load d)) (load_pairs ps) ≡ qs ++ given before made (load_pairs (pair k d ps))
-    pair_given qs =
-        let ks = (load d (before + length made)).cells in
-        append_assoc qs ((k, given before made (load d)) ∷ []) _ ∙ ap (λ n. qs ++ (k, given before made (load d)) ∷ (load_pairs ps n).value) (further ks)
+  pub array_next : (vs : List Value) (left : List Tree) (t : Tree) (rest : List Tree) → left ≡ t ∷ rest
+      → array_of before (grown before cells (load (view t))) (vs ++ given before cells (load (view t)) ∷ []) (items_view rest) ≡ array_of before cells vs (items_view left)
+  array_next vs left t rest e = array_more (view t) vs (items_view rest) ∙ ap (λ ts. array_of before cells vs (items_view ts)) (sym e)
 
--- the calls that make an element, and what stands behind them
-module _ (before : ℕ) (made start : List PlainCell) (ts : List Tree) (i : ℕ) (t : Tree) (lt : i < length ts) (is : t ≡ get_or ts i t)
-    (same : grown before made (load_items (items_view (drop i ts))) ≡ grown before start (load_items (items_view ts))) where
-  left : items_view (drop i ts) ≡ item (view t) (items_view (drop (i + 1) ts))
-  left = items_left ts i t lt is
+  pub dict_next : (qs : Pairs) (left : List (List ℕ × Tree)) (k : List ℕ) (p : List ℕ × Tree) (rest : List (List ℕ × Tree)) → k ≡ p.0 → left ≡ p ∷ rest
+      → dict_of_pairs before (grown before cells (load (view p.1))) (qs ++ (k, given before cells (load (view p.1))) ∷ []) (pairs_view rest) ≡ dict_of_pairs before cells qs (pairs_view left)
+  dict_next qs left k p rest same e =
+      dict_more (view p.1) k qs (pairs_view rest) ∙ ap (λ key. dict_of_pairs before cells qs (pair key (view p.1) (pairs_view rest))) same ∙ ap (λ ts. dict_of_pairs before cells qs (pairs_view ts)) (sym e)
 
-  opened : grown before made (load_items (item (view t) (items_view (drop (i + 1) ts)))) ≡ grown before start (load_items (items_view ts))
-  opened = ap (λ ds. grown before made (load_items ds)) (sym left) ∙ same
+  -- nothing is left
+  pub array_end : (vs : List Value) (left : List Tree) (v : Value) (new : List PlainCell) → length left ≡ 0 → v ≡ Ref (before + length cells) → new ≡ cells ++ array vs ∷ [] → among v new ≡ array_of before cells vs (items_view left)
+  array_end vs [] v new none named all =
+      (λ j. among (named j) (all j)) ∙ (λ j. among (Ref (before + length (sym (append-nil cells) j))) (sym (append-nil cells) j ++ array (sym (append-nil vs) j) ∷ []))
+  array_end vs (t ∷ ts) v new none named all = absurd (omega (arith, none))
 
-  pub item_turn : (new : List PlainCell) (vs more : List Value) (v : Value) → new ≡ grown before made (load (view t)) → v ≡ given before made (load (view t)) → more ≡ vs ++ v ∷ []
-      → vs ++ given before made (load_items (items_view (drop i ts))) ≡ given before start (load_items (items_view ts))
-      → (grown before new (load_items (items_view (drop (i + 1) ts))) ≡ grown before start (load_items (items_view ts)))
-      × (more ++ given before new (load_items (items_view (drop (i + 1) ts))) ≡ given before start (load_items (items_view ts)))
-  item_turn new vs more v cells value pushed values =
-      let rest = items_view (drop (i + 1) ts) in (
-        ap (λ ks. grown before ks (load_items rest)) cells ∙ item_grown before made (view t) rest ∙ opened,
-        ap (λ xs. xs ++ given before new (load_items rest)) (pushed ∙ ap (λ x. vs ++ x ∷ []) value)
-            ∙ ap (λ ks. (vs ++ given before made (load (view t)) ∷ []) ++ given before ks (load_items rest)) cells
-            ∙ item_given before made (view t) rest vs
-            ∙ ap (λ ds. vs ++ given before made (load_items ds)) (sym left) ∙ values,
-      )
+  pub dict_end : (qs sorted : Pairs) (left : List (List ℕ × Tree)) (v : Value) (new : List PlainCell) → length left ≡ 0 → sorted ≡ dict_of qs [] → v ≡ Ref (before + length cells) → new ≡ cells ++ pairs_cell sorted ∷ []
+      → among v new ≡ dict_of_pairs before cells qs (pairs_view left)
+  dict_end qs sorted [] v new none is named all =
+      (λ j. among (named j) (all j)) ∙ ap (λ ps. among (Ref (before + length cells)) (cells ++ pairs_cell ps ∷ [])) is
+      ∙ (λ j. among (Ref (before + length (sym (append-nil cells) j))) (sym (append-nil cells) j ++ pairs_cell (dict_of (sym (append-nil qs) j) []) ∷ []))
+  dict_end qs sorted (p ∷ ps) v new none is named all = absurd (omega (arith, none))
 
-module _ (before : ℕ) (made start : List PlainCell) (ts : List (List ℕ × Tree)) (i : ℕ) (p : List ℕ × Tree) (lt : i < length ts) (is : p ≡ get_or ts i p)
-    (same : grown before made (load_pairs (pairs_view (drop i ts))) ≡ grown before start (load_pairs (pairs_view ts))) where
-  left_pairs : pairs_view (drop i ts) ≡ pair p.0 (view p.1) (pairs_view (drop (i + 1) ts))
-  left_pairs = pairs_left ts i p lt is
+-- what is open, one more or less of it
+pub wrapped_end : (before : ℕ) (os : List Open) (o : Open) (m : Made Value) → wrapped before (os ++ o ∷ []) m ≡ wrapped before os (filled before o m)
+wrapped_end before [] o m = refl
+wrapped_end before (p ∷ os) o m = ap (filled before p) (wrapped_end before os o m)
 
-  opened_pairs : grown before made (load_pairs (pair p.0 (view p.1) (pairs_view (drop (i + 1) ts)))) ≡ grown before start (load_pairs (pairs_view ts))
-  opened_pairs = ap (λ ds. grown before made (load_pairs ds)) (sym left_pairs) ∙ same
+pub work_end : (os : List Open) (o : Open) → work_outside (os ++ o ∷ []) ≡ work_outside os + work_in o
+work_end [] o = omega arith
+work_end (p ∷ os) o = omega (arith, work_end os o)
 
-  pub pair_turn : (new : List PlainCell) (qs more : Pairs) (k : List ℕ) (v : Value) → new ≡ grown before made (load (view p.1)) → k ≡ p.0 → v ≡ given before made (load (view p.1)) → more ≡ qs ++ (k, v) ∷ []
-      → qs ++ given before made (load_pairs (pairs_view (drop i ts))) ≡ given before start (load_pairs (pairs_view ts))
-      → (grown before new (load_pairs (pairs_view (drop (i + 1) ts))) ≡ grown before start (load_pairs (pairs_view ts)))
-      × (more ++ given before new (load_pairs (pairs_view (drop (i + 1) ts))) ≡ given before start (load_pairs (pairs_view ts)))
-  pair_turn new qs more k v cells key value pushed values =
-      let rest = pairs_view (drop (i + 1) ts) in (
-        ap (λ ks. grown before ks (load_pairs rest)) cells ∙ pair_grown before made p.0 (view p.1) rest ∙ opened_pairs,
-        ap (λ xs. xs ++ given before new (load_pairs rest)) (pushed ∙ (λ j. qs ++ (key j, value j) ∷ []))
-            ∙ ap (λ ks. (qs ++ (p.0, given before made (load (view p.1))) ∷ []) ++ given before ks (load_pairs rest)) cells
-            ∙ pair_given before made p.0 (view p.1) rest qs
-            ∙ ap (λ ds. qs ++ given before made (load_pairs ds)) (sym left_pairs) ∙ values,
-      )
+pub work_next : (left : List Tree) (t : Tree) (rest : List Tree) → left ≡ t ∷ rest → (1 + 2 * items_weight rest) + 2 * weight t ≤ 1 + 2 * items_weight left
+work_next left t rest e = let same : items_weight left ≡ items_weight (t ∷ rest) = ap items_weight e in omega (arith, same)
 
--- once nothing is left, the cell is made
-module _ (before : ℕ) (made start : List PlainCell) (ts : List Tree) (i : ℕ) (vs : List Value) (none : length ts ≤ i)
-    (same : grown before made (load_items (items_view (drop i ts))) ≡ grown before start (load_items (items_view ts)))
-    (values : vs ++ given before made (load_items (items_view (drop i ts))) ≡ given before start (load_items (items_view ts))) where
-  made_all : made ≡ grown before start (load_items (items_view ts))
-  made_all = sym (append-nil made) ∙ ap (λ ds. grown before made (load_items ds)) (sym (no_items_left ts i none)) ∙ same
+pub work_next_pair : (left : List (List ℕ × Tree)) (p : List ℕ × Tree) (rest : List (List ℕ × Tree)) → left ≡ p ∷ rest → (1 + 2 * pairs_weight rest) + 2 * weight p.1 ≤ 1 + 2 * pairs_weight left
+work_next_pair left p rest e = let same : pairs_weight left ≡ pairs_weight (p ∷ rest) = ap pairs_weight e in omega (arith, same)
 
-  values_all : vs ≡ given before start (load_items (items_view ts))
-  values_all = sym (append-nil vs) ∙ ap (λ ds. vs ++ given before made (load_items ds)) (sym (no_items_left ts i none)) ∙ values
-
-  pub list_number : before + length made ≡ (before + length start) + length (load_items (items_view ts) (before + length start)).cells
-  list_number = ap (λ ks. before + length ks) made_all ∙ further before start (load_items (items_view ts) (before + length start)).cells
-
-  pub list_cells : (c : PlainCell) → c ≡ array vs → made ++ c ∷ [] ≡ grown before start (load (list (items_view ts)))
-  list_cells c is =
-      ap (λ x. made ++ x ∷ []) (is ∙ ap array values_all)
-      ∙ ap (λ ks. ks ++ array (given before start (load_items (items_view ts))) ∷ []) made_all
-      ∙ append_assoc start (load_items (items_view ts) (before + length start)).cells (array (given before start (load_items (items_view ts))) ∷ [])
-
-module _ (before : ℕ) (made start : List PlainCell) (ts : List (List ℕ × Tree)) (i : ℕ) (qs : Pairs) (none : length ts ≤ i)
-    (same : grown before made (load_pairs (pairs_view (drop i ts))) ≡ grown before start (load_pairs (pairs_view ts)))
-    (values : qs ++ given before made (load_pairs (pairs_view (drop i ts))) ≡ given before start (load_pairs (pairs_view ts))) where
-  made_pairs : made ≡ grown before start (load_pairs (pairs_view ts))
-  made_pairs = sym (append-nil made) ∙ ap (λ ds. grown before made (load_pairs ds)) (sym (no_pairs_left ts i none)) ∙ same
-
-  pairs_all : qs ≡ given before start (load_pairs (pairs_view ts))
-  pairs_all = sym (append-nil qs) ∙ ap (λ ds. qs ++ given before made (load_pairs ds)) (sym (no_pairs_left ts i none)) ∙ values
-
-  pub dict_number : before + length made ≡ (before + length start) + length (load_pairs (pairs_view ts) (before + length start)).cells
-  dict_number = ap (λ ks. before + length ks) made_pairs ∙ further before start (load_pairs (pairs_view ts) (before + length start)).cells
-
-  pub dict_cells : (c : PlainCell) → c ≡ pairs_cell (dict_of qs []) → made ++ c ∷ [] ≡ grown before start (load (dict (pairs_view ts)))
-  dict_cells c is =
-      let cell = pairs_cell (dict_of (given before start (load_pairs (pairs_view ts))) []) in
-      ap (λ x. made ++ x ∷ []) (is ∙ ap (λ xs. pairs_cell (dict_of xs [])) pairs_all)
-      ∙ ap (λ ks. ks ++ cell ∷ []) made_pairs
-      ∙ append_assoc start (load_pairs (pairs_view ts) (before + length start)).cells (cell ∷ [])
+pub less_if : (r : Result Step OutOfMemory) (m n : ℕ) → m < n → IfOk r (λ s. work_of s ≤ m) → IfOk r (λ s. work_of s < n)
+less_if (Ok s) m n lt le = omega (arith, lt, le)
+less_if (Err e) m n lt le = tt

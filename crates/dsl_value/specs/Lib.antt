@@ -2,10 +2,13 @@ pub mod Contents
 pub mod Entering
 pub mod Equality
 pub mod Faults
+pub mod Grows
+pub mod Loading
 pub mod Loads
 pub mod Nests
 pub mod Pairs
 pub mod Parts
 pub mod Paths
+pub mod PlainStores
 pub mod Walks
 pub mod Whole

@@ -1,8 +1,8 @@
 -- Trees that are put into a store, and what they cost.
-use Rattle.std.specs.Prelude.{ℕ, ◌+◌, ◌≤◌, Bool, true, ◌&&◌, List, [], ◌∷◌, ◌++◌, length, T}
-use Rattle.std.specs.Ordering.{is_lt}
+use Rattle.std.specs.Prelude.{ℕ, ◌+◌, ◌≤◌, List, [], ◌∷◌, ◌++◌, length}
 use Rattle.site_base.specs.Data.{Data, null, boolean, number, string, list, dict, Items, no_items, item, Pairs as TreePairs, no_pairs, pair}
-use Rattle.dsl_value.specs.Pairs.{Pairs, key_cmp, dict_of}
+use Rattle.site_base.specs.Lawful.{IsLawful}
+use Rattle.dsl_value.specs.Pairs.{Pairs, dict_of}
 use Rattle.dsl_value.specs.Contents.{PlainCell, array, dict as pairs_cell}
 use Rattle.dsl_value.specs.Walks.{most}
 use Rattle.dsl_value.specs.declared.value.Value.{Value}
@@ -62,32 +62,9 @@ abbrev mutual
   pairs_cost no_pairs = 0
   pairs_cost (pair k d ps) = ((1 + length k) + cost d) + pairs_cost ps
 
--- whether a key comes before all of a tree's pairs
-abbrev pub is_before : List ℕ → TreePairs → Bool
-is_before key no_pairs = true
-is_before key (pair k d ps) = is_lt (key_cmp key k) && is_before key ps
-
--- whether the keys of each dictionary in a tree are distinct and in byte order
-abbrev mutual
-  pub is_tidy : Data → Bool
-  is_tidy null = true
-  is_tidy (boolean b) = true
-  is_tidy (number z) = true
-  is_tidy (string t) = true
-  is_tidy (list ds) = items_tidy ds
-  is_tidy (dict ps) = pairs_tidy ps
-
-  pub items_tidy : Items → Bool
-  items_tidy no_items = true
-  items_tidy (item d ds) = is_tidy d && items_tidy ds
-
-  pub pairs_tidy : TreePairs → Bool
-  pairs_tidy no_pairs = true
-  pairs_tidy (pair k d ps) = is_before k ps && (is_tidy d && pairs_tidy ps)
-
 -- a tree that a store gives back as it was
 pub record Fits (d : Data) : Type 0 where
-  pub tidy : T (is_tidy d)
+  pub lawful : IsLawful d
   pub within : cost d ≤ most
 
 -- the cells so far, with those of a thing that is made behind them; so many others lie before

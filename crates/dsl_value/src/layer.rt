@@ -282,7 +282,8 @@ fn copy_of(alloc: Global, part: &Part) -> Result<Arc<Part>, OutOfMemory>
     Ok(Arc::new(alloc, Part { cells, functions })?)
 }
 
-fn copy_cell(cell: &Cell) -> Result<Cell, OutOfMemory>
+/// A copy of a cell.
+pub(crate) fn copy_cell(cell: &Cell) -> Result<Cell, OutOfMemory>
     ensures { IfOk result (λ c. plain c ≡ plain cell.now) }
 {
     match cell {

@@ -2,8 +2,9 @@
 //!
 //! In reading order: values (`value`), cells with what changes one (`cell`, `cells`, `pairs`), functions
 //! (`function`), cells and functions that stores share (`part`, `layer`, `frozen`), the store (`store`,
-//! `set_fault`), when values are equal (`equality`), trees that are put in (`loading`), and the trees of
-//! values (`walking`, with `frame`, `frames`, `path`, `turn` and `tree_fault`).
+//! `set_fault`), when values are equal (`equality`), trees that are put in (`loading`), and the trees
+//! of values (`walking`, with `frame`, `frames`, `nest`, `path`, `turn` and `tree_fault`). Laws of stores stand
+//! in `laws`.
 #![tactic(auto)]
 
 mod cell;
@@ -13,6 +14,7 @@ mod frame;
 mod frames;
 mod frozen;
 mod function;
+mod laws;
 mod layer;
 mod loading;
 mod nest;
@@ -21,8 +23,6 @@ mod part;
 mod path;
 mod set_fault;
 mod store;
-#[cfg(test)]
-mod tests;
 mod tree_fault;
 mod turn;
 mod value;
@@ -31,6 +31,7 @@ mod walking;
 pub use cell::Cell;
 pub use equality::equal;
 pub use function::Function;
+pub use laws::{growth_adds_up, stores_are_plain};
 pub use set_fault::SetFault;
 pub use store::Store;
 pub use tree_fault::TreeFault;

@@ -1,18 +1,39 @@
 // How trees are put into a store.
-ghost use Rattle.std.specs.Prelude.{◌≡◌, ◌+◌, ◌++◌, [], ◌∷◌, IfOk, OnOk, length, map};
+ghost use Rattle.std.specs.Prelude.{◌≡◌, ◌≤◌, ◌<◌, ◌+◌, ◌*◌, ◌++◌, ◌∷◌, [], IfOk, OnOk, length, map};
 ghost use Rattle.site_base.specs.View.{view, items_view, pairs_view};
+ghost use Rattle.site_base.specs.Weight.{weight, items_weight, pairs_weight};
 ghost use Rattle.dsl_value.specs.Contents.{plain};
-ghost use Rattle.site_base.specs.Data.{list, dict};
 ghost use Rattle.dsl_value.specs.Loads.{load, grown, given};
+ghost use Rattle.dsl_value.specs.Loading.{among, loaded, array_of, dict_of_pairs, filled, value_of, work_in, work_of};
 
 use crate::pairs::sorted_pairs;
 use crate::{Cell, Value};
 use site_base::{OutOfMemory, Text, Tree};
 use std::alloc::Global;
 
+/// An array or dictionary that is being loaded, without the part that is loaded next.
+#[derive(Drop)]
+enum Open<'a> {
+    Array {
+        values: Vec<Value>,
+        left: &'a [Tree],
+    },
+    Dict {
+        pairs: Vec<(Text, Value)>,
+        key: Text,
+        left: &'a [(Text, Tree)],
+    },
+}
+
+/// What loading comes to.
+#[derive(Drop)]
+enum Step<'a> {
+    Inside(Open<'a>, &'a Tree),
+    Made(Value),
+}
+
 /// Makes the cells of a tree behind those that are made so far, before which so many others lie, and
-/// gives the value that stands for it.
-#[cycle(load)]
+/// gives the value that stands for it. However deep the tree is, this takes no more stack.
 pub(crate) fn make_tree(
     alloc: Global,
     tree: &Tree,
@@ -22,51 +43,116 @@ pub(crate) fn make_tree(
     ensures value { IfOk result (λ v. v ≡ given before (map plain made.old.items) (load (view tree.now))) }
     ensures cells { OnOk result (map plain made.new.items ≡ grown before (map plain made.old.items) (load (view tree.now))) }
 {
+    let mut open = Vec::new(alloc);
+    let mut step = enter(alloc, tree, before, made)?;
+    loop {
+        match step {
+            Step::Inside(around, next) => {
+                open.push(around)?;
+                step = enter(alloc, next, before, made)?;
+            }
+            Step::Made(value) => match open.pop() {
+                Some(around) => step = add(alloc, around, value, before, made)?,
+                None => return Ok(value),
+            },
+        }
+    }
+}
+
+/// Loads a tree without parts, or begins an array or dictionary.
+fn enter<'a>(
+    alloc: Global,
+    tree: &'a Tree,
+    before: u32,
+    made: &mut Vec<Cell>,
+) -> Result<Step<'a>, OutOfMemory>
+    ensures value { IfOk result (λ s. value_of before (map plain made.new.items) s ≡ loaded before (map plain made.old.items) (view tree.now)) }
+    ensures less { IfOk result (λ s. work_of s < 2 * weight tree.now) }
+{
     match tree {
-        Tree::Null => Ok(Value::Null),
-        Tree::Bool(value) => Ok(Value::Bool(*value)),
-        Tree::Number(number) => Ok(Value::Number(*number)),
-        Tree::Str(text) => Ok(Value::Str(text.clone()?)),
-        Tree::List(items) => make_list(alloc, items, before, made),
-        Tree::Dict(pairs) => make_dict(alloc, pairs, before, made),
+        Tree::Null => Ok(Step::Made(Value::Null)),
+        Tree::Bool(value) => Ok(Step::Made(Value::Bool(*value))),
+        Tree::Number(number) => Ok(Step::Made(Value::Number(*number))),
+        Tree::Str(text) => Ok(Step::Made(Value::Str(text.clone()?))),
+        Tree::List(items) => {
+            next_item(Vec::with_capacity(alloc, items.len())?, items, before, made)
+        }
+        Tree::Dict(pairs) => {
+            next_pair(
+                alloc,
+                Vec::with_capacity(alloc, pairs.len())?,
+                pairs,
+                before,
+                made,
+            )
+        }
     }
 }
 
-/// The same for an array's elements, with the array behind them.
-#[cycle(load)]
-fn make_list(
+/// Adds the value of a part.
+fn add<'a>(
     alloc: Global,
-    items: &[Tree],
+    around: Open<'a>,
+    value: Value,
     before: u32,
     made: &mut Vec<Cell>,
-) -> Result<Value, OutOfMemory>
-    ensures value { IfOk result (λ v. v ≡ given before (map plain made.old.items) (load (list (items_view items.now)))) }
-    ensures cells { OnOk result (map plain made.new.items ≡ grown before (map plain made.old.items) (load (list (items_view items.now)))) }
+) -> Result<Step<'a>, OutOfMemory>
+    ensures value { IfOk result (λ s. value_of before (map plain made.new.items) s ≡ filled before around.entry (among value (map plain made.old.items))) }
+    ensures less { IfOk result (λ s. work_of s ≤ work_in around.entry) }
 {
-    let mut values = Vec::with_capacity(alloc, items.len())?;
-    for item in items {
-        values.push(make_tree(alloc, item, before, made)?)?;
+    match around {
+        Open::Array { mut values, left } => {
+            values.push(value)?;
+            next_item(values, left, before, made)
+        }
+        Open::Dict {
+            mut pairs,
+            key,
+            left,
+        } => {
+            pairs.push((key, value))?;
+            next_pair(alloc, pairs, left, before, made)
+        }
     }
-    add_cell(Cell::Array(values), before, made)
 }
 
-/// The same for a dictionary's pairs, with the dictionary behind them.
-#[cycle(load)]
-fn make_dict(
-    alloc: Global,
-    pairs: &[(Text, Tree)],
+/// Goes on in an array of which so much is loaded, and this is left.
+fn next_item<'a>(
+    values: Vec<Value>,
+    left: &'a [Tree],
     before: u32,
     made: &mut Vec<Cell>,
-) -> Result<Value, OutOfMemory>
-    ensures value { IfOk result (λ v. v ≡ given before (map plain made.old.items) (load (dict (pairs_view pairs.now)))) }
-    ensures cells { OnOk result (map plain made.new.items ≡ grown before (map plain made.old.items) (load (dict (pairs_view pairs.now)))) }
+) -> Result<Step<'a>, OutOfMemory>
+    ensures value { IfOk result (λ s. value_of before (map plain made.new.items) s ≡ array_of before (map plain made.old.items) values.items (items_view left.now)) }
+    ensures less { IfOk result (λ s. work_of s ≤ 1 + 2 * items_weight left.now) }
 {
-    let mut values = Vec::with_capacity(alloc, pairs.len())?;
-    for (key, item) in pairs {
-        let key = key.clone()?;
-        values.push((key, make_tree(alloc, item, before, made)?))?;
+    match left.split_first() {
+        None => Ok(Step::Made(add_cell(Cell::Array(values), before, made)?)),
+        Some((next, left)) => Ok(Step::Inside(Open::Array { values, left }, next)),
     }
-    add_cell(Cell::Dict(sorted_pairs(alloc, values)?), before, made)
+}
+
+/// Goes on in a dictionary of which so much is loaded, and this is left.
+fn next_pair<'a>(
+    alloc: Global,
+    pairs: Vec<(Text, Value)>,
+    left: &'a [(Text, Tree)],
+    before: u32,
+    made: &mut Vec<Cell>,
+) -> Result<Step<'a>, OutOfMemory>
+    ensures value { IfOk result (λ s. value_of before (map plain made.new.items) s ≡ dict_of_pairs before (map plain made.old.items) pairs.items (pairs_view left.now)) }
+    ensures less { IfOk result (λ s. work_of s ≤ 1 + 2 * pairs_weight left.now) }
+{
+    match left.split_first() {
+        None => {
+            let sorted = sorted_pairs(alloc, pairs)?;
+            Ok(Step::Made(add_cell(Cell::Dict(sorted), before, made)?))
+        }
+        Some(((key, next), left)) => {
+            let key = key.clone()?;
+            Ok(Step::Inside(Open::Dict { pairs, key, left }, next))
+        }
+    }
 }
 
 /// Adds a cell, and gives the value that names it. A number that no value holds is want of memory.

@@ -5,13 +5,14 @@ ghost use Rattle.std.specs.Arc.{arc_value};
 ghost use Rattle.dsl_value.specs.Contents.{Contents, array, dict, plain, function, function_at, cell_at, with_cell, with_cells, pushed, is_array, is_dict, values_of, pairs_of, with_value, with_pair, without_pair, IsInOrder};
 ghost use Rattle.dsl_value.specs.Pairs.{find, dict_of, last_of};
 ghost use Rattle.dsl_value.specs.Walks.{Gives, tree_walked};
-ghost use Rattle.dsl_value.specs.Loads.{load, grown, given, Fits};
+ghost use Rattle.dsl_value.specs.Grows.{Grows};
+ghost use Rattle.dsl_value.specs.Loads.{load, grown, given, cost, Fits};
 ghost use Rattle.site_base.specs.View.{view};
 ghost use Rattle.dsl_value.specs.Whole.{Names, NamesAll, Stands, Captures};
 ghost use Rattle.dsl_value.specs.Faults.{Concerns};
 
 use crate::frozen::Frozen;
-use crate::layer::Layer;
+use crate::layer::{Layer, copy_cell};
 use crate::loading::make_tree;
 use crate::pairs::{sorted_pairs, value_of};
 use crate::walking::walk_value;
@@ -91,6 +92,27 @@ impl Store {
         })
     }
 
+    /// The number of cells.
+    pub fn len(&self) -> usize
+        ensures { result ≡ length self.now.cells }
+    {
+        self.frozen.len() + self.live.len()
+    }
+
+    /// The number of functions.
+    pub fn functions(&self) -> usize
+        ensures { result ≡ length self.now.functions }
+    {
+        self.frozen.functions() + self.live.functions()
+    }
+
+    /// How many cells are frozen. They are the first ones.
+    pub fn base(&self) -> u32
+        ensures { result ≡ self.now.base }
+    {
+        self.base
+    }
+
     /// A cell.
     pub fn cell(&self, cell: u32) -> &Cell
         requires { cell < length self.now.cells }
@@ -103,6 +125,15 @@ impl Store {
         } else {
             self.live.cell(cell as usize - shared)
         }
+    }
+
+    /// A copy of a cell, which stays as it is when the store changes.
+    pub fn snapshot(&self, cell: u32) -> Result<Cell, OutOfMemory>
+        requires { cell < length self.now.cells }
+        ensures cell { IfOk result (λ c. plain c ≡ cell_at self.now.cells cell) }
+        ensures stands { IfOk result (λ c. Stands (length self.now.cells) (length self.now.functions) (plain c)) }
+    {
+        copy_cell(self.cell(cell))
     }
 
     /// A function.
@@ -125,13 +156,13 @@ impl Store {
         func: &Arc<Func>,
         captured: Row<(Text, Value)>,
     ) -> Result<Value, OutOfMemory>
-        requires few { length self.old.functions + 1 < 2 ^ 32 }
         requires stands { NamesAll (length self.old.cells) (length self.old.functions) captured }
         ensures value { IfOk result (λ v. v ≡ Value.Func (length self.old.functions)) }
         ensures ok { OnOk result (self.new ≡ record { cells = self.old.cells; base = self.old.base; functions = self.old.functions ++ record { func = arc_value func.now; captured = captured } ∷ [] }) }
+        ensures grows { OnOk result (Grows 0 self.old self.new) }
         ensures err { OnErr result (self.new ≡ self.old) }
     {
-        let number = (self.frozen.functions() + self.live.functions()) as u32;
+        let number = next_number(self.frozen.functions(), self.live.functions())?;
         let added = Function {
             func: func.clone()?,
             captured: captured.into_vec(),
@@ -142,38 +173,40 @@ impl Store {
 
     /// Makes a cell of an array, and gives the value that names it.
     pub fn array(&mut self, items: Row<Value>) -> Result<Value, OutOfMemory>
-        requires few { length self.old.cells + 1 < 2 ^ 32 }
         requires stands { AllByRecursion (Names (length self.old.cells) (length self.old.functions)) items }
         ensures value { IfOk result (λ v. v ≡ Value.Ref (length self.old.cells)) }
         ensures ok { OnOk result (self.new ≡ with_cells self.old (self.old.cells ++ array items ∷ [])) }
+        ensures grows { OnOk result (Grows 1 self.old self.new) }
         ensures err { OnErr result (self.new ≡ self.old) }
     {
-        let number = (self.frozen.len() + self.live.len()) as u32;
+        let number = next_number(self.frozen.len(), self.live.len())?;
         self.live.add(self.alloc, Cell::Array(items.into_vec()))?;
         Ok(Value::Ref(number))
     }
 
     /// Makes a cell of a dictionary, and gives the value that names it. Of equal keys the last wins.
     pub fn dict(&mut self, pairs: Row<(Text, Value)>) -> Result<Value, OutOfMemory>
-        requires few { length self.old.cells + 1 < 2 ^ 32 }
         requires stands { NamesAll (length self.old.cells) (length self.old.functions) pairs }
         ensures value { IfOk result (λ v. v ≡ Value.Ref (length self.old.cells)) }
         ensures ok { OnOk result (self.new ≡ with_cells self.old (self.old.cells ++ dict (dict_of pairs []) ∷ [])) }
+        ensures grows { OnOk result (Grows 1 self.old self.new) }
         ensures err { OnErr result (self.new ≡ self.old) }
         ensures last { OnOk result ((key : List ℕ) → find key (pairs_of (cell_at self.new.cells (length self.old.cells))) ≡ last_of key pairs) }
     {
-        let number = (self.frozen.len() + self.live.len()) as u32;
+        let number = next_number(self.frozen.len(), self.live.len())?;
         let sorted = sorted_pairs(self.alloc, pairs.into_vec())?;
         self.live.add(self.alloc, Cell::Dict(sorted))?;
         Ok(Value::Ref(number))
     }
 
     /// The value of a dictionary's key; `None` where the key is absent.
+    #[tactic(auto, using(crate::proofs::Found::cell_stands))]
     pub fn get(&self, cell: u32, key: &str) -> Option<&Value>
         requires inside { cell < length self.now.cells }
         requires is_dict { IsTrue (is_dict (cell_at self.now.cells cell)) }
         ensures found { IfSome result (λ v. find key.now (pairs_of (cell_at self.now.cells cell)) ≡ Some v.now) }
         ensures absent { IfNone result (find key.now (pairs_of (cell_at self.now.cells cell)) ≡ None) }
+        ensures stands { IfSome result (λ v. Names (length self.now.cells) (length self.now.functions) v.now) }
     {
         value_in(self.cell(cell), key)
     }
@@ -185,6 +218,8 @@ impl Store {
     pub fn load_tree(&mut self, tree: &Tree) -> Result<Value, OutOfMemory>
         ensures value { IfOk result (λ v. v ≡ given 0 self.old.cells (load (view tree.now))) }
         ensures ok { OnOk result (self.new ≡ with_cells self.old (grown 0 self.old.cells (load (view tree.now)))) }
+        ensures stands { IfOk result (Names (length self.new.cells) (length self.new.functions)) }
+        ensures grows { OnOk result (Grows (cost (view tree.now)) self.old self.new) }
         ensures err { OnErr result (self.new ≡ self.old) }
         ensures given_back { IfOk result (λ v. Fits (view tree.now) → tree_walked self.new.cells v ≡ Ok (view tree.now)) }
     {
@@ -200,10 +235,12 @@ impl Store {
 
     /// The tree that a value stands for. `Cyclic` where a cell lies inside itself, `HasFunction` where
     /// a function lies in it, `TooLarge` where its cost passes 16,777,216 units: the first of these that
-    /// a walk meets which goes depth first, in element order.
+    /// a walk meets which goes depth first, in element order. The keys of each dictionary in the tree
+    /// rise, and it costs at most 16,777,216 units.
     pub fn tree_of(&self, value: &Value) -> Result<Tree, TreeFault>
         requires { Names (length self.now.cells) (length self.now.functions) value.now }
-        ensures { Gives view result (tree_walked self.now.cells value.now) }
+        ensures tree { Gives view result (tree_walked self.now.cells value.now) }
+        ensures fits { IfOk result (λ t. Fits (view t)) }
     {
         walk_value(self.alloc, self, value)
     }
@@ -216,6 +253,7 @@ impl Store {
         ensures frozen { IsErrOf result (SetFault.Frozen cell) ↔ (cell < self.old.base) }
         ensures fault { IfErr result (Concerns cell) }
         ensures ok { OnOk result (self.new ≡ with_cells self.old (with_cell self.old.cells cell (with_pair (cell_at self.old.cells cell) key value))) }
+        ensures grows { OnOk result (Grows 0 self.old self.new) }
         ensures err { OnErr result (self.new ≡ self.old) }
     {
         if is_frozen(cell, self.base) {
@@ -235,6 +273,7 @@ impl Store {
         ensures frozen { IsErrOf result (SetFault.Frozen cell) ↔ (cell < self.old.base) }
         ensures fault { IfErr result (Concerns cell) }
         ensures ok { OnOk result (self.new ≡ with_cells self.old (with_cell self.old.cells cell (with_value (cell_at self.old.cells cell) place value))) }
+        ensures grows { OnOk result (Grows 0 self.old self.new) }
         ensures err { OnErr result (self.new ≡ self.old) }
     {
         if is_frozen(cell, self.base) {
@@ -253,6 +292,7 @@ impl Store {
         ensures frozen { IsErrOf result (SetFault.Frozen cell) ↔ (cell < self.old.base) }
         ensures fault { IfErr result (Concerns cell) }
         ensures ok { OnOk result (self.new ≡ with_cells self.old (with_cell self.old.cells cell (pushed (cell_at self.old.cells cell) value))) }
+        ensures grows { OnOk result (Grows 0 self.old self.new) }
         ensures err { OnErr result (self.new ≡ self.old) }
     {
         if is_frozen(cell, self.base) {
@@ -271,6 +311,7 @@ impl Store {
         ensures frozen { IsErrOf result (SetFault.Frozen cell) ↔ (cell < self.old.base) }
         ensures fault { IfErr result (Concerns cell) }
         ensures ok { OnOk result (self.new ≡ with_cells self.old (with_cell self.old.cells cell (without_pair (cell_at self.old.cells cell) key.now))) }
+        ensures grows { OnOk result (Grows 0 self.old self.new) }
         ensures err { OnErr result (self.new ≡ self.old) }
     {
         if is_frozen(cell, self.base) {
@@ -280,6 +321,19 @@ impl Store {
         self.live.remove(at, key)?;
         Ok(())
     }
+}
+
+/// The number of a cell or function behind those that are shared and those that aren't. A store of
+/// 4,294,967,295 of them takes no more: that is want of memory.
+fn next_number(shared: usize, live: usize) -> Result<u32, OutOfMemory>
+    requires { shared + live < 2 ^ 32 }
+    ensures { IfOk result (λ n. (n ≡ shared + live) × (n + 1 < 2 ^ 32)) }
+{
+    let number = (shared + live) as u32;
+    if number == u32::MAX {
+        return Err(OutOfMemory);
+    }
+    Ok(number)
 }
 
 /// Whether a cell lies below the base.

@@ -1,6 +1,4 @@
 // Calls of the operators and of the library.
-ghost use Rattle.std.specs.Prelude.{◌<◌, length};
-
 use crate::shown::{push_lib_fault, push_op_fault, push_value};
 use crate::stores::{arguments, load, new_store};
 use dsl_lib::{Plain, call_plain};
@@ -11,11 +9,7 @@ use site_base::{OutOfMemory, Row, Text, Tree};
 use std::alloc::Global;
 use wildcards::matches;
 
-/// The most cells of a row.
-const MOST: u32 = 1_000_000;
-
 /// Adds what an operator gives to two operands.
-#[tactic(auto, using(crate::proofs::Rooms::room))]
 pub(crate) fn push_between(
     alloc: Global,
     out: &mut Text,
@@ -25,9 +19,6 @@ pub(crate) fn push_between(
 ) -> Result<(), OutOfMemory> {
     let mut store = new_store(alloc)?;
     let cell = load(&mut store, trees)?;
-    if cell > MOST {
-        return out.push_str("too large a row");
-    }
     let values = arguments(alloc, &store, cell, functions)?;
     match values.as_slice() {
         [left, right] => match binary(alloc, op, left, right, &mut store) {
@@ -89,7 +80,6 @@ fn push_bool(out: &mut Text, value: bool) -> Result<(), OutOfMemory> {
 }
 
 /// Adds what a call of the library gives, and its arguments behind it where they are no longer what they were.
-#[tactic(auto, using(crate::proofs::Rooms::room_for))]
 pub(crate) fn push_call(
     alloc: Global,
     out: &mut Text,
@@ -100,9 +90,6 @@ pub(crate) fn push_call(
 ) -> Result<(), OutOfMemory> {
     let mut store = new_store(alloc)?;
     let cell = load(&mut store, trees)?;
-    if cell > MOST {
-        return out.push_str("too large a row");
-    }
     if is_frozen {
         store.freeze();
     }

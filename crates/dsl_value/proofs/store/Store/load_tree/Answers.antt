@@ -4,6 +4,7 @@ use Rattle.site_base.specs.View.{view}
 use Rattle.dsl_value.specs.Contents.{plain}
 use Rattle.dsl_value.proofs.Kept.{added_all}
 use Rattle.dsl_value.proofs.GivenBack.{same_cells, same_value, loaded_stand, store_gives_back}
+use Rattle.dsl_value.proofs.Growing.{shows_tree, shows_value}
 use Rattle.dsl_value.proofs.store.Store.load_tree.Goals as goal
 
 pub invariant_of-self-2 : goal.invariant_of-self-2
@@ -28,3 +29,22 @@ returns-clause-given_back c =
     (ap (λ l. c.self.inside.frozen.cells ++ l.cells) c.in_ok-add_all.ensures.ok ∙ sym (append_assoc c.self.inside.frozen.cells c.self.inside.live.cells cs))
     (same_cells (view c.args.tree.now) (length cells) _ _ cs before (ap (map plain) c.new-made.ensures.items) c.in_ok-value.ensures.cells)
     (same_value (view c.args.tree.now) (length cells) _ _ c.in_ok-value.value before (ap (map plain) c.new-made.ensures.items) c.in_ok-value.ensures.value)
+
+pub returns-clause-grows : goal.returns-clause-grows
+returns-clause-grows c =
+    let cs = map plain c.make_tree.new.made.items in
+    let count : length (c.self.inside.frozen.cells ++ c.self.inside.live.cells) ≡ length c.args.self.now.cells = ap (λ s. length s.cells) c.self.view_is in
+    let sum = length-append c.self.inside.frozen.cells c.self.inside.live.cells in
+    let before : c.len.result + c.len-2.result ≡ length c.args.self.now.cells = omega (arith, c.len.ensures, c.len-2.ensures, count, sum) in
+    shows_tree c.self.inside.frozen c.self.inside.live c.self.inside.base c.args.self.now c.self.view_is _ (view c.args.tree.now) cs c.in_ok-add_all.ensures.ok
+    (same_cells (view c.args.tree.now) (length c.args.self.now.cells) _ _ cs before (ap (map plain) c.new-made.ensures.items) c.in_ok-value.ensures.cells)
+
+pub returns-clause-stands : goal.returns-clause-stands
+returns-clause-stands c =
+    let cs = map plain c.make_tree.new.made.items in
+    let count : length (c.self.inside.frozen.cells ++ c.self.inside.live.cells) ≡ length c.args.self.now.cells = ap (λ s. length s.cells) c.self.view_is in
+    let sum = length-append c.self.inside.frozen.cells c.self.inside.live.cells in
+    let before : c.len.result + c.len-2.result ≡ length c.args.self.now.cells = omega (arith, c.len.ensures, c.len-2.ensures, count, sum) in
+    shows_value c.self.inside.frozen c.self.inside.live c.self.inside.base c.args.self.now c.self.view_is _ (view c.args.tree.now) cs c.in_ok-value.value c.in_ok-add_all.ensures.ok
+    (same_cells (view c.args.tree.now) (length c.args.self.now.cells) _ _ cs before (ap (map plain) c.new-made.ensures.items) c.in_ok-value.ensures.cells)
+    (same_value (view c.args.tree.now) (length c.args.self.now.cells) _ _ c.in_ok-value.value before (ap (map plain) c.new-made.ensures.items) c.in_ok-value.ensures.value)

@@ -1,5 +1,7 @@
+use Rattle.std.proofs.Common.{◌≤◌, ap, subst}
 use Rattle.dsl_value.specs.Contents.{with_pair}
 use Rattle.dsl_value.proofs.Kept.{changed, stands_set}
+use Rattle.dsl_value.proofs.Growing.{grows_pair}
 use Rattle.dsl_value.proofs.store.Store.set.Goals as goal
 
 pub invariant_of-self-2 : goal.invariant_of-self-2
@@ -7,3 +9,8 @@ invariant_of-self-2 c = (changed c.self.inside.frozen c.self.inside.live c.self.
 
 pub returns-clause-ok : goal.returns-clause-ok
 returns-clause-ok c = (changed c.self.inside.frozen c.self.inside.live c.self.inside.base c.args.cell (λ x. with_pair x c.args.key c.args.value) c.self.invariant (c.is_frozen.ensures.live c.if-is_frozen.false) _ _ c.args.self.now c.self.view_is c.len.ensures c.requires.inside (stands_set _ _ _ c.args.key c.args.value c.requires.stands) c.in_ok-set.ensures.ok).1
+
+pub returns-clause-grows : goal.returns-clause-grows
+returns-clause-grows c =
+    grows_pair c.args.self.now _ c.args.cell c.args.key c.args.value (subst (λ b. b ≤ c.args.cell) (ap (λ s. s.base) c.self.view_is) (c.is_frozen.ensures.live c.if-is_frozen.false))
+    ((changed c.self.inside.frozen c.self.inside.live c.self.inside.base c.args.cell (λ x. with_pair x c.args.key c.args.value) c.self.invariant (c.is_frozen.ensures.live c.if-is_frozen.false) _ _ c.args.self.now c.self.view_is c.len.ensures c.requires.inside (stands_set _ _ _ c.args.key c.args.value c.requires.stands) c.in_ok-set.ensures.ok).1)
