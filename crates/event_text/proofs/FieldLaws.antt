@@ -1,56 +1,98 @@
--- The fields of a result, both ways.
-use Rattle.std.proofs.Common.{◌≡◌, ℕ, List, refl, ap, ◌∙◌, Option, Some, None, lit<}
+-- The fields of a command, both ways.
+use Rattle.std.proofs.Common.{◌≡◌, ◌<◌, ◌-◌, ℕ, zero, suc, Bool, true, false, List, [], ◌∷◌, ◌++◌, length, is_some, refl, sym, ap, ◌∙◌, subst, arith, append_assoc, ◌≤◌, Option, Some, None, lit<, option_map}
 use Rattle.event_text.specs.Cuts.{IsCut, Cut, cut, uncut, cut_at}
-use Rattle.event_text.specs.Fields.{semicolon, Fields, fields, too_few, AreFields, last_fields, behind_host, behind_service, behind_services_host, host_fields, service_fields}
-use Rattle.event_text.specs.declared.command.Command.{Command}
-use Rattle.event_text.specs.declared.command.Command.TheVariants as command
-use Rattle.event_text.proofs.CutLaws.{cut_sound, cut_complete}
+use Rattle.event_text.specs.Fields.{semicolon, IsLast, AreFields, only_field, last_field, first_field, fields_in}
+use Rattle.event_text.proofs.CutLaws.{cut_sound, cut_complete, uncut_sound, uncut_complete}
 
--- what a reading of fields says
-abbrev pub Are : Command → List ℕ → Fields → Type 0
-Are c text too_few = Unit {0}
-Are c text (fields host service status output) = AreFields c text host service status output
+-- so many fields, and these are they
+pub record Are (ends_in_text : Bool) (n : ℕ) (fs : List (List ℕ)) (text : List ℕ) : Type 0 where
+  pub fields : AreFields ends_in_text fs text
+  pub count : length fs ≡ n
 
-pub host_fields_are : (text : List ℕ) → Are command.HostResult text (host_fields text)
-unfolding host_fields
-host_fields_are text = by (cut_at semicolon text) refl
+last_sound : (t : Bool) (text : List ℕ) (fs : List (List ℕ)) → last_field t text ≡ Some fs → Are t 1 fs text
+last_sound true text fs e = let is : text ∷ [] ≡ fs = cc in subst (λ x. Are true 1 x text) is (record { fields = refl; count = refl })
+last_sound false text fs e = by (cut_at semicolon text) refl e
   where
-    last : (host rest : List ℕ) → IsCut semicolon text host rest → (r : Cut) → cut_at semicolon rest ≡ r → Are command.HostResult text (last_fields host None r)
-    last host rest h uncut e = tt
-    last host rest h (cut status output) e = (rest, h, cut_sound semicolon rest status output e)
+    by : (r : Cut) → cut_at semicolon text ≡ r → only_field text r ≡ Some fs → Are false 1 fs text
+    by uncut h e = let is : text ∷ [] ≡ fs = cc in subst (λ x. Are false 1 x text) is (record { fields = (refl, uncut_sound semicolon text (lit< tt) h); count = refl })
+    by (cut f rest) h e = cc
 
-    by : (r : Cut) → cut_at semicolon text ≡ r → Are command.HostResult text (behind_host r)
-    by uncut e = tt
-    by (cut host rest) e = last host rest (cut_sound semicolon text host rest e) (cut_at semicolon rest) refl
+-- one in front of others
+more_fields : (t : Bool) (n : ℕ) (text front rest : List ℕ) (gs : List (List ℕ)) → IsCut semicolon text front rest → Are t (suc n) gs rest → Are t (suc (suc n)) (front ∷ gs) text
+more_fields t n text front rest [] h g = absurd g.fields
+more_fields t n text front rest (f ∷ gs) h g = record { fields = (rest, h, g.fields); count = ap suc g.count }
 
-pub service_fields_are : (text : List ℕ) → Are command.ServiceResult text (service_fields text)
-unfolding service_fields
-service_fields_are text = by (cut_at semicolon text) refl
+pub fields_sound : (t : Bool) (n : ℕ) (text : List ℕ) (fs : List (List ℕ)) → fields_in t n text ≡ Some fs → Are t n fs text
+fields_sound t zero text fs e = cc
+fields_sound t (suc zero) text fs e = last_sound t text fs e
+fields_sound t (suc (suc n)) text fs e = by (λ rest gs g. fields_sound t (suc n) rest gs g) (cut_at semicolon text) refl e
   where
-    last : (host more service rest : List ℕ) → IsCut semicolon text host more → IsCut semicolon more service rest → (r : Cut) → cut_at semicolon rest ≡ r → Are command.ServiceResult text (last_fields host (Some service) r)
-    last host more service rest h g uncut e = tt
-    last host more service rest h g (cut status output) e = (more, rest, h, g, cut_sound semicolon rest status output e)
+    there : (front rest : List ℕ) → IsCut semicolon text front rest → ((gs : List (List ℕ)) → fields_in t (suc n) rest ≡ Some gs → Are t (suc n) gs rest)
+        → (r : Option (List (List ℕ))) → fields_in t (suc n) rest ≡ r → option_map (λ gs. front ∷ gs) r ≡ Some fs → Are t (suc (suc n)) fs text
+    there front rest h again None g e = cc
+    there front rest h again (Some gs) g e = let is : front ∷ gs ≡ fs = cc in subst (λ x. Are t (suc (suc n)) x text) is (more_fields t n text front rest gs h (again gs g))
 
-    next : (host more : List ℕ) → IsCut semicolon text host more → (r : Cut) → cut_at semicolon more ≡ r → Are command.ServiceResult text (behind_service host r)
-    next host more h uncut e = tt
-    next host more h (cut service rest) e = last host more service rest h (cut_sound semicolon more service rest e) (cut_at semicolon rest) refl
+    by : ((rest : List ℕ) (gs : List (List ℕ)) → fields_in t (suc n) rest ≡ Some gs → Are t (suc n) gs rest) → (r : Cut) → cut_at semicolon text ≡ r
+        → first_field (λ rest. fields_in t (suc n) rest) r ≡ Some fs → Are t (suc (suc n)) fs text
+    by again uncut h e = cc
+    by again (cut front rest) h e = there front rest (cut_sound semicolon text front rest h) (again rest) (fields_in t (suc n) rest) refl e
 
-    by : (r : Cut) → cut_at semicolon text ≡ r → Are command.ServiceResult text (behind_services_host r)
-    by uncut e = tt
-    by (cut host more) e = next host more (cut_sound semicolon text host more e) (cut_at semicolon more) refl
+last_complete : (t : Bool) (f text : List ℕ) → IsLast t f text → last_field t text ≡ Some (f ∷ [])
+last_complete true f text h = ap (λ x. Some (x ∷ [])) h
+last_complete false f text h = ap (only_field text) (uncut_complete semicolon text h.1) ∙ ap (λ x. Some (x ∷ [])) h.0
 
-found : (text front behind : List ℕ) → IsCut semicolon text front behind → cut_at semicolon text ≡ cut front behind
-found text front behind h = cut_complete semicolon text front behind (lit< tt) h
+all_complete : (t : Bool) (fs : List (List ℕ)) (text : List ℕ) → AreFields t fs text → fields_in t (length fs) text ≡ Some fs
+all_complete t [] text h = absurd h
+all_complete t (f ∷ []) text h = last_complete t f text h
+all_complete t (f ∷ g ∷ fs) text h =
+    ap (first_field (λ rest. fields_in t (suc (length fs)) rest)) (cut_complete semicolon text f h.0 (lit< tt) h.1)
+    ∙ ap (option_map (λ gs. f ∷ gs)) (all_complete t (g ∷ fs) h.0 h.2)
 
-pub host_fields_found : (text host : List ℕ) (service : Option (List ℕ)) (status output : List ℕ) → AreFields command.HostResult text host service status output → host_fields text ≡ fields host service status output
-unfolding host_fields
-host_fields_found text host None status output h =
-    ap behind_host (found text host h.0 h.1) ∙ ap (last_fields host None) (found h.0 status output h.2)
-host_fields_found text host (Some service) status output h = absurd h
+pub fields_complete : (t : Bool) (n : ℕ) (fs : List (List ℕ)) (text : List ℕ) → AreFields t fs text → length fs ≡ n → fields_in t n text ≡ Some fs
+fields_complete t n fs text h e = subst (λ m. fields_in t m text ≡ Some fs) e (all_complete t fs text h)
 
-pub service_fields_found : (text host : List ℕ) (service : Option (List ℕ)) (status output : List ℕ) → AreFields command.ServiceResult text host service status output → service_fields text ≡ fields host service status output
-unfolding service_fields
-service_fields_found text host None status output h = absurd h
-service_fields_found text host (Some service) status output h =
-    ap behind_services_host (found text host h.0 h.2)
-    ∙ (ap (behind_service host) (found h.0 service h.1 h.3) ∙ ap (last_fields host (Some service)) (found h.1 status output h.4))
+-- more than one
+pub fields_more : (t : Bool) (n : ℕ) (text : List ℕ) → 1 < n → fields_in t n text ≡ first_field (λ rest. fields_in t (n - 1) rest) (cut_at semicolon text)
+fields_more t zero text h = absurd (omega arith)
+fields_more t (suc zero) text h = absurd (omega arith)
+fields_more t (suc (suc n)) text h =
+    let one : suc n ≡ suc (suc n) - 1 = omega arith in
+    ap (λ (m : ℕ). first_field (λ rest. fields_in t m rest) (cut_at semicolon text)) one
+
+-- one field more
+pub fields_next : (t : Bool) (n : ℕ) (rest front behind : List ℕ) (done : List (List ℕ)) → 1 < n → cut_at semicolon rest ≡ cut front behind
+    → option_map (λ fs. (done ++ front ∷ []) ++ fs) (fields_in t (n - 1) behind) ≡ option_map (λ fs. done ++ fs) (fields_in t n rest)
+fields_next t n rest front behind done lt e =
+    by (fields_in t (n - 1) behind)
+    ∙ sym (ap (option_map (λ fs. done ++ fs)) (fields_more t n rest lt ∙ ap (first_field (λ more. fields_in t (n - 1) more)) e))
+  where
+    by : (r : Option (List (List ℕ))) → option_map (λ fs. (done ++ front ∷ []) ++ fs) r ≡ option_map (λ fs. done ++ fs) (option_map (λ fs. front ∷ fs) r)
+    by None = refl
+    by (Some fs) = ap Some (append_assoc done (front ∷ []) fs)
+
+-- too few
+pub fields_lack : (t : Bool) (n : ℕ) (rest : List ℕ) (done : List (List ℕ)) → 1 < n → cut_at semicolon rest ≡ uncut → None ≡ option_map (λ fs. done ++ fs) (fields_in t n rest)
+fields_lack t n rest done lt e = sym (ap (option_map (λ fs. done ++ fs)) (fields_more t n rest lt ∙ ap (first_field (λ more. fields_in t (n - 1) more)) e))
+
+-- the last one
+pub fields_end : (t : Bool) (n : ℕ) (rest : List ℕ) (done : List (List ℕ)) → 0 < n → n ≤ 1 → is_some (last_field t rest) ≡ true → Some (done ++ rest ∷ []) ≡ option_map (λ fs. done ++ fs) (fields_in t n rest)
+fields_end t zero rest done some few h = absurd (omega arith)
+fields_end t (suc zero) rest done some few h = ap (option_map (λ fs. done ++ fs)) (by t h)
+  where
+    cut_by : (r : Cut) → is_some (only_field rest r) ≡ true → Some (rest ∷ []) ≡ only_field rest r
+    cut_by uncut h = refl
+    cut_by (cut f b) h = cc
+
+    by : (t : Bool) → is_some (last_field t rest) ≡ true → Some (rest ∷ []) ≡ last_field t rest
+    by true h = refl
+    by false h = cut_by (cut_at semicolon rest) h
+fields_end t (suc (suc n)) rest done some few h = absurd (omega arith)
+
+pub fields_past : (t : Bool) (n : ℕ) (rest : List ℕ) (done : List (List ℕ)) → 0 < n → n ≤ 1 → is_some (last_field t rest) ≡ false → None ≡ option_map (λ fs. done ++ fs) (fields_in t n rest)
+fields_past t zero rest done some few h = absurd (omega arith)
+fields_past t (suc zero) rest done some few h = ap (option_map (λ fs. done ++ fs)) (by (last_field t rest) h)
+  where
+    by : (r : Option (List (List ℕ))) → is_some r ≡ false → None ≡ r
+    by None h = refl
+    by (Some fs) h = cc
+fields_past t (suc (suc n)) rest done some few h = absurd (omega arith)

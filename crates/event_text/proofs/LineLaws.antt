@@ -1,93 +1,29 @@
 -- What a line tells, both ways.
-use Rattle.std.proofs.Common.{◌≡◌, ℕ, Bool, true, false, cond, List, refl, sym, ap, ◌∙◌, subst, Option, Some, None, Result, Ok, Err}
+use Rattle.std.proofs.Common.{◌≡◌, ◌-◌, ℕ, Bool, true, false, cond, List, drop, length, refl, sym, ap, ◌∙◌, subst, Option, Some, None, Result, Ok, Err}
 use Rattle.std.proofs.lemmas.Str.{IsUtf8-from_is_utf8, is_utf8-from_IsUtf8}
 use Rattle.std.specs.List.{slice_get}
-use Rattle.std.specs.Option.{option_map}
 use Rattle.std.specs.Str.{IsUtf8, is_utf8}
 use Rattle.site_model.specs.PlainSite.{PlainSite}
 use Rattle.site_model.specs.Sound.{HasNames}
 use Rattle.site_model.specs.declared.event.Event.{Event}
-use Rattle.event_text.specs.Checkables.{IsNamed, takes_passive, host_named, service_named}
-use Rattle.event_text.specs.Commands.{command_name, command_named, is_result}
+use Rattle.event_text.specs.Checkables.{IsNamed}
+use Rattle.event_text.specs.Commands.{command_name, command_named}
 use Rattle.event_text.specs.Cuts.{cut}
-use Rattle.event_text.specs.Fields.{Fields, fields, too_few, AreFields, host_fields, service_fields}
-use Rattle.event_text.specs.Lines.{Answer, told, later, faulty, IsHead, IsCommand, IsResult, HasFields, HasFault, Has, passive_event, status_of}
-use Rattle.event_text.specs.Numbers.{IsNumber, is_number, status_in}
-use Rattle.event_text.specs.Reading.{line_read, text_read, head_read, fields_read, passive_read, command_with, command_alone, Gives, Tells}
+use Rattle.event_text.specs.Fields.{field, service_in, fields_in}
+use Rattle.event_text.specs.Kinds.{kind_of, limits_of, names_of, count_of, ends_in_text, event_of, has_span, is_open_to}
+use Rattle.event_text.specs.Lines.{Answer, told, faulty, IsHead, IsCommand, IsAsked, HasFields, HasNumbers, IsOf, HasFault, Has}
+use Rattle.event_text.specs.Numbers.{IsNumber, is_number, numbers_in}
+use Rattle.event_text.specs.Reading.{line_read, text_read, head_read, looked_up, judged_read, numbers_read, place_read, fields_read, command_with, command_alone, Gives, Tells}
 use Rattle.event_text.specs.declared.command.Command.{Command}
-use Rattle.event_text.specs.declared.command.Command.TheVariants as command
 use Rattle.event_text.specs.declared.line_error.LineError.{LineError}
 use Rattle.event_text.specs.declared.line_error.LineError.TheVariants as error
 use Rattle.event_text.specs.declared.line_fault.LineFault.{LineFault}
 use Rattle.event_text.specs.declared.line_fault.LineFault.TheVariants as fault
 use Rattle.event_text.proofs.CheckableLaws.{host_is, host_found, no_host, host_lacks, service_is, service_found, no_service, service_lacks}
 use Rattle.event_text.proofs.CommandLaws.{command_sound, command_found, command_none, command_lacks}
-use Rattle.event_text.proofs.FieldLaws.{Are, host_fields_are, service_fields_are, host_fields_found, service_fields_found}
+use Rattle.event_text.proofs.FieldLaws.{Are, fields_sound, fields_complete}
 use Rattle.event_text.proofs.HeadLaws.{head_found, HeadOf, headless, headed, head_of, with_fields, NameOf, name_of, untimed, text_line, other_line, command_line}
-use Rattle.event_text.proofs.NumberLaws.{number_is, not_number, status_is, status_found, no_status, status_lacks}
-
--- a result of a host, one of a service, or another command, which has no fields yet
-data Kind : Command → Type 0 where
-  host_result : Kind command.HostResult
-  service_result : Kind command.ServiceResult
-  other : {c : Command} → is_result c ≡ false → ((s : PlainSite) (text : List ℕ) → command_with s (Some c) text ≡ later)
-      → ((text host : List ℕ) (service : Option (List ℕ)) (status output : List ℕ) → AreFields c text host service status output → ⊥) → Kind c
-
-kind_of : (c : Command) → Kind c
-kind_of command.HostResult = host_result
-kind_of command.ServiceResult = service_result
-kind_of command.HostCheck = other refl (λ s text. refl) (λ text host service status output h. h)
-kind_of command.ForcedHostCheck = other refl (λ s text. refl) (λ text host service status output h. h)
-kind_of command.ServiceCheck = other refl (λ s text. refl) (λ text host service status output h. h)
-kind_of command.ForcedServiceCheck = other refl (λ s text. refl) (λ text host service status output h. h)
-kind_of command.AcknowledgeHost = other refl (λ s text. refl) (λ text host service status output h. h)
-kind_of command.AcknowledgeService = other refl (λ s text. refl) (λ text host service status output h. h)
-kind_of command.UnacknowledgeHost = other refl (λ s text. refl) (λ text host service status output h. h)
-kind_of command.UnacknowledgeService = other refl (λ s text. refl) (λ text host service status output h. h)
-kind_of command.HostDowntime = other refl (λ s text. refl) (λ text host service status output h. h)
-kind_of command.ServiceDowntime = other refl (λ s text. refl) (λ text host service status output h. h)
-kind_of command.EndHostDowntime = other refl (λ s text. refl) (λ text host service status output h. h)
-kind_of command.EndServiceDowntime = other refl (λ s text. refl) (λ text host service status output h. h)
-kind_of command.HostChecksOn = other refl (λ s text. refl) (λ text host service status output h. h)
-kind_of command.HostChecksOff = other refl (λ s text. refl) (λ text host service status output h. h)
-kind_of command.HostNotesOn = other refl (λ s text. refl) (λ text host service status output h. h)
-kind_of command.HostNotesOff = other refl (λ s text. refl) (λ text host service status output h. h)
-kind_of command.ServiceChecksOn = other refl (λ s text. refl) (λ text host service status output h. h)
-kind_of command.ServiceChecksOff = other refl (λ s text. refl) (λ text host service status output h. h)
-kind_of command.ServiceNotesOn = other refl (λ s text. refl) (λ text host service status output h. h)
-kind_of command.ServiceNotesOff = other refl (λ s text. refl) (λ text host service status output h. h)
-
--- the fields of a result are read as they are
-fields_line : (s : PlainSite) (c : Command) (text host : List ℕ) (service : Option (List ℕ)) (status output : List ℕ) → AreFields c text host service status output
-    → command_with s (Some c) text ≡ fields_read s (fields host service status output)
-fields_line s c text host service status output h = by c (kind_of c) h
-  where
-    by : (c : Command) → Kind c → AreFields c text host service status output → command_with s (Some c) text ≡ fields_read s (fields host service status output)
-    by c host_result h = ap (fields_read s) (host_fields_found text host service status output h)
-    by c service_result h = ap (fields_read s) (service_fields_found text host service status output h)
-    by c (other miss is_later none) h = absurd (none text host service status output h)
-
-later_with : (s : PlainSite) (text : List ℕ) (c : Command) → is_result c ≡ false → command_with s (Some c) text ≡ later
-later_with s text c e = by c (kind_of c) e
-  where
-    by : (c : Command) → Kind c → is_result c ≡ false → command_with s (Some c) text ≡ later
-    by c host_result e = cc
-    by c service_result e = cc
-    by c (other miss is_later none) e = is_later s text
-
-same_status : (service : List ℕ) (q : Option ℕ) → q ≡ option_map (status_of (Some service)) q
-same_status service None = refl
-same_status service (Some n) = refl
-
--- what is read of a result whose checkable is looked up
-abbrev looked_up : PlainSite → List ℕ → Option (List ℕ) → Option ℕ
-looked_up s host None = host_named s host
-looked_up s host (Some service) = service_named s host service
-
-looked_line : (s : PlainSite) (host : List ℕ) (service : Option (List ℕ)) (status output : List ℕ)
-    → fields_read s (fields host service status output) ≡ passive_read s (looked_up s host service) (option_map (status_of service) (status_in status)) output
-looked_line s host None status output = refl
-looked_line s host (Some service) status output = ap (λ q. passive_read s (service_named s host service) q output) (same_status service (status_in status))
+use Rattle.event_text.proofs.NumberLaws.{number_is, not_number, numbers_sound, numbers_complete, no_numbers, numbers_lack}
 
 named_is : (s : PlainSite) (host : List ℕ) (service : Option (List ℕ)) (k : ℕ) → HasNames s → looked_up s host service ≡ Some k → IsNamed s host service k
 named_is s host None k has e = host_is s host k has e
@@ -105,43 +41,44 @@ named_lacks : (s : PlainSite) (host : List ℕ) (service : Option (List ℕ)) �
 named_lacks s host None has e k h = host_lacks s host has e k h
 named_lacks s host (Some service) has e k h = service_lacks s host service has e k h
 
-result_line : (s : PlainSite) (line host : List ℕ) (service : Option (List ℕ)) (status output : List ℕ) → IsResult line host service status output
-    → line_read s line ≡ passive_read s (looked_up s host service) (option_map (status_of service) (status_in status)) output
-result_line s line host service status output h =
-    command_line s line (command_name h.command) (Some h.fields) h.is
-    ∙ (ap (λ r. command_with s r h.fields) (command_found h.command)
-    ∙ (fields_line s h.command h.fields host service status output h.parts ∙ looked_line s host service status output))
+-- a command with its fields is read so
+fields_found : (c : Command) (text : List ℕ) (fs : List (List ℕ)) → HasFields c (Some text) fs → fields_in (ends_in_text c) (count_of c) text ≡ Some fs
+fields_found c text fs h = fields_complete (ends_in_text c) (count_of c) fs text h.0 h.1
+
+asked_line : (s : PlainSite) (line : List ℕ) (c : Command) (fs : List (List ℕ)) → IsAsked line c fs → line_read s line ≡ place_read s c fs (looked_up s (field fs 0) (service_in c fs))
+asked_line s line c fs h = by h.fields h.is h.parts
+  where
+    by : (o : Option (List ℕ)) → IsCommand line (command_name c) o → HasFields c o fs → line_read s line ≡ place_read s c fs (looked_up s (field fs 0) (service_in c fs))
+    by None is parts = absurd parts
+    by (Some text) is parts =
+        command_line s line (command_name c) (Some text) is
+        ∙ (ap (λ r. command_with s r text) (command_found c) ∙ ap (fields_read s c) (fields_found c text fs parts))
+
+-- of a checkable
+placed_line : (s : PlainSite) (line : List ℕ) (c : Command) (fs : List (List ℕ)) (k : ℕ) → HasNames s → IsAsked line c fs → IsOf s c fs k
+    → line_read s line ≡ numbers_read s (kind_of c) k (field fs (count_of c - 1)) (numbers_in (limits_of (kind_of c)) (drop (names_of c) fs))
+placed_line s line c fs k has h named =
+    asked_line s line c fs h ∙ ap (place_read s c fs) (named_found s (field fs 0) (service_in c fs) k has named)
+
+-- with numbers
+numbered_line : (s : PlainSite) (line : List ℕ) (c : Command) (fs : List (List ℕ)) (k : ℕ) (ns : List ℕ) → HasNames s → IsAsked line c fs → IsOf s c fs k → HasNumbers c fs ns
+    → line_read s line ≡ judged_read s (kind_of c) k ns (field fs (count_of c - 1))
+numbered_line s line c fs k ns has h named values =
+    placed_line s line c fs k has h named
+    ∙ ap (numbers_read s (kind_of c) k (field fs (count_of c - 1))) (numbers_complete (limits_of (kind_of c)) (drop (names_of c) fs) ns values)
 
 -- What a line has is read.
-alone : (c : Command) → is_result c ≡ true → command_alone (command_named (command_name c)) ≡ faulty fault.FieldCount
-alone c e = ap command_alone (command_found c) ∙ ap (λ t. cond t (faulty fault.FieldCount) later) e
-
-later_alone : (c : Command) → is_result c ≡ false → command_alone (command_named (command_name c)) ≡ later
-later_alone c e = ap command_alone (command_found c) ∙ ap (λ t. cond t (faulty fault.FieldCount) later) e
-
-later_line : (s : PlainSite) (c : Command) (fields : Option (List ℕ)) → is_result c ≡ false → with_fields s (command_name c) fields ≡ later
-later_line s c None e = later_alone c e
-later_line s c (Some text) e = ap (λ r. command_with s r text) (command_found c) ∙ later_with s text c e
-
 unknown_line : (s : PlainSite) (name : List ℕ) (fields : Option (List ℕ)) → command_named name ≡ None → with_fields s name fields ≡ faulty fault.UnknownCommand
 unknown_line s name None e = ap command_alone e
 unknown_line s name (Some text) e = ap (λ r. command_with s r text) e
 
-too_few_of : (text : List ℕ) (c : Command) (r : Fields) → Are c text r → (HasFields c (Some text) → ⊥) → r ≡ too_few
-too_few_of text c too_few h none = refl
-too_few_of text c (fields host service status output) h none = absurd (none (host, service, status, output, h))
-
-few_with : (s : PlainSite) (text : List ℕ) (c : Command) → is_result c ≡ true → (HasFields c (Some text) → ⊥) → command_with s (Some c) text ≡ faulty fault.FieldCount
-few_with s text c e h = by c (kind_of c) e h
+few_line : (s : PlainSite) (c : Command) (fields : Option (List ℕ)) → ((fs : List (List ℕ)) → HasFields c fields fs → ⊥) → with_fields s (command_name c) fields ≡ faulty fault.FieldCount
+few_line s c None h = ap command_alone (command_found c)
+few_line s c (Some text) h = ap (λ r. command_with s r text) (command_found c) ∙ by (fields_in (ends_in_text c) (count_of c) text) refl
   where
-    by : (c : Command) → Kind c → is_result c ≡ true → (HasFields c (Some text) → ⊥) → command_with s (Some c) text ≡ faulty fault.FieldCount
-    by c host_result e h = ap (fields_read s) (too_few_of text command.HostResult (host_fields text) (host_fields_are text) h)
-    by c service_result e h = ap (fields_read s) (too_few_of text command.ServiceResult (service_fields text) (service_fields_are text) h)
-    by c (other miss is_later none) e h = cc
-
-few_line : (s : PlainSite) (c : Command) (fields : Option (List ℕ)) → is_result c ≡ true → (HasFields c fields → ⊥) → with_fields s (command_name c) fields ≡ faulty fault.FieldCount
-few_line s c None e h = alone c e
-few_line s c (Some text) e h = ap (λ r. command_with s r text) (command_found c) ∙ few_with s text c e h
+    by : (r : Option (List (List ℕ))) → fields_in (ends_in_text c) (count_of c) text ≡ r → fields_read s c (fields_in (ends_in_text c) (count_of c) text) ≡ faulty fault.FieldCount
+    by None e = ap (fields_read s c) e
+    by (Some fs) e = let are : Are (ends_in_text c) (count_of c) fs text = fields_sound (ends_in_text c) (count_of c) text fs e in absurd (h fs (are.fields, are.count))
 
 fault_read : (s : PlainSite) (line : List ℕ) (f : LineFault) → HasNames s → HasFault s line f → line_read s line ≡ faulty f
 fault_read s line fault.NotText has h = other_line s line h
@@ -154,30 +91,26 @@ fault_read s line fault.BadMoment has h =
     text_line s line h.0 ∙ (head_found s line h.1 h.2 h.3 ∙ untimed s h.1 h.2 h.4)
 fault_read s line fault.UnknownCommand has h =
     command_line s line h.0 h.1 h.2 ∙ unknown_line s h.0 h.1 (command_none h.0 h.3)
-fault_read s line fault.FieldCount has h =
-    command_line s line (command_name h.0) h.1 h.3 ∙ few_line s h.0 h.1 h.2 h.4
+fault_read s line fault.FieldCount has h = command_line s line (command_name h.0) h.1 h.2 ∙ few_line s h.0 h.1 h.3
 fault_read s line fault.UnknownCheckable has h =
-    result_line s line h.0 h.1 h.2 h.3 h.4
-    ∙ ap (λ r. passive_read s r (option_map (status_of h.1) (status_in h.2)) h.3) (unnamed s h.0 h.1 has h.5)
+    asked_line s line h.0 h.1 h.2 ∙ ap (place_read s h.0 h.1) (unnamed s (field h.1 0) (service_in h.0 h.1) has h.3)
 fault_read s line fault.BadNumber has h =
-    result_line s line h.0 h.1 h.2 h.3 h.5
-    ∙ (ap (λ r. passive_read s r (option_map (status_of h.1) (status_in h.2)) h.3) (named_found s h.0 h.1 h.4 has h.6)
-    ∙ ap (λ q. passive_read s (Some h.4) (option_map (status_of h.1) q) h.3) (no_status h.2 h.7))
-fault_read s line fault.BadSpan has h = absurd h
+    placed_line s line h.0 h.1 h.2 has h.3 h.4
+    ∙ ap (numbers_read s (kind_of h.0) h.2 (field h.1 (count_of h.0 - 1))) (no_numbers (limits_of (kind_of h.0)) (drop (names_of h.0) h.1) h.5)
+fault_read s line fault.BadSpan has h =
+    numbered_line s line h.0 h.1 h.2 h.3 has h.4 h.5 h.6
+    ∙ ap (λ t. cond t (cond (is_open_to (kind_of h.0) (slice_get s.checkables h.2)) (told h.2 (event_of (kind_of h.0) h.3 (field h.1 (count_of h.0 - 1)))) (faulty fault.PassiveOff)) (faulty fault.BadSpan)) h.7
 fault_read s line fault.PassiveOff has h =
-    result_line s line h.0 h.1 h.2 h.3 h.6
-    ∙ (ap (λ r. passive_read s r (option_map (status_of h.1) (status_in h.2)) h.3) (named_found s h.0 h.1 h.4 has h.7)
-    ∙ (ap (λ q. passive_read s (Some h.4) (option_map (status_of h.1) q) h.3) (status_found h.2 h.5 h.8)
-    ∙ ap (λ t. cond t (told h.4 (passive_event (status_of h.1 h.5) h.3)) (faulty fault.PassiveOff)) h.9))
+    numbered_line s line h.0 h.1 h.2 h.3 has h.4 h.5 h.6
+    ∙ (ap (λ t. cond t (cond (is_open_to (kind_of h.0) (slice_get s.checkables h.2)) (told h.2 (event_of (kind_of h.0) h.3 (field h.1 (count_of h.0 - 1)))) (faulty fault.PassiveOff)) (faulty fault.BadSpan)) h.7
+    ∙ ap (λ t. cond t (told h.2 (event_of (kind_of h.0) h.3 (field h.1 (count_of h.0 - 1)))) (faulty fault.PassiveOff)) h.8)
 
 pub has_read : (s : PlainSite) (line : List ℕ) (a : Answer) → HasNames s → Has s line a → line_read s line ≡ a
 has_read s line (told k e) has h =
-    result_line s line h.host h.service h.status h.output h.result
-    ∙ (ap (λ r. passive_read s r (option_map (status_of h.service) (status_in h.status)) h.output) (named_found s h.host h.service k has h.named)
-    ∙ (ap (λ q. passive_read s (Some k) (option_map (status_of h.service) q) h.output) (status_found h.status h.n h.value)
-    ∙ (ap (λ t. cond t (told k (passive_event (status_of h.service h.n) h.output)) (faulty fault.PassiveOff)) h.taken
-    ∙ ap (told k) (sym h.event))))
-has_read s line later has h = command_line s line (command_name h.0) h.1 h.3 ∙ later_line s h.0 h.1 h.2
+    numbered_line s line h.command h.fields k h.numbers has h.asked h.named h.values
+    ∙ (ap (λ t. cond t (cond (is_open_to (kind_of h.command) (slice_get s.checkables k)) (told k (event_of (kind_of h.command) h.numbers (field h.fields (count_of h.command - 1)))) (faulty fault.PassiveOff)) (faulty fault.BadSpan)) h.span
+    ∙ (ap (λ t. cond t (told k (event_of (kind_of h.command) h.numbers (field h.fields (count_of h.command - 1)))) (faulty fault.PassiveOff)) h.taken
+    ∙ ap (told k) (sym h.event)))
 has_read s line (faulty f) has h = fault_read s line f has h
 
 -- And what is read is what the line has.
@@ -187,60 +120,50 @@ Judged s line = Has s line (line_read s line)
 judged_as : (s : PlainSite) (line : List ℕ) (a : Answer) → line_read s line ≡ a → Has s line a → Judged s line
 judged_as s line a e h = subst (Has s line) (sym e) h
 
-judged_status : (s : PlainSite) (line host : List ℕ) (service : Option (List ℕ)) (status output : List ℕ) (k : ℕ) → HasNames s → IsResult line host service status output → IsNamed s host service k
-    → (q : Option ℕ) → status_in status ≡ q → Has s line (passive_read s (Some k) (option_map (status_of service) q) output)
-judged_status s line host service status output k has h named None e = (host, service, status, output, k, h, named, status_lacks status e)
-judged_status s line host service status output k has h named (Some n) e = by (takes_passive (slice_get s.checkables k)) refl
+judged_numbers : (s : PlainSite) (line : List ℕ) (c : Command) (fs : List (List ℕ)) (k : ℕ) (ns : List ℕ) → IsAsked line c fs → IsOf s c fs k → HasNumbers c fs ns
+    → Has s line (judged_read s (kind_of c) k ns (field fs (count_of c - 1)))
+judged_numbers s line c fs k ns h named values = by (has_span (kind_of c) ns) refl (is_open_to (kind_of c) (slice_get s.checkables k)) refl
   where
-    by : (t : Bool) → takes_passive (slice_get s.checkables k) ≡ t → Has s line (cond (takes_passive (slice_get s.checkables k)) (told k (passive_event (status_of service n) output)) (faulty fault.PassiveOff))
-    by true on =
-        subst (λ t. Has s line (cond t (told k (passive_event (status_of service n) output)) (faulty fault.PassiveOff))) (sym on)
-        (record { host = host; service = service; status = status; output = output; n = n; result = h; named = named; value = status_is status n e; taken = on; event = refl })
-    by false off =
-        subst (λ t. Has s line (cond t (told k (passive_event (status_of service n) output)) (faulty fault.PassiveOff))) (sym off)
-        (host, service, status, output, k, n, h, named, status_is status n e, off)
+    event : Event
+    event = event_of (kind_of c) ns (field fs (count_of c - 1))
 
-judged_result : (s : PlainSite) (line host : List ℕ) (service : Option (List ℕ)) (status output : List ℕ) → HasNames s → IsResult line host service status output → Judged s line
-judged_result s line host service status output has h = by (looked_up s host service) refl
+    by : (t : Bool) → has_span (kind_of c) ns ≡ t → (u : Bool) → is_open_to (kind_of c) (slice_get s.checkables k) ≡ u → Has s line (cond t (cond u (told k event) (faulty fault.PassiveOff)) (faulty fault.BadSpan))
+    by true span true taken = record { command = c; fields = fs; numbers = ns; asked = h; named = named; values = values; span = span; taken = taken; event = refl }
+    by true span false shut = (c, fs, k, ns, h, named, values, span, shut)
+    by false none u e = (c, fs, k, ns, h, named, values, none)
+
+judged_asked : (s : PlainSite) (line : List ℕ) (c : Command) (fs : List (List ℕ)) → HasNames s → IsAsked line c fs → Judged s line
+judged_asked s line c fs has h = by (looked_up s (field fs 0) (service_in c fs)) refl
   where
-    by : (r : Option ℕ) → looked_up s host service ≡ r → Judged s line
+    there : (k : ℕ) → IsOf s c fs k → (r : Option (List ℕ)) → numbers_in (limits_of (kind_of c)) (drop (names_of c) fs) ≡ r → Judged s line
+    there k named None e =
+        judged_as s line (faulty fault.BadNumber)
+        (placed_line s line c fs k has h named ∙ ap (numbers_read s (kind_of c) k (field fs (count_of c - 1))) e)
+        (c, fs, k, h, named, numbers_lack (limits_of (kind_of c)) (drop (names_of c) fs) e)
+    there k named (Some ns) e =
+        judged_as s line (judged_read s (kind_of c) k ns (field fs (count_of c - 1)))
+        (placed_line s line c fs k has h named ∙ ap (numbers_read s (kind_of c) k (field fs (count_of c - 1))) e)
+        (judged_numbers s line c fs k ns h named (numbers_sound (limits_of (kind_of c)) (drop (names_of c) fs) ns e))
+
+    by : (r : Option ℕ) → looked_up s (field fs 0) (service_in c fs) ≡ r → Judged s line
     by None e =
-        judged_as s line (faulty fault.UnknownCheckable)
-        (result_line s line host service status output h ∙ ap (λ r. passive_read s r (option_map (status_of service) (status_in status)) output) e)
-        (host, service, status, output, h, named_lacks s host service has e)
-    by (Some k) e =
-        judged_as s line (passive_read s (Some k) (option_map (status_of service) (status_in status)) output)
-        (result_line s line host service status output h ∙ ap (λ r. passive_read s r (option_map (status_of service) (status_in status)) output) e)
-        (judged_status s line host service status output k has h (named_is s host service k has e) (status_in status) refl)
-
-judged_as_fields : (s : PlainSite) (line : List ℕ) (c : Command) (text : List ℕ) → HasNames s → is_result c ≡ true → IsCommand line (command_name c) (Some text) → (r : Fields) → Are c text r
-    → ((host : List ℕ) (service : Option (List ℕ)) (status output : List ℕ) → AreFields c text host service status output → r ≡ fields host service status output)
-    → command_with s (Some c) text ≡ fields_read s r → Judged s line
-judged_as_fields s line c text has result h (fields host service status output) are once e =
-    judged_result s line host service status output has (record { command = c; fields = text; is = h; parts = are })
-judged_as_fields s line c text has result h too_few are once e =
-    judged_as s line (faulty fault.FieldCount) (command_line s line (command_name c) (Some text) h ∙ (ap (λ r. command_with s r text) (command_found c) ∙ e))
-    (c, Some text, result, h, λ f. absurd (let is : too_few ≡ fields f.0 f.1 f.2 f.3 = once f.0 f.1 f.2 f.3 f.4 in cc))
-
-judged_with : (s : PlainSite) (line : List ℕ) (c : Command) (text : List ℕ) → HasNames s → IsCommand line (command_name c) (Some text) → Judged s line
-judged_with s line c text has h = by c (kind_of c) h
-  where
-    by : (c : Command) → Kind c → IsCommand line (command_name c) (Some text) → Judged s line
-    by c host_result h = judged_as_fields s line command.HostResult text has refl h (host_fields text) (host_fields_are text) (host_fields_found text) refl
-    by c service_result h = judged_as_fields s line command.ServiceResult text has refl h (service_fields text) (service_fields_are text) (service_fields_found text) refl
-    by c (other miss is_later none) h =
-        judged_as s line later (command_line s line (command_name c) (Some text) h ∙ later_line s c (Some text) miss) (c, Some text, miss, h)
-
-judged_alone : (s : PlainSite) (line : List ℕ) (c : Command) → HasNames s → IsCommand line (command_name c) None → Judged s line
-judged_alone s line c has h = by (is_result c) refl
-  where
-    by : (t : Bool) → is_result c ≡ t → Judged s line
-    by true e = judged_as s line (faulty fault.FieldCount) (command_line s line (command_name c) None h ∙ alone c e) (c, None, e, h, λ f. f)
-    by false e = judged_as s line later (command_line s line (command_name c) None h ∙ later_alone c e) (c, None, e, h)
+        judged_as s line (faulty fault.UnknownCheckable) (asked_line s line c fs h ∙ ap (place_read s c fs) e)
+        (c, fs, h, named_lacks s (field fs 0) (service_in c fs) has e)
+    by (Some k) e = there k (named_is s (field fs 0) (service_in c fs) k has e) (numbers_in (limits_of (kind_of c)) (drop (names_of c) fs)) refl
 
 judged_known : (s : PlainSite) (line : List ℕ) (c : Command) (fields : Option (List ℕ)) → HasNames s → IsCommand line (command_name c) fields → Judged s line
-judged_known s line c None has h = judged_alone s line c has h
-judged_known s line c (Some text) has h = judged_with s line c text has h
+judged_known s line c None has h =
+    judged_as s line (faulty fault.FieldCount) (command_line s line (command_name c) None h ∙ ap command_alone (command_found c)) (c, None, h, λ fs f. f)
+judged_known s line c (Some text) has h = by (fields_in (ends_in_text c) (count_of c) text) refl
+  where
+    by : (r : Option (List (List ℕ))) → fields_in (ends_in_text c) (count_of c) text ≡ r → Judged s line
+    by None e =
+        judged_as s line (faulty fault.FieldCount)
+        (command_line s line (command_name c) (Some text) h ∙ (ap (λ r. command_with s r text) (command_found c) ∙ ap (fields_read s c) e))
+        (c, Some text, h, λ fs f. absurd (let found : fields_in (ends_in_text c) (count_of c) text ≡ Some fs = fields_found c text fs f in cc))
+    by (Some fs) e =
+        let are : Are (ends_in_text c) (count_of c) fs text = fields_sound (ends_in_text c) (count_of c) text fs e in
+        judged_asked s line c fs has (record { fields = Some text; is = h; parts = (are.fields, are.count) })
 
 judged_command : (s : PlainSite) (line name : List ℕ) (fields : Option (List ℕ)) → HasNames s → IsCommand line name fields → Judged s line
 judged_command s line name parts has h = by (command_named name) refl
@@ -284,7 +207,6 @@ judged s line has = by (is_utf8 line) refl
 pub tells : (P : Answer → Type 0) (r : Result (ℕ × Event) LineError) (a : Answer) → Gives r a → P a → Tells P r
 tells P (Ok x) a e h = subst P e h
 tells P (Err (error.Fault f)) a e h = subst P e h
-tells P (Err error.NotYet) a e h = subst P e h
 tells P (Err error.OutOfMemory) a e h = tt
 
 pub gives : (r : Result (ℕ × Event) LineError) (a b : Answer) → Gives r a → a ≡ b → Gives r b

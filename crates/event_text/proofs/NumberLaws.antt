@@ -1,10 +1,12 @@
 -- Moments and numbers, both ways.
-use Rattle.std.proofs.Common.{◌≡◌, ℕ, ◌<◌, ◌≤◌, Bool, true, false, cond, ◌&&◌, nat_le, nat_lt, List, [], ◌∷◌, length, refl, ap, ◌∙◌, arith, Option, Some, None}
+use Rattle.std.proofs.Common.{◌≡◌, ℕ, ◌<◌, ◌≤◌, Bool, true, false, cond, ◌&&◌, nat_le, List, [], ◌∷◌, ◌++◌, length, option_map, append_assoc, sym, refl, ap, ap₂, subst, ◌∙◌, arith, Option, Some, None, Result, Ok, Err, IfOk, IfSome, Vec, Global}
 use Rattle.std.proofs.lemmas.Bool.Decides.{nat_tests}
 use Rattle.std.specs.Char.{is_ascii_digit, digit_value}
 use Rattle.std.specs.List.{list_all}
 use Rattle.std.specs.Str.Parse.{AllDigits, digits_value}
-use Rattle.event_text.specs.Numbers.{IsNumber, IsStatus, is_number, status_in}
+use Rattle.event_text.specs.Lent.{numbers_view}
+use Rattle.event_text.specs.Numbers.{IsNumber, IsNumberWithin, AreNumbers, AreWithin, is_number, number_in, numbers_in, before}
+use Rattle.event_text.specs.declared.limit.Limit.{Limit}
 
 both : (a b : Bool) → (a && b) ≡ true → (a ≡ true) × (b ≡ true)
 both true b e = (refl, e)
@@ -51,31 +53,83 @@ no_number most text h = by (is_number most text) refl
     by true e = absurd (h (number_is most text e))
     by false e = e
 
-status_of_tests : (text : List ℕ) (n : ℕ) (s t : Bool) → is_number 19 text ≡ s → nat_lt (digits_value 10 text) 256 ≡ t → cond (s && t) (Some (digits_value 10 text)) None ≡ Some n → IsStatus text n
-status_of_tests text n true true h g e =
+within_tests : (l : Limit) (text : List ℕ) (n : ℕ) (s t : Bool) → is_number l.digits text ≡ s → nat_le (digits_value 10 text) l.most ≡ t → cond (s && t) (Some (digits_value 10 text)) None ≡ Some n → IsNumberWithin l text n
+within_tests l text n true true h g e =
     let value : digits_value 10 text ≡ n = cc in
-    let low : digits_value 10 text < 256 = grind (arith, nat_tests) in
-    record { number = number_is 19 text h; value = value; within = omega arith }
-status_of_tests text n true false h g e = cc
-status_of_tests text n false t h g e = cc
+    let low : digits_value 10 text ≤ l.most = grind (arith, nat_tests) in
+    record { number = number_is l.digits text h; value = value; within = omega arith }
+within_tests l text n true false h g e = cc
+within_tests l text n false t h g e = cc
 
-pub status_is : (text : List ℕ) (n : ℕ) → status_in text ≡ Some n → IsStatus text n
-unfolding status_in
-status_is text n e = status_of_tests text n (is_number 19 text) (nat_lt (digits_value 10 text) 256) refl refl e
+pub number_sound : (l : Limit) (text : List ℕ) (n : ℕ) → number_in l text ≡ Some n → IsNumberWithin l text n
+unfolding number_in
+number_sound l text n e = within_tests l text n (is_number l.digits text) (nat_le (digits_value 10 text) l.most) refl refl e
 
-pub status_found : (text : List ℕ) (n : ℕ) → IsStatus text n → status_in text ≡ Some n
-unfolding status_in
-status_found text n h =
-    let low : nat_lt (digits_value 10 text) 256 ≡ true = (let value = h.value in let within = h.within in grind (arith, nat_tests)) in
-    ap (λ t. cond (t && nat_lt (digits_value 10 text) 256) (Some (digits_value 10 text)) None) (is_number_found 19 text h.number)
+pub number_complete : (l : Limit) (text : List ℕ) (n : ℕ) → IsNumberWithin l text n → number_in l text ≡ Some n
+unfolding number_in
+number_complete l text n h =
+    let low : nat_le (digits_value 10 text) l.most ≡ true = (let value = h.value in let within = h.within in grind (arith, nat_tests)) in
+    ap (λ t. cond (t && nat_le (digits_value 10 text) l.most) (Some (digits_value 10 text)) None) (is_number_found l.digits text h.number)
     ∙ (ap (λ t. cond t (Some (digits_value 10 text)) None) low ∙ ap Some h.value)
 
-pub no_status : (text : List ℕ) → ((n : ℕ) → IsStatus text n → ⊥) → status_in text ≡ None
-no_status text h = by (status_in text) refl
+-- a text that isn't a number, or is too great
+pub number_none : (l : Limit) (text : List ℕ) → ((n : ℕ) → IsNumberWithin l text n → ⊥) → number_in l text ≡ None
+number_none l text h = by (number_in l text) refl
   where
-    by : (r : Option ℕ) → status_in text ≡ r → status_in text ≡ None
+    by : (r : Option ℕ) → number_in l text ≡ r → number_in l text ≡ None
     by None e = e
-    by (Some n) e = absurd (h n (status_is text n e))
+    by (Some n) e = absurd (h n (number_sound l text n e))
 
-pub status_lacks : (text : List ℕ) → status_in text ≡ None → (n : ℕ) → IsStatus text n → ⊥
-status_lacks text e n h = let found : status_in text ≡ Some n = status_found text n h in cc
+-- several of them
+pub numbers_sound : (ls : List Limit) (ts : List (List ℕ)) (ns : List ℕ) → numbers_in ls ts ≡ Some ns → AreNumbers ls ts ns
+numbers_sound [] ts ns e = let is : [] ≡ ns = cc in subst (λ n. AreNumbers [] ts n) is tt
+numbers_sound (l ∷ ls) [] ns e = cc
+numbers_sound (l ∷ ls) (t ∷ ts) ns e = by (λ ms g. numbers_sound ls ts ms g) (number_in l t) refl (numbers_in ls ts) refl e
+  where
+    by : ((ms : List ℕ) → numbers_in ls ts ≡ Some ms → AreNumbers ls ts ms) → (q : Option ℕ) → number_in l t ≡ q → (r : Option (List ℕ)) → numbers_in ls ts ≡ r → before q r ≡ Some ns → AreNumbers (l ∷ ls) (t ∷ ts) ns
+    by again None h r g e = cc
+    by again (Some n) h None g e = cc
+    by again (Some n) h (Some ms) g e = let is : n ∷ ms ≡ ns = cc in subst (λ x. AreNumbers (l ∷ ls) (t ∷ ts) x) is (number_sound l t n h, again ms g)
+
+pub numbers_complete : (ls : List Limit) (ts : List (List ℕ)) (ns : List ℕ) → AreNumbers ls ts ns → numbers_in ls ts ≡ Some ns
+numbers_complete [] ts [] h = refl
+numbers_complete [] ts (n ∷ ns) h = absurd h
+numbers_complete (l ∷ ls) [] ns h = absurd h
+numbers_complete (l ∷ ls) (t ∷ ts) [] h = absurd h
+numbers_complete (l ∷ ls) (t ∷ ts) (n ∷ ns) h = ap₂ before (number_complete l t n h.0) (numbers_complete ls ts ns h.1)
+
+pub no_numbers : (ls : List Limit) (ts : List (List ℕ)) → ((ns : List ℕ) → AreNumbers ls ts ns → ⊥) → numbers_in ls ts ≡ None
+no_numbers ls ts h = by (numbers_in ls ts) refl
+  where
+    by : (r : Option (List ℕ)) → numbers_in ls ts ≡ r → numbers_in ls ts ≡ None
+    by None e = e
+    by (Some ns) e = absurd (h ns (numbers_sound ls ts ns e))
+
+pub numbers_lack : (ls : List Limit) (ts : List (List ℕ)) → numbers_in ls ts ≡ None → (ns : List ℕ) → AreNumbers ls ts ns → ⊥
+numbers_lack ls ts e ns h = let found : numbers_in ls ts ≡ Some ns = numbers_complete ls ts ns h in cc
+
+-- what is read is within the limits
+all_within : (ls : List Limit) (ts : List (List ℕ)) (ns : List ℕ) → AreNumbers ls ts ns → AreWithin ls ns
+all_within [] ts [] h = tt
+all_within [] ts (n ∷ ns) h = absurd h
+all_within (l ∷ ls) [] ns h = absurd h
+all_within (l ∷ ls) (t ∷ ts) [] h = absurd h
+all_within (l ∷ ls) (t ∷ ts) (n ∷ ns) h = (h.0.within, all_within ls ts ns h.1)
+
+pub numbers_within : (ls : List Limit) (ts : List (List ℕ)) (ns : List ℕ) → numbers_in ls ts ≡ Some ns → AreWithin ls ns
+numbers_within ls ts ns e = all_within ls ts ns (numbers_sound ls ts ns e)
+
+-- one number more of those that are read
+pub numbers_next : (done : List ℕ) (l : Limit) (ls : List Limit) (t : List ℕ) (ts : List (List ℕ)) (n : ℕ) → number_in l t ≡ Some n
+    → option_map (λ ns. (done ++ n ∷ []) ++ ns) (numbers_in ls ts) ≡ option_map (λ ns. done ++ ns) (numbers_in (l ∷ ls) (t ∷ ts))
+numbers_next done l ls t ts n e = by (numbers_in ls ts) ∙ sym (ap (λ q. option_map (λ ns. done ++ ns) (before q (numbers_in ls ts))) e)
+  where
+    by : (r : Option (List ℕ)) → option_map (λ ns. (done ++ n ∷ []) ++ ns) r ≡ option_map (λ ns. done ++ ns) (option_map (λ more. n ∷ more) r)
+    by None = refl
+    by (Some ns) = ap Some (append_assoc done (n ∷ []) ns)
+
+-- the same of what a call gave
+pub within_ok : {E : Type 0} (ls : List Limit) (ts : List (List ℕ)) (r : Result (Option (Vec ℕ Global)) E) → IfOk r (λ ns. numbers_view ns ≡ numbers_in ls ts) → IfOk r (λ ns. IfSome ns (λ v. AreWithin ls v.items))
+within_ok ls ts (Ok None) h = tt
+within_ok ls ts (Ok (Some v)) h = numbers_within ls ts v.items (sym h)
+within_ok ls ts (Err e) h = tt

@@ -41,9 +41,3 @@ command_among (c ∷ cs) name = if bytes_eq name (command_name c) then Some c el
 -- the command of this name
 unfoldable pub command_named : List ℕ → Option Command
 command_named name = command_among all_commands name
-
--- whether it hands in a check's result
-abbrev pub is_result : Command → Bool
-is_result command.HostResult = true
-is_result command.ServiceResult = true
-is_result c = false

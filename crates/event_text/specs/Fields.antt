@@ -1,45 +1,47 @@
--- The fields of a result.
-use Rattle.std.specs.Prelude.{ℕ, List, codes, Option, Some, None}
-use Rattle.event_text.specs.Cuts.{Cut, cut, uncut, cut_at, IsCut}
+-- The fields of a command.
+use Rattle.std.specs.Prelude.{ℕ, zero, suc, ◌≡◌, Bool, true, false, List, [], ◌∷◌, codes, slice_index_or, Option, Some, None, if◌then◌else◌}
+use Rattle.std.specs.Option.{option_map}
+use Rattle.event_text.specs.Cuts.{Cut, cut, uncut, cut_at, IsCut, IsUncut}
+use Rattle.event_text.specs.Kinds.{names_service}
 use Rattle.event_text.specs.declared.command.Command.{Command}
-use Rattle.event_text.specs.declared.command.Command.TheVariants as command
 
 -- what ends each field but the last
 abbrev pub semicolon : List ℕ
 semicolon = codes ";"
 
--- host, service where there is one, status and output; or too few of them
-pub data Fields : Type 0 where
-  too_few : Fields
-  fields : (host : List ℕ) (service : Option (List ℕ)) (status output : List ℕ) → Fields
+-- the last field has no semicolon in it, unless it is a text, which takes the rest
+abbrev pub IsLast : Bool → List ℕ → List ℕ → Type 0
+IsLast true f text = text ≡ f
+IsLast false f text = (text ≡ f) × IsUncut semicolon text
 
--- each field but the output, which takes the rest, goes to the first semicolon
-abbrev pub AreFields : Command → List ℕ → List ℕ → Option (List ℕ) → List ℕ → List ℕ → Type 0
-AreFields command.HostResult text host None status output =
-    (rest : List ℕ) × IsCut semicolon text host rest × IsCut semicolon rest status output
-AreFields command.ServiceResult text host (Some service) status output =
-    (more rest : List ℕ) × IsCut semicolon text host more × IsCut semicolon more service rest × IsCut semicolon rest status output
-AreFields c text host service status output = ⊥
+-- each other field goes to the first semicolon
+abbrev pub AreFields : Bool → List (List ℕ) → List ℕ → Type 0
+AreFields ends_in_text [] text = ⊥
+AreFields ends_in_text (f ∷ []) text = IsLast ends_in_text f text
+AreFields ends_in_text (f ∷ g ∷ fs) text = (rest : List ℕ) × IsCut semicolon text f rest × AreFields ends_in_text (g ∷ fs) rest
+
+abbrev pub field : List (List ℕ) → ℕ → List ℕ
+field fs i = slice_index_or fs i []
+
+-- the host stands first, and then the service where there is one
+abbrev pub service_in : Command → List (List ℕ) → Option (List ℕ)
+service_in c fs = if names_service c then Some (field fs 1) else None
 
 -- The same, calculated.
-abbrev pub last_fields : List ℕ → Option (List ℕ) → Cut → Fields
-last_fields host service uncut = too_few
-last_fields host service (cut status output) = fields host service status output
+abbrev pub only_field : List ℕ → Cut → Option (List (List ℕ))
+only_field text uncut = Some (text ∷ [])
+only_field text (cut front behind) = None
 
-abbrev pub behind_host : Cut → Fields
-behind_host uncut = too_few
-behind_host (cut host rest) = last_fields host None (cut_at semicolon rest)
+abbrev pub last_field : Bool → List ℕ → Option (List (List ℕ))
+last_field true text = Some (text ∷ [])
+last_field false text = only_field text (cut_at semicolon text)
 
-abbrev pub behind_service : List ℕ → Cut → Fields
-behind_service host uncut = too_few
-behind_service host (cut service rest) = last_fields host (Some service) (cut_at semicolon rest)
+abbrev pub first_field : (List ℕ → Option (List (List ℕ))) → Cut → Option (List (List ℕ))
+first_field more uncut = None
+first_field more (cut front behind) = option_map (λ fs. front ∷ fs) (more behind)
 
-abbrev pub behind_services_host : Cut → Fields
-behind_services_host uncut = too_few
-behind_services_host (cut host rest) = behind_service host (cut_at semicolon rest)
-
-unfoldable pub host_fields : List ℕ → Fields
-host_fields text = behind_host (cut_at semicolon text)
-
-unfoldable pub service_fields : List ℕ → Fields
-service_fields text = behind_services_host (cut_at semicolon text)
+-- so many fields, where the text has no others
+abbrev pub fields_in : Bool → ℕ → List ℕ → Option (List (List ℕ))
+fields_in ends_in_text zero text = None
+fields_in ends_in_text (suc zero) text = last_field ends_in_text text
+fields_in ends_in_text (suc (suc n)) text = first_field (λ rest. fields_in ends_in_text (suc n) rest) (cut_at semicolon text)

@@ -3,6 +3,8 @@ pub mod Commands
 pub mod Cuts
 pub mod Faults
 pub mod Fields
+pub mod Kinds
+pub mod Lent
 pub mod Lines
 pub mod Numbers
 pub mod Reading

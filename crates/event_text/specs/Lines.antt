@@ -1,24 +1,22 @@
 -- Command lines, in the format's own words.
-use Rattle.std.specs.Prelude.{ℕ, ◌≡◌, ◌≢◌, true, false, List, ◌∷◌, codes, Option, Some, None}
+use Rattle.std.specs.Prelude.{ℕ, ◌≡◌, ◌≢◌, ◌-◌, true, false, List, ◌∷◌, codes, length, drop, Option, Some, None}
 use Rattle.std.specs.List.{slice_get}
 use Rattle.std.specs.Str.{IsUtf8}
-use Rattle.plugin_line.specs.Output.{plugin_result}
 use Rattle.site_model.specs.PlainSite.{PlainSite}
 use Rattle.site_model.specs.declared.event.Event.{Event}
-use Rattle.site_model.specs.declared.event.Event.TheVariants as event
-use Rattle.event_text.specs.Checkables.{IsNamed, takes_passive}
-use Rattle.event_text.specs.Commands.{command_name, is_result}
+use Rattle.event_text.specs.Checkables.{IsNamed}
+use Rattle.event_text.specs.Commands.{command_name}
 use Rattle.event_text.specs.Cuts.{IsCut, IsUncut}
-use Rattle.event_text.specs.Fields.{semicolon, AreFields}
-use Rattle.event_text.specs.Numbers.{IsNumber, IsStatus, host_status}
+use Rattle.event_text.specs.Fields.{semicolon, AreFields, field, service_in}
+use Rattle.event_text.specs.Kinds.{kind_of, limits_of, names_of, count_of, ends_in_text, event_of, has_span, is_open_to}
+use Rattle.event_text.specs.Numbers.{IsNumber, AreNumbers}
 use Rattle.event_text.specs.declared.command.Command.{Command}
 use Rattle.event_text.specs.declared.line_fault.LineFault.{LineFault}
 use Rattle.event_text.specs.declared.line_fault.LineFault.TheVariants as fault
 
--- what a line tells: an event of the checkable at a place, a command that isn't read yet, or a fault
+-- what a line tells: an event of the checkable at a place, or a fault
 pub data Answer : Type 0 where
   told : ℕ → Event → Answer
-  later : Answer
   faulty : LineFault → Answer
 
 -- what stands behind the moment
@@ -45,43 +43,36 @@ pub record IsCommand (line name : List ℕ) (fields : Option (List ℕ)) : Type 
   pub in_time : IsNumber 11 moment
   pub has_name : HasName command name fields
 
--- a result of a host, or of a service of it, with this status and this output as they are written
-pub record IsResult (line host : List ℕ) (service : Option (List ℕ)) (status output : List ℕ) : Type 0 where
-  pub command : Command
-  pub fields : List ℕ
-  pub is : IsCommand line (command_name command) (Some fields)
-  pub parts : AreFields command fields host service status output
+-- as many fields as the command has
+abbrev pub HasFields : Command → Option (List ℕ) → List (List ℕ) → Type 0
+HasFields c None fs = ⊥
+HasFields c (Some text) fs = AreFields (ends_in_text c) fs text × (length fs ≡ count_of c)
 
--- a result's fields, where there are enough of them
-abbrev pub HasFields : Command → Option (List ℕ) → Type 0
-HasFields c None = ⊥
-HasFields c (Some text) = (host : List ℕ) × (service : Option (List ℕ)) × (status output : List ℕ) × AreFields c text host service status output
+-- a command with as many fields as it has
+pub record IsAsked (line : List ℕ) (c : Command) (fs : List (List ℕ)) : Type 0 where
+  pub fields : Option (List ℕ)
+  pub is : IsCommand line (command_name c) fields
+  pub parts : HasFields c fields fs
 
--- a passive result
-abbrev pub passive_event : ℕ → List ℕ → Event
-passive_event status output = let told = plugin_result output status in event.Result told.status true told.output told.perf
+-- which checkable it names
+abbrev pub IsOf : PlainSite → Command → List (List ℕ) → ℕ → Type 0
+IsOf s c fs k = IsNamed s (field fs 0) (service_in c fs) k
 
--- the status of a result of a host or of a service
-abbrev pub status_of : Option (List ℕ) → ℕ → ℕ
-status_of None n = host_status n
-status_of (Some service) n = n
+-- and with which numbers
+abbrev pub HasNumbers : Command → List (List ℕ) → List ℕ → Type 0
+HasNumbers c fs ns = AreNumbers (limits_of (kind_of c)) (drop (names_of c) fs) ns
 
--- a result of a checkable that takes passive ones
+-- a command that can be followed
 pub record HasEvent (s : PlainSite) (line : List ℕ) (k : ℕ) (e : Event) : Type 0 where
-  pub host : List ℕ
-  pub service : Option (List ℕ)
-  pub status : List ℕ
-  pub output : List ℕ
-  pub n : ℕ
-  pub result : IsResult line host service status output
-  pub named : IsNamed s host service k
-  pub value : IsStatus status n
-  pub taken : takes_passive (slice_get s.checkables k) ≡ true
-  pub event : e ≡ passive_event (status_of service n) output
-
--- a command of another kind
-abbrev pub IsLater : List ℕ → Type 0
-IsLater line = (c : Command) × (fields : Option (List ℕ)) × (is_result c ≡ false) × IsCommand line (command_name c) fields
+  pub command : Command
+  pub fields : List (List ℕ)
+  pub numbers : List ℕ
+  pub asked : IsAsked line command fields
+  pub named : IsOf s command fields k
+  pub values : HasNumbers command fields numbers
+  pub span : has_span (kind_of command) numbers ≡ true
+  pub taken : is_open_to (kind_of command) (slice_get s.checkables k) ≡ true
+  pub event : e ≡ event_of (kind_of command) numbers (field fields (count_of command - 1))
 
 -- each fault, where nothing that stands before it in this order is one
 abbrev pub HasFault : PlainSite → List ℕ → LineFault → Type 0
@@ -92,20 +83,19 @@ HasFault s line fault.BadMoment =
 HasFault s line fault.UnknownCommand =
     (name : List ℕ) × (fields : Option (List ℕ)) × IsCommand line name fields × ((c : Command) → name ≢ command_name c)
 HasFault s line fault.FieldCount =
-    (c : Command) × (fields : Option (List ℕ)) × (is_result c ≡ true) × IsCommand line (command_name c) fields × (HasFields c fields → ⊥)
+    (c : Command) × (fields : Option (List ℕ)) × IsCommand line (command_name c) fields × ((fs : List (List ℕ)) → HasFields c fields fs → ⊥)
 HasFault s line fault.UnknownCheckable =
-    (host : List ℕ) × (service : Option (List ℕ)) × (status output : List ℕ) × IsResult line host service status output
-    × ((k : ℕ) → IsNamed s host service k → ⊥)
+    (c : Command) × (fs : List (List ℕ)) × IsAsked line c fs × ((k : ℕ) → IsOf s c fs k → ⊥)
 HasFault s line fault.BadNumber =
-    (host : List ℕ) × (service : Option (List ℕ)) × (status output : List ℕ) × (k : ℕ) × IsResult line host service status output
-    × IsNamed s host service k × ((n : ℕ) → IsStatus status n → ⊥)
-HasFault s line fault.BadSpan = ⊥
+    (c : Command) × (fs : List (List ℕ)) × (k : ℕ) × IsAsked line c fs × IsOf s c fs k × ((ns : List ℕ) → HasNumbers c fs ns → ⊥)
+HasFault s line fault.BadSpan =
+    (c : Command) × (fs : List (List ℕ)) × (k : ℕ) × (ns : List ℕ) × IsAsked line c fs × IsOf s c fs k × HasNumbers c fs ns
+    × (has_span (kind_of c) ns ≡ false)
 HasFault s line fault.PassiveOff =
-    (host : List ℕ) × (service : Option (List ℕ)) × (status output : List ℕ) × (k n : ℕ) × IsResult line host service status output
-    × IsNamed s host service k × IsStatus status n × (takes_passive (slice_get s.checkables k) ≡ false)
+    (c : Command) × (fs : List (List ℕ)) × (k : ℕ) × (ns : List ℕ) × IsAsked line c fs × IsOf s c fs k × HasNumbers c fs ns
+    × (has_span (kind_of c) ns ≡ true) × (is_open_to (kind_of c) (slice_get s.checkables k) ≡ false)
 
 -- what a line tells over a site
 abbrev pub Has : PlainSite → List ℕ → Answer → Type 0
 Has s line (told k e) = HasEvent s line k e
-Has s line later = IsLater line
 Has s line (faulty f) = HasFault s line f

@@ -1,6 +1,9 @@
 // The commands.
-ghost use Rattle.std.specs.Prelude.{◌≡◌};
+ghost use Rattle.std.specs.Prelude.{◌≡◌, ◌≤◌};
 ghost use Rattle.event_text.specs.Commands.{command_name};
+ghost use Rattle.event_text.specs.Kinds.{count_of, ends_in_text as last_is_text, kind_of, names_of, names_service as has_service};
+
+use crate::kind::Kind;
 
 /// A command that a line gives (Icinga 2 documentation, Features, "External Commands" and "External
 /// Commands List").
@@ -85,5 +88,78 @@ impl Command {
             Command::ServiceNotesOn => "ENABLE_SVC_NOTIFICATIONS",
             Command::ServiceNotesOff => "DISABLE_SVC_NOTIFICATIONS",
         }
+    }
+
+    /// What it asks for.
+    pub(crate) fn kind(self) -> Kind
+        ensures { result ≡ kind_of self }
+    {
+        match self {
+            Command::HostResult => Kind::HostResult,
+            Command::ServiceResult => Kind::ServiceResult,
+            Command::HostCheck | Command::ServiceCheck => Kind::Check { forced: false },
+            Command::ForcedHostCheck | Command::ForcedServiceCheck => Kind::Check { forced: true },
+            Command::AcknowledgeHost | Command::AcknowledgeService => Kind::Acknowledge,
+            Command::UnacknowledgeHost | Command::UnacknowledgeService => Kind::Unacknowledge,
+            Command::HostDowntime | Command::ServiceDowntime => Kind::Downtime,
+            Command::EndHostDowntime | Command::EndServiceDowntime => Kind::EndDowntime,
+            Command::HostChecksOn | Command::ServiceChecksOn => Kind::Checks { on: true },
+            Command::HostChecksOff | Command::ServiceChecksOff => Kind::Checks { on: false },
+            Command::HostNotesOn | Command::ServiceNotesOn => Kind::Notes { on: true },
+            Command::HostNotesOff | Command::ServiceNotesOff => Kind::Notes { on: false },
+        }
+    }
+
+    /// Whether it names a service of the host.
+    pub(crate) fn names_service(self) -> bool
+        ensures { result ≡ has_service self }
+    {
+        match self {
+            Command::ServiceResult
+            | Command::ServiceCheck
+            | Command::ForcedServiceCheck
+            | Command::AcknowledgeService
+            | Command::UnacknowledgeService
+            | Command::ServiceDowntime
+            | Command::EndServiceDowntime
+            | Command::ServiceChecksOn
+            | Command::ServiceChecksOff
+            | Command::ServiceNotesOn
+            | Command::ServiceNotesOff => true,
+            Command::HostResult
+            | Command::HostCheck
+            | Command::ForcedHostCheck
+            | Command::AcknowledgeHost
+            | Command::UnacknowledgeHost
+            | Command::HostDowntime
+            | Command::EndHostDowntime
+            | Command::HostChecksOn
+            | Command::HostChecksOff
+            | Command::HostNotesOn
+            | Command::HostNotesOff => false,
+        }
+    }
+
+    /// How many names stand first: the host's, and maybe the service's.
+    pub(crate) fn names(self) -> usize
+        ensures value { result ≡ names_of self }
+        ensures few { result ≤ 2 }
+    {
+        if self.names_service() { 2 } else { 1 }
+    }
+
+    /// How many fields it has.
+    pub(crate) fn count(self) -> usize
+        ensures { result ≡ count_of self }
+    {
+        let kind = self.kind();
+        self.names() + kind.limits().len() + kind.texts()
+    }
+
+    /// Whether its last field is a text, which takes the rest of the line.
+    pub(crate) fn ends_in_text(self) -> bool
+        ensures { result ≡ last_is_text self }
+    {
+        self.kind().texts() > 0
     }
 }

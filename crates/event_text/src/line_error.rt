@@ -8,9 +8,6 @@ use thiserror::Error;
 pub enum LineError {
     #[error("{0}")]
     Fault(LineFault),
-    /// A command that is known by its name alone: its fields aren't read yet.
-    #[error("a command that can't be read yet")]
-    NotYet,
     #[error("out of memory")]
     OutOfMemory,
 }

@@ -3,15 +3,32 @@ ghost use Rattle.std.specs.Prelude.{◌≡◌, IfOk};
 ghost use Rattle.std.specs.List.{slice_get};
 ghost use Rattle.site_model.specs.PlainSite.{site_view};
 ghost use Rattle.site_model.specs.Names.{place_of};
+ghost use Rattle.event_text.specs.Lent.{text_view};
+ghost use Rattle.event_text.specs.Reading.{looked_up};
 ghost use Rattle.event_text.specs.Checkables.{full_name, service_at, host_named, service_named, is_host as host_test, is_service_of as service_test, takes_passive as passive_test};
 
 use site_base::{OutOfMemory, Text};
 use site_model::Site;
 use std::alloc::Global;
 
+/// The place of the host of this name, or of the service of this name on it.
+pub(crate) fn find_named(
+    alloc: Global,
+    site: &Site,
+    host: &str,
+    service: Option<&str>,
+) -> Result<Option<u32>, OutOfMemory>
+    ensures { IfOk result (λ place. place ≡ looked_up (site_view site.now) host.now (text_view service.entry)) }
+{
+    match service {
+        None => Ok(find_host(site, host)),
+        Some(service) => find_service(alloc, site, host, service),
+    }
+}
+
 /// The place of the host of this name.
 #[tactic(auto, unfolding(crate::specs::Checkables::host_named))]
-pub(crate) fn find_host(site: &Site, name: &str) -> Option<u32>
+fn find_host(site: &Site, name: &str) -> Option<u32>
     ensures { result ≡ host_named (site_view site.now) name.now }
 {
     match site.find(name) {
@@ -22,7 +39,7 @@ pub(crate) fn find_host(site: &Site, name: &str) -> Option<u32>
 
 /// The place of the service of this name on the host of that name.
 #[tactic(auto, unfolding(crate::specs::Checkables::service_named))]
-pub(crate) fn find_service(
+fn find_service(
     alloc: Global,
     site: &Site,
     host: &str,

@@ -1,12 +1,15 @@
 // Numbers of a line.
-ghost use Rattle.std.specs.Prelude.{◌≡◌};
+ghost use Rattle.std.specs.Prelude.{◌≡◌, ◌≤◌, length, slice_index, nat_le, Some, None, IfOk, IfSome, drop, if◌then◌else◌};
 ghost use Rattle.std.specs.Char.{is_ascii_digit};
 ghost use Rattle.std.specs.List.{list_all};
-ghost use Rattle.std.specs.Option.{option_map};
-ghost use Rattle.event_text.specs.Numbers.{is_number as number_test, status_in, host_status};
+ghost use Rattle.event_text.specs.Lent.{numbers_view, texts_view};
+ghost use Rattle.event_text.specs.Numbers.{is_number as number_test, number_in, numbers_in, AreWithin};
+ghost use Rattle.event_text.specs.Kinds.{count_of, kind_of, limits_of, names_of};
 
-/// A number has at most so many digits.
-const MOST_DIGITS: usize = 19;
+use crate::Command;
+use crate::limit::Limit;
+use site_base::OutOfMemory;
+use std::alloc::Global;
 
 /// Whether a text is digits alone, one or more and at most so many.
 pub(crate) fn is_number(text: &str, most: usize) -> bool
@@ -21,25 +24,72 @@ fn are_digits(bytes: &[u8]) -> bool
     bytes.iter().all(|b| b.is_ascii_digit())
 }
 
-/// The status of a plugin, from 0 to 255, that a text stands for.
-#[tactic(auto, unfolding(crate::specs::Numbers::status_in))]
-pub(crate) fn read_status(text: &str) -> Option<u8>
-    ensures { result ≡ status_in text.now }
+/// The number of at most so many digits that a text stands for, where it is at most so great.
+fn read_number(text: &str, digits: usize, most: u64) -> Option<u64>
+    ensures { result ≡ number_in (record { digits = digits; most = most }) text.now }
 {
-    if !is_number(text, MOST_DIGITS) {
+    if !is_number(text, digits) {
         return None;
     }
-    text.parse().ok()
+    match text.parse::<u64>() {
+        Ok(number) => at_most(number, most),
+        Err(_) => None,
+    }
 }
 
-/// The status of a host's passive result that a text stands for: 0 as it is, and each other as 2, since
-/// the host is then down.
-pub(crate) fn read_host_status(text: &str) -> Option<u8>
-    ensures { result ≡ option_map host_status (status_in text.now) }
+fn at_most(number: u64, most: u64) -> Option<u64>
+    ensures { result ≡ (if nat_le number most then Some number else None) }
 {
-    match read_status(text) {
-        Some(0) => Some(0),
-        Some(_) => Some(2),
-        None => None,
+    if number <= most { Some(number) } else { None }
+}
+
+/// The numbers within these limits that the first texts stand for.
+fn read_numbers(
+    alloc: Global,
+    limits: &[Limit],
+    texts: &[&str],
+) -> Result<Option<Vec<u64>>, OutOfMemory>
+    requires { length limits.now ≤ length texts.now }
+    ensures { IfOk result (λ ns. numbers_view ns ≡ numbers_in limits.now (texts_view texts.now)) }
+{
+    let mut numbers = Vec::with_capacity(alloc, limits.len())?;
+    for i in 0..limits.len() {
+        let Some(number) = read_number(texts[i], limits[i].digits, limits[i].most) else {
+            return Ok(None);
+        };
+        numbers.push(number)?;
+    }
+    Ok(Some(numbers))
+}
+
+/// The numbers of a command, which stand behind the names in its fields.
+pub(crate) fn numbers_of(
+    alloc: Global,
+    command: Command,
+    fields: &[&str],
+) -> Result<Option<Vec<u64>>, OutOfMemory>
+    requires { length fields.now ≡ count_of command }
+    ensures value { IfOk result (λ ns. numbers_view ns ≡ numbers_in (limits_of (kind_of command)) (drop (names_of command) (texts_view fields.now))) }
+    ensures within { IfOk result (λ ns. IfSome ns (λ v. AreWithin (limits_of (kind_of command)) v.items)) }
+{
+    let behind = behind_names(fields, command.names());
+    read_numbers(alloc, command.kind().limits(), behind)
+}
+
+/// The fields behind so many.
+fn behind_names<'a>(fields: &'a [&'a str], names: usize) -> &'a [&'a str]
+    requires { names ≤ length fields.now }
+    ensures { result.now ≡ drop names fields.now }
+{
+    fields.split_at(names).1
+}
+
+/// The number at a place, or 0 where there is none.
+pub(crate) fn number(numbers: &[u64], place: usize) -> u64
+    ensures { result ≡ slice_index numbers.now place }
+{
+    match numbers.get(place) {
+        Some(number) => *number,
+        None => 0,
     }
 }

@@ -1,0 +1,66 @@
+// The fields of commands.
+ghost use Rattle.std.specs.Prelude.{◌≡◌, ◌<◌, IfOk, is_some};
+ghost use Rattle.event_text.specs.Fields.{field as field_at, fields_in, last_field, service_in as service_among};
+ghost use Rattle.event_text.specs.Lent.{fields_view, text_view, texts_view};
+
+use crate::Command;
+use crate::cutting::cut;
+use site_base::OutOfMemory;
+use std::alloc::Global;
+
+/// The fields of a text, where it has so many and no others. The last one takes the rest where it is a text.
+pub(crate) fn split<'a>(
+    alloc: Global,
+    text: &'a str,
+    count: usize,
+    ends_in_text: bool,
+) -> Result<Option<Vec<&'a str>>, OutOfMemory>
+    requires { 0 < count }
+    ensures { IfOk result (λ fs. fields_view fs ≡ fields_in ends_in_text count text.now) }
+{
+    let mut fields = Vec::with_capacity(alloc, count)?;
+    let mut rest = text;
+    let mut left = count;
+    while left > 1 {
+        let Some((front, behind)) = cut(rest, ";") else {
+            return Ok(None);
+        };
+        fields.push(front)?;
+        rest = behind;
+        left -= 1;
+    }
+    if is_last(rest, ends_in_text) {
+        fields.push(rest)?;
+        Ok(Some(fields))
+    } else {
+        Ok(None)
+    }
+}
+
+/// Whether a text is one field.
+fn is_last(text: &str, ends_in_text: bool) -> bool
+    ensures { result ≡ is_some (last_field ends_in_text text.now) }
+{
+    ends_in_text || cut(text, ";").is_none()
+}
+
+/// The field at a place, or the empty text where there is none.
+pub(crate) fn field<'a>(fields: &[&'a str], place: usize) -> &'a str
+    ensures { result.now ≡ field_at (texts_view fields.now) place }
+{
+    match fields.get(place) {
+        Some(text) => text,
+        None => "",
+    }
+}
+
+/// The service that the fields of a command name.
+pub(crate) fn service_in<'a>(command: Command, fields: &[&'a str]) -> Option<&'a str>
+    ensures { text_view result ≡ service_among command (texts_view fields.now) }
+{
+    if command.names_service() {
+        Some(field(fields, 1))
+    } else {
+        None
+    }
+}
