@@ -39,7 +39,7 @@ script_answers script s (told turns) names = by (needs_more s turns) refl
     reply : Bool → PlainReply
     reply b = reply_of_plan (cond b (tells (not_yet script)) (runs s turns))
 
-    by : (b : Bool) → needs_more s turns ≡ b → (SomeIsLater turns × (reply b ≡ not_yet script)) ⊎ IsLog s turns (reply b)
+    by : (b : Bool) → needs_more s turns ≡ b → (SomeIsLater s turns × (reply b ≡ not_yet script)) ⊎ IsLog s turns (reply b)
     by true e = inl (some_is_later s turns names e, refl)
     by false e = inr (log_is s turns names e)
 

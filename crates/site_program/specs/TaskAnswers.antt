@@ -26,7 +26,7 @@ pub record IsLog (s : PlainSite) (turns : List Turn) (reply : PlainReply) : Type
 
 -- the log of a script's turns over this site; or some line of it isn't read yet, or its first line that is none is this one
 abbrev pub AnswersScript : List ℕ → PlainSite → Answer → PlainReply → Type 0
-AnswersScript script s (told turns) reply = (SomeIsLater turns × (reply ≡ not_yet script)) ⊎ IsLog s turns reply
+AnswersScript script s (told turns) reply = (SomeIsLater s turns × (reply ≡ not_yet script)) ⊎ IsLog s turns reply
 AnswersScript script s (bad_line n) reply = reply ≡ bad_script script n
 
 abbrev pub AnswersBytes : List ℕ → PlainSite → Option (List ℕ) → PlainReply → Type 0

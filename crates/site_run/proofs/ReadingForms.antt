@@ -1,59 +1,106 @@
 -- A line tells no event but one that can be printed, on a checkable of the site.
-use Rattle.std.proofs.Common.{◌≡◌, ◌≤◌, ◌<◌, ℕ, zero, suc, length, ◌==◌, Bool, true, false, cond, List, [], ◌∷◌, Option, Some, None, min, slice_get, refl, subst, arith, option_map}
+use Rattle.std.proofs.Common.{◌≡◌, ◌≤◌, ◌<◌, ℕ, zero, suc, length, ◌==◌, Bool, true, false, cond, List, [], ◌∷◌, Option, Some, None, min, slice_get, slice_index, refl, subst, arith, OnTrue}
 use Rattle.std.specs.Str.{is_utf8}
+use Rattle.site_model.specs.Names.{place_of}
 use Rattle.site_model.specs.PlainSite.{PlainSite, PlainCheck}
 use Rattle.site_model.specs.declared.event.Event.{Event}
 use Rattle.site_text.specs.Entries.{IsInForm}
-use Rattle.event_text.specs.Checkables.{host_named, service_named, takes_passive}
-use Rattle.event_text.specs.Commands.{command_named, is_result}
+use Rattle.event_text.specs.Checkables.{full_name, is_host, is_service_of, host_at, service_at, service_below, host_named, service_named}
+use Rattle.event_text.specs.Commands.{command_named}
 use Rattle.event_text.specs.Cuts.{Cut, cut, uncut, cut_at}
-use Rattle.event_text.specs.Fields.{Fields, too_few, fields, host_fields, service_fields, semicolon}
-use Rattle.event_text.specs.Lines.{Answer, told, later, faulty, bracket, passive_event}
-use Rattle.event_text.specs.Numbers.{is_number, status_in, host_status}
-use Rattle.event_text.specs.Reading.{line_read, text_read, head_read, command_read, cut_read, command_alone, command_with, fields_read, passive_read}
+use Rattle.event_text.specs.Fields.{field, fields_in, service_in, semicolon}
+use Rattle.event_text.specs.Kinds.{kind_of, limits_of, names_of, count_of, ends_in_text, event_of, has_span, is_open_to, is_one}
+use Rattle.event_text.specs.Lines.{Answer, told, faulty, bracket}
+use Rattle.event_text.specs.Numbers.{is_number, numbers_in}
+use Rattle.event_text.specs.Reading.{line_read, text_read, head_read, command_read, cut_read, command_alone, command_with, fields_read, place_read, numbers_read, judged_read, looked_up}
 use Rattle.event_text.specs.declared.command.Command.{Command}
-use Rattle.event_text.specs.declared.command.Command.TheVariants as command
+use Rattle.event_text.specs.declared.kind.Kind.{Kind}
+use Rattle.event_text.specs.declared.kind.Kind.TheVariants as kind
 use Rattle.event_text.specs.declared.line_fault.LineFault.TheVariants as fault
 
 -- what is told can be printed, and is told of a checkable of the site
 abbrev pub TellsInForm : PlainSite → Answer → Type 0
 TellsInForm s (told k e) = IsInForm e × (k < length s.checkables)
-TellsInForm s later = Unit {0}
 TellsInForm s (faulty f) = Unit {0}
 
 either : (s : PlainSite) (b : Bool) (x y : Answer) → TellsInForm s x → TellsInForm s y → TellsInForm s (cond b x y)
 either s true x y p q = p
 either s false x y p q = q
 
--- what takes passive results is there
-there : (cs : List PlainCheck) (k : ℕ) → takes_passive (slice_get cs k) ≡ true → k < length cs
-there [] k h = absurd cc
-there (c ∷ cs) zero h = omega arith
-there (c ∷ cs) (suc k) h = let w = there cs k h in omega (arith, w)
+-- what is asked for can be printed
+kept : (b : Bool) (n : ℕ) → OnTrue b (cond b 0 n ≡ 0)
+kept true n = refl
+kept false n = tt
 
-passive : (s : PlainSite) (k n : Option ℕ) (output : List ℕ) → TellsInForm s (passive_read s k n output)
-passive s None n output = tt
-passive s (Some k) None output = tt
-passive s (Some k) (Some n) output = by (takes_passive (slice_get s.checkables k)) refl
+event_in_form : (k : Kind) (ns : List ℕ) (last : List ℕ) → IsInForm (event_of k ns last)
+event_in_form kind.HostResult ns last = few (cond (slice_index ns 0 == 0) 0 2)
   where
-    by : (b : Bool) → takes_passive (slice_get s.checkables k) ≡ b → TellsInForm s (cond b (told k (passive_event n output)) (faulty fault.PassiveOff))
-    by true h = (let few : min n 3 ≤ 3 = omega arith in few, there s.checkables k h)
-    by false h = tt
+    few : (n : ℕ) → min n 3 ≤ 3
+    few n = omega arith
+event_in_form kind.ServiceResult ns last = few (slice_index ns 0)
+  where
+    few : (n : ℕ) → min n 3 ≤ 3
+    few n = omega arith
+event_in_form (kind.Check forced) ns last = tt
+event_in_form kind.Acknowledge ns last = tt
+event_in_form kind.Unacknowledge ns last = tt
+event_in_form kind.Downtime ns last = kept (is_one (slice_index ns 2)) (slice_index ns 4)
+event_in_form kind.EndDowntime ns last = tt
+event_in_form (kind.Checks on) ns last = tt
+event_in_form (kind.Notes on) ns last = tt
 
-of_fields : (s : PlainSite) (f : Fields) → TellsInForm s (fields_read s f)
-of_fields s too_few = tt
-of_fields s (fields host None status output) = passive s (host_named s host) (option_map host_status (status_in status)) output
-of_fields s (fields host (Some service) status output) = passive s (service_named s host service) (status_in status) output
+-- what is looked up is there
+host_there : (cs : List PlainCheck) (k : ℕ) → is_host (slice_get cs k) ≡ true → k < length cs
+host_there [] k h = absurd cc
+host_there (c ∷ cs) zero h = omega arith
+host_there (c ∷ cs) (suc k) h = let w = host_there cs k h in omega (arith, w)
+
+service_there : (host : ℕ) (cs : List PlainCheck) (k : ℕ) → is_service_of host (slice_get cs k) ≡ true → k < length cs
+service_there host [] k h = absurd cc
+service_there host (c ∷ cs) zero h = omega arith
+service_there host (c ∷ cs) (suc k) h = let w = service_there host cs k h in omega (arith, w)
+
+chosen : (j k n : ℕ) (b : Bool) → (b ≡ true → j < n) → cond b (Some j) None ≡ Some k → k < n
+chosen j k n true h e = let same : j ≡ k = cc in subst (λ i. i < n) same (h refl)
+chosen j k n false h e = absurd cc
+
+host_within : (s : PlainSite) (r : Option ℕ) (k : ℕ) → host_at s r ≡ Some k → k < length s.checkables
+host_within s None k e = absurd cc
+host_within s (Some j) k e = chosen j k (length s.checkables) (is_host (slice_get s.checkables j)) (host_there s.checkables j) e
+
+service_within : (s : PlainSite) (host : ℕ) (r : Option ℕ) (k : ℕ) → service_at s host r ≡ Some k → k < length s.checkables
+service_within s host None k e = absurd cc
+service_within s host (Some j) k e = chosen j k (length s.checkables) (is_service_of host (slice_get s.checkables j)) (service_there host s.checkables j) e
+
+below_within : (s : PlainSite) (name : List ℕ) (host : Option ℕ) (k : ℕ) → service_below s name host ≡ Some k → k < length s.checkables
+below_within s name None k e = absurd cc
+below_within s name (Some host) k e = service_within s host (place_of name s.names) k e
+
+found_within : (s : PlainSite) (host : List ℕ) (service : Option (List ℕ)) (k : ℕ) → looked_up s host service ≡ Some k → k < length s.checkables
+unfolding host_named service_named
+found_within s host None k e = host_within s (place_of host s.names) k e
+found_within s host (Some service) k e = below_within s (full_name host service) (host_named s host) k e
+
+of_numbers : (s : PlainSite) (k : Kind) (place : ℕ) (last : List ℕ) (ns : Option (List ℕ)) → place < length s.checkables → TellsInForm s (numbers_read s k place last ns)
+of_numbers s k place last None h = tt
+of_numbers s k place last (Some ns) h =
+    either s (has_span k ns) _ _ (either s (is_open_to k (slice_get s.checkables place)) _ _ (event_in_form k ns last, h) tt) tt
+
+of_place : (s : PlainSite) (c : Command) (fs : List (List ℕ)) (r : Option ℕ) → ((k : ℕ) → r ≡ Some k → k < length s.checkables) → TellsInForm s (place_read s c fs r)
+of_place s c fs None h = tt
+of_place s c fs (Some k) h = of_numbers s (kind_of c) k _ _ (h k refl)
+
+of_fields : (s : PlainSite) (c : Command) (fs : Option (List (List ℕ))) → TellsInForm s (fields_read s c fs)
+of_fields s c None = tt
+of_fields s c (Some fs) = of_place s c fs (looked_up s (field fs 0) (service_in c fs)) (λ k e. found_within s (field fs 0) (service_in c fs) k e)
 
 of_command : (s : PlainSite) (c : Option Command) (text : List ℕ) → TellsInForm s (command_with s c text)
 of_command s None text = tt
-of_command s (Some command.HostResult) text = of_fields s (host_fields text)
-of_command s (Some command.ServiceResult) text = of_fields s (service_fields text)
-of_command s (Some c) text = tt
+of_command s (Some c) text = of_fields s c (fields_in (ends_in_text c) (count_of c) text)
 
 of_name : (s : PlainSite) (c : Option Command) → TellsInForm s (command_alone c)
 of_name s None = tt
-of_name s (Some c) = either s (is_result c) _ _ tt tt
+of_name s (Some c) = tt
 
 of_cut : (s : PlainSite) (name : List ℕ) (c : Cut) → TellsInForm s (cut_read s name c)
 of_cut s name uncut = of_name s (command_named name)

@@ -3,7 +3,7 @@ use Rattle.std.proofs.Common.{◌≡◌, ℕ, zero, suc, ◌+◌, ◌<◌, max, 
 use Rattle.std.proofs.lemmas.List.{append-nil}
 use Rattle.site_edge.specs.declared.turn.Turn.{Turn}
 use Rattle.site_model.specs.PlainSite.{PlainSite, PlainCheck}
-use Rattle.event_text.specs.Lines.{Answer, told, later, faulty}
+use Rattle.event_text.specs.Lines.{Answer, told, faulty}
 use Rattle.event_text.specs.Reading.{line_read}
 use Rattle.run_meaning.specs.Alone.{AreOnSite, IsOnSite, all_events, turn_alone}
 use Rattle.run_meaning.specs.Dealing.{Taken, still, line_events, taken_reports, ticks, ticks_from, wants_tick}
@@ -34,7 +34,6 @@ lines_on_site s (line ∷ lines) = by (line_read s line) refl (lines_on_site s l
   where
     by : (a : Answer) → line_read s line ≡ a → AreOnSite s (line_events (lines_read s lines)) → AreOnSite s (line_events (as_line a ∷ lines_read s lines))
     by (told k e) h rest = one_more s (record { checkable = k; event = e }) (line_events (lines_read s lines)) (line_on_site s line k e h) rest
-    by later h rest = rest
     by (faulty f) h rest = rest
 
 ticks_on_site : (s : PlainSite) (k : ℕ) (cs : List PlainCheck) (before : Histories) (moment : ℕ) → k + length cs ≡ length s.checkables → AreOnSite s (ticks_from k cs before moment)

@@ -1,16 +1,17 @@
 -- How turns are read, by the relation of command lines.
-use Rattle.std.specs.Prelude.{ℕ, ◌≡◌, List, [], ◌∷◌, map, Contains}
+use Rattle.std.specs.Prelude.{ℕ, ◌≡◌, true, false, List, [], ◌∷◌, map, Contains}
 use Rattle.site_edge.specs.declared.turn.Turn.{Turn}
 use Rattle.site_model.specs.PlainSite.{PlainSite}
 use Rattle.event_text.specs.Faults.{fault_name}
-use Rattle.event_text.specs.Lines.{HasEvent, HasFault, IsLater}
+use Rattle.site_model.specs.declared.event.Event.{Event}
+use Rattle.event_text.specs.Lines.{HasEvent, HasFault}
 use Rattle.event_text.specs.declared.line_fault.LineFault.{LineFault}
 use Rattle.run_meaning.specs.Turns.{Line, asking, faulty, ReadTurn}
-use Rattle.site_run.specs.Replay.{report_read}
+use Rattle.site_run.specs.Replay.{is_result, report_read}
 
--- a line is read as the event that it has, or as the name of its fault
+-- a line is read as the result that it has, or as the name of its fault
 abbrev pub IsLineRead : PlainSite → List ℕ → Line → Type 0
-IsLineRead s line (asking a) = HasEvent s line a.checkable a.event
+IsLineRead s line (asking a) = HasEvent s line a.checkable a.event × (is_result a.event ≡ true)
 IsLineRead s line (faulty name) = (f : LineFault) × HasFault s line f × (name ≡ fault_name f)
 
 abbrev pub AreLinesRead : PlainSite → List (List ℕ) → List Line → Type 0
@@ -31,6 +32,10 @@ AreTurnsRead s [] (r ∷ rs) = ⊥
 AreTurnsRead s (t ∷ ts) [] = ⊥
 AreTurnsRead s (t ∷ ts) (r ∷ rs) = IsTurnRead s t r × AreTurnsRead s ts rs
 
--- some line of these turns is a command that isn't read yet
-abbrev pub SomeIsLater : List Turn → Type 0
-SomeIsLater ts = (t : Turn) × Contains ts t × (line : List ℕ) × Contains t.lines line × IsLater line
+-- a line has an event that a replay can't follow yet
+abbrev pub IsLater : PlainSite → List ℕ → Type 0
+IsLater s line = (k : ℕ) × (e : Event) × HasEvent s line k e × (is_result e ≡ false)
+
+-- some line of these turns has one
+abbrev pub SomeIsLater : PlainSite → List Turn → Type 0
+SomeIsLater s ts = (t : Turn) × Contains ts t × (line : List ℕ) × Contains t.lines line × IsLater s line

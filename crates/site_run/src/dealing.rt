@@ -91,7 +91,6 @@ fn deal_line(
     match read_line(alloc, line, site) {
         Ok((checkable, event)) => dealt.events.push(Asked { checkable, event })?,
         Err(LineError::Fault(fault)) => dealt.refusals.push(Refusal::Line { number, fault })?,
-        Err(LineError::NotYet) => unreachable!(),
         Err(LineError::OutOfMemory) => return Err(OutOfMemory),
     }
     Ok(())

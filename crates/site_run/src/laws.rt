@@ -18,10 +18,10 @@ pub fn a_replay_is_a_run()
     a_log_is_one_function();
 }
 
-/// By the relation of command lines turns are read in exactly one way, unless some line of them is a command that isn't
-/// read yet.
+/// By the relation of command lines turns are read in exactly one way, unless some line of them tells what a replay can't
+/// follow yet.
 pub fn turns_are_read_in_one_way()
     ensures is { (s : PlainSite) (ts : List Turn) → HasNames s → needs_more s ts ≡ false → AreTurnsRead s ts (map (turn_read s) ts) }
     ensures only { (s : PlainSite) (ts : List Turn) (rs : List ReadTurn) → HasNames s → AreTurnsRead s ts rs → (needs_more s ts ≡ false) × (rs ≡ map (turn_read s) ts) }
-    ensures later { (s : PlainSite) (ts : List Turn) → HasNames s → (needs_more s ts ≡ true) ↔ SomeIsLater ts }
+    ensures later { (s : PlainSite) (ts : List Turn) → HasNames s → (needs_more s ts ≡ true) ↔ SomeIsLater s ts }
 {}
