@@ -10,6 +10,7 @@ mod trees;
 mod words;
 
 use crate::setup::Setup;
+use case_rows::is_row;
 use site_base::{OutOfMemory, Text};
 use std::alloc::Global;
 use std::io::{BufRead, BufReader};
@@ -26,7 +27,7 @@ fn main(rt: HostRuntime) -> anyhow::Result<()> {
 /// The line, with the answer behind it if it asks for one.
 fn told(alloc: Global, line: &str, setup: &mut Setup) -> Result<Text, OutOfMemory> {
     let mut out = Text::copy_of(alloc, line)?;
-    if line.is_empty() || line.starts_with('#') {
+    if !is_row(line) {
         return Ok(out);
     }
     let (word, value) = line.split_once(' ').unwrap_or((line, ""));
