@@ -16,6 +16,3 @@ mod wheel;
 pub use links::{Link, Links};
 pub use steps::Steps;
 pub use wheel::{Absent, Present, Wheel};
-
-#[cfg(test)]
-mod tests;

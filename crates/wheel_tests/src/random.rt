@@ -2,14 +2,14 @@
 ghost use Rattle.std.specs.Prelude.{◌≡◌, ◌+◌, ◌*◌, ◌<◌, ◌≤◌};
 ghost use Rattle.wheel_links.specs.Members.{capacity_of};
 
-use super::plain::Plain;
-use crate::{Absent, Present, Steps, Wheel};
+use crate::plain::Plain;
 use site_base::Moment;
 use std::alloc::Global;
 use std::marker::Brand;
 use std::process::Abort;
 use std::sync::ledger::{Blank, Ledger};
 use std::test::Fail;
+use wheel_links::{Absent, Present, Steps, Wheel};
 
 /// The next number of a sequence that looks random.
 fn next(seed: u64) -> u64 {

@@ -1,6 +1,6 @@
 use Rattle.std.proofs.Common.{◌≡◌}
 use Rattle.wheel_links.specs.Members.{capacity_of}
-use Rattle.wheel_links.proofs.tests.speed.an_hour.Given as goal
+use Rattle.wheel_tests.proofs.speed.an_hour.Given as goal
 
 abbrev pub invariant-loop-now : goal.invariant-loop-now
 invariant-loop-now g l = capacity_of l.wheel ≡ 100000

@@ -2,24 +2,25 @@
 ghost use Rattle.std.specs.Prelude.{◌≡◌, ◌<◌, ◌≤◌, IfOk};
 ghost use Rattle.wheel_links.specs.Members.{capacity_of};
 
-use crate::{Steps, Wheel};
 use site_base::Moment;
 use std::alloc::Global;
 use std::marker::Brand;
 use std::process::Abort;
 use std::sync::ledger::{Blank, Ledger};
 use std::test::Fail;
+use wheel_links::{Steps, Wheel};
 
 const MEMBERS: u32 = 100_000;
 
-/// A wheel with all members, spread over so many seconds.
+/// A wheel with all members, spread over so many seconds and placed in permuted order.
 fn spread<L: Ledger>(alloc: Global, seconds: u64, steps: &mut Steps<L>) -> Result<Wheel, Fail>
     requires { 0 < seconds }
     ensures { IfOk result (λ w. capacity_of w ≡ MEMBERS) }
 {
     let first = Moment::of(0).ok_or("zero is a moment")?;
     let mut wheel = Wheel::new(alloc, MEMBERS, 4096)?;
-    for id in 0..MEMBERS {
+    for place in 0..u64::from(MEMBERS) {
+        let id = (place * 7919 % u64::from(MEMBERS)) as u32;
         wheel.place(id, first.later(u64::from(id) % seconds), steps)?;
     }
     Ok(wheel)
