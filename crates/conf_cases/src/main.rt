@@ -1,0 +1,34 @@
+//! Reads rows from standard input, and writes each with what is wrong between its objects.
+//!
+//! The head of the file `stdin` says what a row is. Empty lines and those that begin with `#` are written as they are, so
+//! that line N of the output is of line N of the input.
+#![tactic(auto)]
+
+mod asking;
+
+use site_base::{OutOfMemory, Text};
+use std::alloc::Global;
+use std::io::{BufRead, BufReader};
+
+fn main(rt: HostRuntime) -> anyhow::Result<()> {
+    for line in BufReader::new(rt.alloc(), rt.reader())?.lines(rt.alloc()) {
+        let told = told(rt.alloc(), line?.as_str())?;
+        println!(rt; "{}", told.as_str())?;
+    }
+    Ok(())
+}
+
+/// The line, with the answer behind it if it is a row.
+fn told(alloc: Global, line: &str) -> Result<Text, OutOfMemory> {
+    let mut out = Text::copy_of(alloc, line)?;
+    if line.is_empty() || line.starts_with('#') {
+        return Ok(out);
+    }
+    out.push_str("  →  ")?;
+    let (word, text) = match line.split_once(' ') {
+        Some((word, text)) => (word, text.trim_start()),
+        None => (line, ""),
+    };
+    asking::push_answer(alloc, &mut out, word, text)?;
+    Ok(out)
+}
