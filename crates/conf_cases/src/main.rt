@@ -6,6 +6,7 @@
 
 mod asking;
 
+use case_rows::{ANSWER, row_of};
 use site_base::{OutOfMemory, Text};
 use std::alloc::Global;
 use std::io::{BufRead, BufReader};
@@ -21,14 +22,9 @@ fn main(rt: HostRuntime) -> anyhow::Result<()> {
 /// The line, with the answer behind it if it is a row.
 fn told(alloc: Global, line: &str) -> Result<Text, OutOfMemory> {
     let mut out = Text::copy_of(alloc, line)?;
-    if line.is_empty() || line.starts_with('#') {
-        return Ok(out);
+    if let Some((word, text)) = row_of(line) {
+        out.push_str(ANSWER)?;
+        asking::push_answer(alloc, &mut out, word, text)?;
     }
-    out.push_str("  →  ")?;
-    let (word, text) = match line.split_once(' ') {
-        Some((word, text)) => (word, text.trim_start()),
-        None => (line, ""),
-    };
-    asking::push_answer(alloc, &mut out, word, text)?;
     Ok(out)
 }
