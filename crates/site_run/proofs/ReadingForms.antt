@@ -1,5 +1,6 @@
 -- A line tells no event but one that can be printed, on a checkable of the site.
-use Rattle.std.proofs.Common.{◌≡◌, ◌≤◌, ◌<◌, ℕ, zero, suc, length, ◌==◌, Bool, true, false, cond, List, [], ◌∷◌, Option, Some, None, min, slice_get, slice_index, refl, subst, arith, OnTrue}
+use Rattle.std.proofs.Common.{◌≡◌, ◌≤◌, ◌<◌, ℕ, zero, suc, length, ◌==◌, Bool, true, false, cond, List, [], ◌∷◌, Option, Some, None, min, slice_get, slice_index, drop, ◌-◌, refl, subst, arith}
+use Rattle.std.specs.Bool.{OnTrue}
 use Rattle.std.specs.Str.{is_utf8}
 use Rattle.site_model.specs.Names.{place_of}
 use Rattle.site_model.specs.PlainSite.{PlainSite, PlainCheck}
@@ -14,8 +15,7 @@ use Rattle.event_text.specs.Lines.{Answer, told, faulty, bracket}
 use Rattle.event_text.specs.Numbers.{is_number, numbers_in}
 use Rattle.event_text.specs.Reading.{line_read, text_read, head_read, command_read, cut_read, command_alone, command_with, fields_read, place_read, numbers_read, judged_read, looked_up}
 use Rattle.event_text.specs.declared.command.Command.{Command}
-use Rattle.event_text.specs.declared.kind.Kind.{Kind}
-use Rattle.event_text.specs.declared.kind.Kind.TheVariants as kind
+use Rattle.event_text.specs.declared.command.Command.TheVariants as command
 use Rattle.event_text.specs.declared.line_fault.LineFault.TheVariants as fault
 
 -- what is told can be printed, and is told of a checkable of the site
@@ -32,22 +32,32 @@ kept : (b : Bool) (n : ℕ) → OnTrue b (cond b 0 n ≡ 0)
 kept true n = refl
 kept false n = tt
 
-event_in_form : (k : Kind) (ns : List ℕ) (last : List ℕ) → IsInForm (event_of k ns last)
-event_in_form kind.HostResult ns last = few (cond (slice_index ns 0 == 0) 0 2)
-  where
-    few : (n : ℕ) → min n 3 ≤ 3
-    few n = omega arith
-event_in_form kind.ServiceResult ns last = few (slice_index ns 0)
-  where
-    few : (n : ℕ) → min n 3 ≤ 3
-    few n = omega arith
-event_in_form (kind.Check forced) ns last = tt
-event_in_form kind.Acknowledge ns last = tt
-event_in_form kind.Unacknowledge ns last = tt
-event_in_form kind.Downtime ns last = kept (is_one (slice_index ns 2)) (slice_index ns 4)
-event_in_form kind.EndDowntime ns last = tt
-event_in_form (kind.Checks on) ns last = tt
-event_in_form (kind.Notes on) ns last = tt
+few : (n : ℕ) → min n 3 ≤ 3
+few n = omega arith
+
+event_in_form : (c : Command) (ns : List ℕ) (last : List ℕ) → IsInForm (event_of (kind_of c) ns last)
+event_in_form command.HostResult ns last = few (cond (slice_index ns 0 == 0) 0 2)
+event_in_form command.ServiceResult ns last = few (slice_index ns 0)
+event_in_form command.HostCheck ns last = tt
+event_in_form command.ForcedHostCheck ns last = tt
+event_in_form command.ServiceCheck ns last = tt
+event_in_form command.ForcedServiceCheck ns last = tt
+event_in_form command.AcknowledgeHost ns last = tt
+event_in_form command.AcknowledgeService ns last = tt
+event_in_form command.UnacknowledgeHost ns last = tt
+event_in_form command.UnacknowledgeService ns last = tt
+event_in_form command.HostDowntime ns last = kept (is_one (slice_index ns 2)) (slice_index ns 4)
+event_in_form command.ServiceDowntime ns last = kept (is_one (slice_index ns 2)) (slice_index ns 4)
+event_in_form command.EndHostDowntime ns last = tt
+event_in_form command.EndServiceDowntime ns last = tt
+event_in_form command.HostChecksOn ns last = tt
+event_in_form command.HostChecksOff ns last = tt
+event_in_form command.HostNotesOn ns last = tt
+event_in_form command.HostNotesOff ns last = tt
+event_in_form command.ServiceChecksOn ns last = tt
+event_in_form command.ServiceChecksOff ns last = tt
+event_in_form command.ServiceNotesOn ns last = tt
+event_in_form command.ServiceNotesOff ns last = tt
 
 -- what is looked up is there
 host_there : (cs : List PlainCheck) (k : ℕ) → is_host (slice_get cs k) ≡ true → k < length cs
@@ -81,14 +91,14 @@ unfolding host_named service_named
 found_within s host None k e = host_within s (place_of host s.names) k e
 found_within s host (Some service) k e = below_within s (full_name host service) (host_named s host) k e
 
-of_numbers : (s : PlainSite) (k : Kind) (place : ℕ) (last : List ℕ) (ns : Option (List ℕ)) → place < length s.checkables → TellsInForm s (numbers_read s k place last ns)
-of_numbers s k place last None h = tt
-of_numbers s k place last (Some ns) h =
-    either s (has_span k ns) _ _ (either s (is_open_to k (slice_get s.checkables place)) _ _ (event_in_form k ns last, h) tt) tt
+of_numbers : (s : PlainSite) (c : Command) (place : ℕ) (last : List ℕ) (ns : Option (List ℕ)) → place < length s.checkables → TellsInForm s (numbers_read s (kind_of c) place last ns)
+of_numbers s c place last None h = tt
+of_numbers s c place last (Some ns) h =
+    either s (has_span (kind_of c) ns) _ _ (either s (is_open_to (kind_of c) (slice_get s.checkables place)) _ _ (event_in_form c ns last, h) tt) tt
 
 of_place : (s : PlainSite) (c : Command) (fs : List (List ℕ)) (r : Option ℕ) → ((k : ℕ) → r ≡ Some k → k < length s.checkables) → TellsInForm s (place_read s c fs r)
 of_place s c fs None h = tt
-of_place s c fs (Some k) h = of_numbers s (kind_of c) k _ _ (h k refl)
+of_place s c fs (Some k) h = of_numbers s c k (field fs (count_of c - 1)) (numbers_in (limits_of (kind_of c)) (drop (names_of c) fs)) (h k refl)
 
 of_fields : (s : PlainSite) (c : Command) (fs : Option (List (List ℕ))) → TellsInForm s (fields_read s c fs)
 of_fields s c None = tt
