@@ -15,7 +15,7 @@ use Rattle.run_meaning.specs.Downtimes.{in_effect}
 use Rattle.run_meaning.specs.Reachability.{for_notes, reach_of}
 use Rattle.run_meaning.specs.View.{view_of}
 use Rattle.notify_rules.specs.Case.{decided_for, decided_where, decided_on, first_in, sent_from}
-use Rattle.notify_rules.specs.Periods.{holds_in}
+use Rattle.depend_graph.specs.Outlooks.{holds_in}
 use Rattle.notify_rules.specs.Sent.{last_sent, notes_from, NeverFall}
 
 -- When a problem was sent.

@@ -15,10 +15,10 @@ use Rattle.run_meaning.specs.Decisions.{Case, is_fresh, is_for_problem, is_early
 use Rattle.run_meaning.specs.Downtimes.{in_effect}
 use Rattle.run_meaning.specs.Reachability.{for_notes, period_holds, reach_of}
 use Rattle.run_meaning.specs.View.{is_on, view_of}
-use Rattle.notify_rules.specs.Periods.{holds_in}
-use Rattle.notify_rules.specs.Reaching.{reach_as}
+use Rattle.depend_graph.specs.Outlooks.{holds_in}
+use Rattle.depend_graph.specs.Reaching.{reach_as}
 use Rattle.notify_rules.specs.declared.asked.Asked.{Asked}
-use Rattle.notify_rules.specs.declared.reach.Reach.{Reach}
+use Rattle.depend_graph.specs.declared.reach.Reach.{Reach}
 
 -- what is asked is this case
 pub record IsCase (a : Asked) (x : Case) : Type 0 where

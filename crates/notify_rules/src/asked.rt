@@ -3,8 +3,8 @@ ghost use Rattle.std.specs.Prelude.{◌≡◌, not, ◌&&◌, ◌||◌};
 ghost use Rattle.run_meaning.specs.View.{is_hard_problem, same_state};
 ghost use Rattle.run_meaning.specs.Decisions.{is_hard, is_result};
 
-use crate::Reach;
 use check_state::is_problem;
+use depend_graph::Reach;
 use site_base::Moment;
 use site_model::{Event, State, View};
 

@@ -5,14 +5,15 @@ ghost use Rattle.site_model.specs.declared.entry.Entry.{Entry};
 ghost use Rattle.run_meaning.specs.Acts.{Seen};
 ghost use Rattle.run_meaning.specs.Decisions.{Case, decisions_of};
 ghost use Rattle.notify_rules.specs.Case.{Asks, IsCase, decided_for, decided_on, decided_where};
-ghost use Rattle.notify_rules.specs.Periods.{holds_in};
+ghost use Rattle.depend_graph.specs.Outlooks.{holds_in};
 ghost use Rattle.notify_rules.specs.Sent.{HasUsers, NeverFall, Remembers, StandsFor, number_of, user_of};
 
+use crate::SentBook;
 use crate::asked::{Asked, is_fresh};
 use crate::kinds::kinds_of;
 use crate::outcomes::outcome_of;
 use crate::sent_note::SentNote;
-use crate::{Reach, SentBook};
+use depend_graph::Reach;
 use site_base::{Moment, OutOfMemory, Row};
 use site_model::{Decision, Event, NoteKind, NotifySpec, Site, View};
 use std::alloc::Global;

@@ -4,14 +4,14 @@ ghost use Rattle.site_model.specs.PlainSite.{site_view};
 ghost use Rattle.run_meaning.specs.Decisions.{Case, held_so, is_within, sent_since};
 ghost use Rattle.run_meaning.specs.View.{is_on};
 ghost use Rattle.notify_rules.specs.Case.{IsCase, first_in, common_causes, own_causes, problem_causes, sent_from};
-ghost use Rattle.notify_rules.specs.Periods.{holds_in};
-ghost use Rattle.notify_rules.specs.Reaching.{reach_as};
+ghost use Rattle.depend_graph.specs.Outlooks.{holds_in};
+ghost use Rattle.depend_graph.specs.Reaching.{reach_as};
 
-use crate::Reach;
 use crate::asked::Asked;
 use crate::filters::{is_for_problem, takes_kind, takes_state, tells_state};
 use crate::periods::holds;
 use crate::times::{is_early, is_late, is_within};
+use depend_graph::Reach;
 use site_base::Moment;
 use site_model::{Ack, NoteKind, NotifySpec, Outcome, Site};
 use time_range::Zone;

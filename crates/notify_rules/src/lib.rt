@@ -15,12 +15,10 @@ mod kinds;
 mod listeners;
 mod outcomes;
 mod periods;
-mod reach;
 mod receiving;
 mod sent_book;
 mod sent_note;
 mod times;
 
 pub use deciding::decide;
-pub use reach::Reach;
 pub use sent_book::SentBook;

@@ -3,7 +3,7 @@ ghost use Rattle.std.specs.Prelude.{◌≡◌, IfOk, map, reverse};
 ghost use Rattle.site_model.specs.PlainSite.{site_view};
 ghost use Rattle.run_meaning.specs.Decisions.{Case, outcome_of, sent_to};
 ghost use Rattle.notify_rules.specs.Case.{IsCase};
-ghost use Rattle.notify_rules.specs.Periods.{holds_in};
+ghost use Rattle.depend_graph.specs.Outlooks.{holds_in};
 ghost use Rattle.notify_rules.specs.Sent.{NeverFall, Remembers, user_of};
 
 use crate::asked::Asked;

@@ -2,7 +2,7 @@
 ghost use Rattle.std.specs.Prelude.{◌≡◌};
 ghost use Rattle.site_model.specs.PlainSite.{site_view};
 ghost use Rattle.run_meaning.specs.Reachability.{period_holds};
-ghost use Rattle.notify_rules.specs.Periods.{holds_in};
+ghost use Rattle.depend_graph.specs.Outlooks.{holds_in};
 
 use site_base::Moment;
 use site_model::Site;

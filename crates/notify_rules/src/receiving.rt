@@ -3,7 +3,7 @@ ghost use Rattle.std.specs.Prelude.{◌≡◌, ◌++◌, ◌∷◌, [], ℕ, All
 ghost use Rattle.site_model.specs.PlainSite.{site_view};
 ghost use Rattle.run_meaning.specs.Decisions.{Case, has_received, receives};
 ghost use Rattle.notify_rules.specs.Case.{IsCase};
-ghost use Rattle.notify_rules.specs.Periods.{holds_in};
+ghost use Rattle.depend_graph.specs.Outlooks.{holds_in};
 ghost use Rattle.notify_rules.specs.Sent.{user_of};
 
 use crate::asked::Asked;

@@ -7,7 +7,7 @@ use Rattle.site_model.specs.declared.view.View.{View}
 use Rattle.run_meaning.specs.Decisions.{decided_from, is_hard, is_result, kinds_of}
 use Rattle.run_meaning.specs.View.{same_state}
 use Rattle.notify_rules.specs.Case.{decided_on}
-use Rattle.notify_rules.specs.Periods.{holds_in}
+use Rattle.depend_graph.specs.Outlooks.{holds_in}
 use Rattle.notify_rules.specs.Sent.{HasUsers, Remembers, number_of}
 use Rattle.notify_rules.proofs.Decided.{all_decided, case_of, empty, if_ok, nothing_decided, spec_at}
 use Rattle.notify_rules.proofs.deciding.decide.Goals as goal

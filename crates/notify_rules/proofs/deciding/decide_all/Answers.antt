@@ -2,7 +2,7 @@ use Rattle.std.proofs.Common.{◌≡◌, ◌++◌, ◌+◌, List, [], ◌∷◌,
 use Rattle.site_model.specs.PlainSite.{site_view}
 use Rattle.site_model.specs.declared.decision.Decision.{Decision}
 use Rattle.notify_rules.specs.Case.{decided_on, decided_where}
-use Rattle.notify_rules.specs.Periods.{holds_in}
+use Rattle.depend_graph.specs.Outlooks.{holds_in}
 use Rattle.notify_rules.specs.Sent.{HasUsers, Remembers, number_of}
 use Rattle.notify_rules.specs.declared.sent_note.SentNote.{SentNote}
 use Rattle.notify_rules.proofs.Lists.{drop_next, drop_past}

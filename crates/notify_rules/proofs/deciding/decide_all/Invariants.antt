@@ -3,7 +3,7 @@ use Rattle.std.proofs.Common.{◌≡◌, ◌++◌, All, map, drop, reverse}
 use Rattle.site_model.specs.PlainSite.{site_view}
 use Rattle.run_meaning.specs.Decisions.{Case}
 use Rattle.notify_rules.specs.Case.{IsCase, decided_on}
-use Rattle.notify_rules.specs.Periods.{holds_in}
+use Rattle.depend_graph.specs.Outlooks.{holds_in}
 use Rattle.notify_rules.specs.Sent.{HasUsers, NeverFall, Remembers, number_of}
 use Rattle.notify_rules.proofs.deciding.decide_all.Given as goal
 

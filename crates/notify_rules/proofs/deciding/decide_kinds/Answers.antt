@@ -5,7 +5,7 @@ use Rattle.site_model.specs.declared.note_kind.NoteKind.{NoteKind}
 use Rattle.site_model.specs.declared.note_kind.NoteKind.TheVariants as kind
 use Rattle.site_model.specs.declared.outcome.Outcome.{Outcome}
 use Rattle.notify_rules.specs.Case.{decided_for}
-use Rattle.notify_rules.specs.Periods.{holds_in}
+use Rattle.depend_graph.specs.Outlooks.{holds_in}
 use Rattle.notify_rules.proofs.Lists.{drop_next, drop_past}
 use Rattle.notify_rules.proofs.deciding.decide_kinds.Goals as goal
 

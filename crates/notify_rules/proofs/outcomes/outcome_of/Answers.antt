@@ -2,7 +2,7 @@ use Rattle.std.proofs.Common.{◌≡◌, ℕ, Bool, List, [], All, reverse, map,
 use Rattle.site_model.specs.PlainSite.{site_view}
 use Rattle.run_meaning.specs.Decisions.{has_received, receives, receivers, sent_to}
 use Rattle.notify_rules.specs.Case.{common_causes, own_causes, sent_from}
-use Rattle.notify_rules.specs.Periods.{holds_in}
+use Rattle.depend_graph.specs.Outlooks.{holds_in}
 use Rattle.notify_rules.specs.Sent.{user_of}
 use Rattle.notify_rules.specs.declared.listeners.Listener.{Listener}
 use Rattle.notify_rules.proofs.Decided.{first_of_front, gone_of_front, since_is}

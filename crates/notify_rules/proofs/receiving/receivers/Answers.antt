@@ -1,7 +1,7 @@
 use Rattle.std.proofs.Common.{◌≡◌, ◌++◌, ◌+◌, ℕ, Bool, List, [], ◌∷◌, map, filter, get_or, drop, slice_get, false, sym, ap, ◌∙◌, append-nil}
 use Rattle.site_model.specs.PlainSite.{site_view}
 use Rattle.run_meaning.specs.Decisions.{receives}
-use Rattle.notify_rules.specs.Periods.{holds_in}
+use Rattle.depend_graph.specs.Outlooks.{holds_in}
 use Rattle.notify_rules.specs.Sent.{user_of}
 use Rattle.notify_rules.specs.declared.listeners.Listener.{Listener}
 use Rattle.notify_rules.proofs.Decided.{one_receiver}

@@ -3,7 +3,7 @@ use Rattle.std.proofs.Common.{◌≡◌, ◌++◌, ℕ, All, filter, map, drop, 
 use Rattle.site_model.specs.PlainSite.{site_view}
 use Rattle.run_meaning.specs.Decisions.{Case, has_received, receives}
 use Rattle.notify_rules.specs.Case.{IsCase}
-use Rattle.notify_rules.specs.Periods.{holds_in}
+use Rattle.depend_graph.specs.Outlooks.{holds_in}
 use Rattle.notify_rules.specs.Sent.{user_of}
 use Rattle.notify_rules.proofs.receiving.receivers.Given as goal
 
