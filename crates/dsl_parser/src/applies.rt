@@ -1,26 +1,28 @@
 // Apply rules.
 ghost use Rattle.std.specs.Prelude.{◌<◌};
 ghost use Rattle.dsl_rules.specs.Grammar.{made};
-ghost use Rattle.dsl_parts.specs.Gives.{Gives};
-ghost use Rattle.dsl_grammar.specs.Grammar.{AnyHead, ApplyHeads, ApplyName, ApplyStatement, HeadedBody, add_head};
-ghost use Rattle.dsl_parts.specs.NamedView.{headed_view, heads_view};
+ghost use Rattle.dsl_next.specs.Gives.{Gives};
+ghost use Rattle.dsl_grammar.specs.Grammar.{AnyHead, ApplyHeads, ApplyName, ApplyStatement, add_head};
+ghost use Rattle.dsl_parts.specs.NamedView.{heads_view};
 ghost use Rattle.dsl_grammar.specs.Reading.{read_by};
 ghost use Rattle.dsl_syntax.specs.SyntaxView.{maybe_expr_view, stmt_kind_view};
 
+use crate::blocks::body;
 use crate::exprs::expr;
+use crate::functions::captured;
 use crate::loops::loop_head;
-use crate::objects::use_body;
 use dsl_lexer::{Token, Word};
+use dsl_next::begins::at_apply_name;
+use dsl_next::next::{at_word, ident, word};
+use dsl_next::stop::Stop;
 use dsl_parts::applies::{Headed, Heads, apply_of, at_head, with_loop, with_target};
-use dsl_parts::begins::at_apply_name;
-use dsl_parts::next::{after_first, at_word, ident, word};
-use dsl_parts::stop::Stop;
+use dsl_parts::objects::bodied_of;
 use dsl_syntax::{Expr, StmtKind};
 use std::alloc::Global;
 
-/// An apply rule: `"apply" IDENT [expr] heads [use] body`, where the expression doesn't begin with `{`.
+/// An apply rule, `"apply" IDENT [expr] heads [use] body`, where the expression doesn't begin with `{`.
 #[cycle(parse)]
-#[tactic(auto, unfolding(dsl_grammar::specs::Grammar::ApplyStatement))]
+#[tactic(auto, unfolding(dsl_grammar::specs::Grammar::ApplyStatement, dsl_grammar::specs::Grammar::HeadedBody, dsl_grammar::specs::Grammar::UseBody))]
 pub(crate) fn apply_statement<'a>(
     alloc: Global,
     most: usize,
@@ -31,9 +33,12 @@ pub(crate) fn apply_statement<'a>(
 {
     let (_, begin) = word(Word::Apply, tokens)?;
     let (kind, begin) = ident(begin)?;
-    let (name, heads) = apply_name(alloc, most, begin)?;
-    let (headed, rest) = headed_body(alloc, most, heads)?;
-    Ok((apply_of(kind, name, headed), rest))
+    let (name, begin) = apply_name(alloc, most, begin)?;
+    let (heads, begin) = apply_heads(alloc, most, begin)?;
+    let (uses, begin) = captured(alloc, most, begin)?;
+    let (statements, rest) = body(alloc, most, begin)?;
+    let bodied = bodied_of(alloc, uses, statements)?;
+    Ok((apply_of(kind, name, Headed { heads, bodied }), rest))
 }
 
 /// The name of an apply rule, if it has one.
@@ -51,22 +56,6 @@ fn apply_name<'a>(
     }
     let (name, rest) = expr(alloc, most - 1, tokens)?;
     Ok((Some(name), rest))
-}
-
-/// Heads and a body: `heads [use] body`.
-#[cycle(parse)]
-#[tactic(auto, unfolding(dsl_grammar::specs::Grammar::HeadedBody))]
-fn headed_body<'a>(
-    alloc: Global,
-    most: usize,
-    tokens: &'a [Token],
-) -> Result<(Headed, &'a [Token]), Stop<'a>>
-    requires { 0 < most }
-    ensures { Gives headed_view result (read_by most HeadedBody tokens.now) }
-{
-    let (heads, uses) = apply_heads(alloc, most, tokens)?;
-    let (bodied, rest) = use_body(alloc, most, uses)?;
-    Ok((Headed { heads, bodied }, rest))
 }
 
 /// At most one `"to" IDENT` and at most one `"for" loop`, in either order.
@@ -96,7 +85,7 @@ fn apply_heads<'a>(
     Ok((heads, rest))
 }
 
-/// These heads and the one that begins here: `"to" IDENT | "for" loop`.
+/// These heads and the one that begins here, `"to" IDENT | "for" loop`.
 #[cycle(parse)]
 #[tactic(auto, unfolding(dsl_grammar::specs::Grammar::AnyHead))]
 fn more_heads<'a>(
@@ -109,7 +98,8 @@ fn more_heads<'a>(
     ensures { Gives heads_view result (read_by most (made (add_head (heads_view heads)) AnyHead) tokens.now) }
 {
     if at_word(Word::To, tokens) {
-        let (to, rest) = ident(after_first(tokens))?;
+        let (_, begin) = word(Word::To, tokens)?;
+        let (to, rest) = ident(begin)?;
         return Ok((with_target(heads, to), rest));
     }
     let (_, begin) = word(Word::For, tokens)?;

@@ -1,29 +1,29 @@
-// Blocks, and the statements in them.
+// Blocks of statements, and bodies of objects, templates and apply rules.
 ghost use Rattle.std.specs.Prelude.{◌<◌};
 ghost use Rattle.dsl_rules.specs.Grammar.{made};
-ghost use Rattle.dsl_parts.specs.Gives.{Gives};
-ghost use Rattle.dsl_grammar.specs.Grammar.{AnyStatement, BlockStatements, Braced, MaybeStatement};
+ghost use Rattle.dsl_next.specs.Gives.{Gives};
+ghost use Rattle.dsl_grammar.specs.Grammar.{AnyStatement, BlockStatements, Body, BodyStatement, BodyStatements, Braced, MaybeBodyStatement, MaybeStatement};
 ghost use Rattle.dsl_syntax.specs.Lists.{add_statement};
 ghost use Rattle.dsl_grammar.specs.Reading.{reads, read_by};
-ghost use Rattle.dsl_grammar.specs.Terms.{add_turn, block};
+ghost use Rattle.dsl_grammar.specs.Terms.{add_turn, block as block_name};
 ghost use Rattle.dsl_syntax.specs.SyntaxView.{stmt_view, stmts_view};
 
-use crate::objects::statement_kind;
+use crate::statements::{body_kind, statement_kind};
 use dsl_lexer::{Sign, Token};
-use dsl_parts::begins::{at_separator, at_statement};
-use dsl_parts::next::{after_first, sign};
-use dsl_parts::stop::Stop;
+use dsl_next::begins::{at_body_separator, at_body_statement, at_separator, at_statement};
+use dsl_next::next::{after_first, sign};
+use dsl_next::stop::Stop;
 use dsl_syntax::Stmt;
 use std::alloc::Global;
 
-/// A block, with at most `most` tokens.
+/// A block, of which at most `most` tokens are read: `"{" {sep} [ stmt { sep {sep} stmt } {sep} ] "}"`.
 #[cycle(parse)]
 pub(crate) fn block<'a>(
     alloc: Global,
     most: usize,
     tokens: &'a [Token],
 ) -> Result<(Vec<Stmt>, &'a [Token]), Stop<'a>>
-    ensures { Gives (λ b. stmts_view b.items) result (reads most block tokens.now) }
+    ensures { Gives (λ b. stmts_view b.items) result (reads most block_name tokens.now) }
 {
     if most == 0 {
         return Err(Stop::Fault(tokens));
@@ -31,7 +31,7 @@ pub(crate) fn block<'a>(
     braced(alloc, most, tokens)
 }
 
-/// Statements in braces: `"{" {sep} [ stmt { sep {sep} stmt } {sep} ] "}"`.
+/// Statements in braces.
 #[cycle(parse)]
 #[tactic(auto, unfolding(dsl_grammar::specs::Grammar::Braced))]
 fn braced<'a>(
@@ -48,7 +48,7 @@ fn braced<'a>(
     Ok((statements, rest))
 }
 
-/// The statements of a block: `{sep} [ stmt { sep {sep} stmt } {sep} ]`.
+/// The statements of a block, `{sep} [ stmt { sep {sep} stmt } {sep} ]`.
 #[cycle(parse)]
 #[tactic(auto, unfolding(dsl_grammar::specs::Grammar::BlockStatements))]
 fn block_statements<'a>(
@@ -59,12 +59,12 @@ fn block_statements<'a>(
     requires { 0 < most }
     ensures { Gives (λ b. stmts_view b.items) result (read_by most BlockStatements tokens.now) }
 {
-    let (mut list, mut rest) = maybe_statement(alloc, most, Vec::new(alloc), tokens)?;
+    let (mut list, mut rest) = with_statement(alloc, most, Vec::new(alloc), tokens)?;
     for _ in 0..most {
         if !at_separator(rest) {
             break;
         }
-        let (more, after) = maybe_statement(alloc, most, list, after_first(rest))?;
+        let (more, after) = with_statement(alloc, most, list, after_first(rest))?;
         list = more;
         rest = after;
     }
@@ -73,7 +73,7 @@ fn block_statements<'a>(
 
 /// These statements, and one more if one begins here.
 #[cycle(parse)]
-fn maybe_statement<'a>(
+fn with_statement<'a>(
     alloc: Global,
     most: usize,
     mut list: Vec<Stmt>,
@@ -102,12 +102,89 @@ fn any_statement<'a>(
     requires { 0 < most }
     ensures { Gives stmt_view result (read_by most AnyStatement tokens.now) }
 {
-    match tokens {
-        [token, ..] => {
-            let (kind, rest) = statement_kind(alloc, most, tokens)?;
-            let place = token.place;
-            Ok((Stmt { place, kind }, rest))
+    let [first, ..] = tokens else {
+        return Err(Stop::Fault(tokens));
+    };
+    let place = first.place;
+    let (kind, rest) = statement_kind(alloc, most, tokens)?;
+    Ok((Stmt { place, kind }, rest))
+}
+
+/// A body, `"{" {bsep} [ bst { bsep {bsep} bst } {bsep} ] "}"`.
+#[cycle(parse)]
+#[tactic(auto, unfolding(dsl_grammar::specs::Grammar::Body))]
+pub(crate) fn body<'a>(
+    alloc: Global,
+    most: usize,
+    tokens: &'a [Token],
+) -> Result<(Vec<Stmt>, &'a [Token]), Stop<'a>>
+    requires { 0 < most }
+    ensures { Gives (λ b. stmts_view b.items) result (read_by most Body tokens.now) }
+{
+    let (_, inner) = sign(Sign::OpenBrace, tokens)?;
+    let (statements, end) = body_statements(alloc, most, inner)?;
+    let (_, rest) = sign(Sign::CloseBrace, end)?;
+    Ok((statements, rest))
+}
+
+/// The statements of a body, `{bsep} [ bst { bsep {bsep} bst } {bsep} ]`.
+#[cycle(parse)]
+#[tactic(auto, unfolding(dsl_grammar::specs::Grammar::BodyStatements))]
+fn body_statements<'a>(
+    alloc: Global,
+    most: usize,
+    tokens: &'a [Token],
+) -> Result<(Vec<Stmt>, &'a [Token]), Stop<'a>>
+    requires { 0 < most }
+    ensures { Gives (λ b. stmts_view b.items) result (read_by most BodyStatements tokens.now) }
+{
+    let (mut list, mut rest) = with_body_statement(alloc, most, Vec::new(alloc), tokens)?;
+    for _ in 0..most {
+        if !at_body_separator(rest) {
+            break;
         }
-        [] => Err(Stop::Fault(tokens)),
+        let (more, after) = with_body_statement(alloc, most, list, after_first(rest))?;
+        list = more;
+        rest = after;
     }
+    Ok((list, rest))
+}
+
+/// These statements of a body, and one more if one begins here.
+#[cycle(parse)]
+fn with_body_statement<'a>(
+    alloc: Global,
+    most: usize,
+    mut list: Vec<Stmt>,
+    tokens: &'a [Token],
+) -> Result<(Vec<Stmt>, &'a [Token]), Stop<'a>>
+    requires { 0 < most }
+    ensures { Gives (λ b. stmts_view b.items) result
+        (read_by most (made (add_turn add_statement (stmts_view list.items)) MaybeBodyStatement) tokens.now) }
+{
+    if !at_body_statement(tokens) {
+        return Ok((list, tokens));
+    }
+    let (statement, rest) = body_statement(alloc, most, tokens)?;
+    list.push(statement)?;
+    Ok((list, rest))
+}
+
+/// A statement of a body, at its place.
+#[cycle(parse)]
+#[tactic(auto, unfolding(dsl_grammar::specs::Grammar::BodyStatement))]
+fn body_statement<'a>(
+    alloc: Global,
+    most: usize,
+    tokens: &'a [Token],
+) -> Result<(Stmt, &'a [Token]), Stop<'a>>
+    requires { 0 < most }
+    ensures { Gives stmt_view result (read_by most BodyStatement tokens.now) }
+{
+    let [first, ..] = tokens else {
+        return Err(Stop::Fault(tokens));
+    };
+    let place = first.place;
+    let (kind, rest) = body_kind(alloc, most, tokens)?;
+    Ok((Stmt { place, kind }, rest))
 }

@@ -1,19 +1,19 @@
 // The statements of files.
 ghost use Rattle.std.specs.Prelude.{◌<◌};
 ghost use Rattle.dsl_rules.specs.Grammar.{made};
-ghost use Rattle.dsl_parts.specs.Gives.{Gives};
+ghost use Rattle.dsl_next.specs.Gives.{Gives};
 ghost use Rattle.dsl_grammar.specs.Grammar.{FileStatements, MaybeTop, Top, TopKind};
 ghost use Rattle.dsl_syntax.specs.Lists.{add_statement};
 ghost use Rattle.dsl_grammar.specs.Reading.{read_by};
 ghost use Rattle.dsl_grammar.specs.Terms.{add_turn};
 ghost use Rattle.dsl_syntax.specs.SyntaxView.{stmt_kind_view, stmt_view, stmts_view};
 
-use crate::objects::statement_kind;
+use crate::statements::statement_kind;
 use dsl_lexer::Token;
-use dsl_parts::begins::{at_inclusion, at_separator, at_top};
+use dsl_next::begins::{at_inclusion, at_separator, at_top};
+use dsl_next::next::after_first;
+use dsl_next::stop::Stop;
 use dsl_parts::inclusions::inclusion;
-use dsl_parts::next::after_first;
-use dsl_parts::stop::Stop;
 use dsl_syntax::{Stmt, StmtKind};
 use std::alloc::Global;
 
@@ -27,12 +27,12 @@ pub(crate) fn file_statements<'a>(
     requires { 0 < most }
     ensures { Gives (λ b. stmts_view b.items) result (read_by most FileStatements tokens.now) }
 {
-    let (mut list, mut rest) = maybe_top(alloc, most, Vec::new(alloc), tokens)?;
+    let (mut list, mut rest) = with_top(alloc, most, Vec::new(alloc), tokens)?;
     for _ in 0..most {
         if !at_separator(rest) {
             break;
         }
-        let (more, after) = maybe_top(alloc, most, list, after_first(rest))?;
+        let (more, after) = with_top(alloc, most, list, after_first(rest))?;
         list = more;
         rest = after;
     }
@@ -40,7 +40,7 @@ pub(crate) fn file_statements<'a>(
 }
 
 /// These statements, and one more if one begins here.
-fn maybe_top<'a>(
+fn with_top<'a>(
     alloc: Global,
     most: usize,
     mut list: Vec<Stmt>,
@@ -64,14 +64,12 @@ fn top<'a>(alloc: Global, most: usize, tokens: &'a [Token]) -> Result<(Stmt, &'a
     requires { 0 < most }
     ensures { Gives stmt_view result (read_by most Top tokens.now) }
 {
-    match tokens {
-        [token, ..] => {
-            let (kind, rest) = top_kind(alloc, most, tokens)?;
-            let place = token.place;
-            Ok((Stmt { place, kind }, rest))
-        }
-        [] => Err(Stop::Fault(tokens)),
-    }
+    let [first, ..] = tokens else {
+        return Err(Stop::Fault(tokens));
+    };
+    let place = first.place;
+    let (kind, rest) = top_kind(alloc, most, tokens)?;
+    Ok((Stmt { place, kind }, rest))
 }
 
 /// What a statement of a file is: an inclusion, or what may stand in a block.

@@ -8,7 +8,7 @@ use crate::files::file_statements;
 use dsl_depth::too_deep;
 use dsl_grammar::ParseError;
 use dsl_lexer::Token;
-use dsl_parts::stop::Stop;
+use dsl_next::stop::Stop;
 use dsl_syntax::File;
 use site_base::Place;
 use std::alloc::Global;

@@ -1,29 +1,30 @@
-// What stands behind primary expressions: members, elements and calls.
+// Primary expressions, and the members, elements and calls behind them.
 ghost use Rattle.std.specs.Prelude.{◌<◌};
-ghost use Rattle.dsl_syntax.specs.SyntaxView.{exprs_view};
-ghost use Rattle.dsl_lexer.specs.declared.sign.Sign.TheVariants as signs;
+ghost use Rattle.dsl_syntax.specs.SyntaxView.{expr_view, exprs_view};
+ghost use Rattle.dsl_syntax.specs.Lists.{add_expression};
 ghost use Rattle.dsl_rules.specs.Grammar.{made};
 ghost use Rattle.dsl_parts.specs.ExprParts.{operand_view};
-ghost use Rattle.dsl_parts.specs.Gives.{Gives};
-ghost use Rattle.dsl_grammar.specs.Grammar.{Expr as ExprRule, BegunPrim, Postfix, OneTail, Arguments, Listed, with_tail, index_tail, call_tail};
-ghost use Rattle.dsl_syntax.specs.Lists.{add_expression};
+ghost use Rattle.dsl_next.specs.Gives.{Gives};
+ghost use Rattle.dsl_grammar.specs.Grammar.{Expr as ExprRule, Prim, Postfix, OneTail, Arguments, Listed, with_tail};
 ghost use Rattle.dsl_grammar.specs.Reading.{read_by};
-ghost use Rattle.dsl_grammar.specs.Terms.{behind, before, sign as sign_rule};
 
+use crate::collections::{array, dictionary};
 use crate::exprs::expr;
-use crate::primaries::primary;
-use dsl_lexer::{Sign, Token};
-use dsl_parts::begins::at_expr;
-use dsl_parts::next::{at_sign, sign};
-use dsl_parts::nodes::{Operand, with_call, with_expr, with_index};
-use dsl_parts::stop::Stop;
-use dsl_parts::tails::{at_tail, next_member};
+use crate::functions::func;
+use dsl_lexer::{Sign, Token, Word};
+use dsl_next::begins::{at_expr, at_tail};
+use dsl_next::next::{after_first, at_sign, ident, sign, word};
+use dsl_next::stop::Stop;
+use dsl_parts::functions::function_at;
+use dsl_parts::literals::{at_literal, literal};
+use dsl_parts::nodes::{Operand, with_call, with_expr, with_index, with_member};
 use dsl_syntax::Expr;
 use std::alloc::Global;
 
-/// A primary expression with what stands behind it, prim { "." IDENT | "[" expr "]" | "(" [ expr { "," expr } ] ")" }.
+/// A primary expression with what stands behind it, and where it begins:
+/// `prim { "." IDENT | "[" expr "]" | "(" [ expr { "," expr } ] ")" }`.
 #[cycle(parse)]
-#[tactic(auto, unfolding(dsl_grammar::specs::Grammar::Postfix))]
+#[tactic(auto, unfolding(dsl_grammar::specs::Grammar::Postfix, dsl_grammar::specs::Grammar::BegunPrim))]
 pub(crate) fn postfix<'a>(
     alloc: Global,
     most: usize,
@@ -32,7 +33,12 @@ pub(crate) fn postfix<'a>(
     requires { 0 < most }
     ensures { Gives operand_view result (read_by most Postfix tokens.now) }
 {
-    let (mut operand, mut rest) = begun_primary(alloc, most, tokens)?;
+    let [first, ..] = tokens else {
+        return Err(Stop::Fault(tokens));
+    };
+    let start = first.place;
+    let (expr, mut rest) = primary(alloc, most, tokens)?;
+    let mut operand = Operand { start, expr };
     for _ in 0..most {
         if !at_tail(rest) {
             break;
@@ -44,28 +50,40 @@ pub(crate) fn postfix<'a>(
     Ok((operand, rest))
 }
 
-/// A primary expression, with where it begins.
+/// A literal, an identifier, `this`, `globals`, a parenthesis, an array, a dictionary or a function.
 #[cycle(parse)]
-#[tactic(auto, unfolding(dsl_grammar::specs::Grammar::BegunPrim))]
-fn begun_primary<'a>(
+#[tactic(auto, unfolding(dsl_grammar::specs::Grammar::Prim, dsl_grammar::specs::Grammar::Literal, dsl_grammar::specs::Grammar::Paren, dsl_grammar::specs::Grammar::Array, dsl_grammar::specs::Grammar::BracketedElements, dsl_grammar::specs::Grammar::Dict, dsl_grammar::specs::Grammar::BracedPairs, dsl_grammar::specs::Grammar::FunctionLiteral, dsl_grammar::specs::Grammar::FunctionFunc))]
+fn primary<'a>(
     alloc: Global,
     most: usize,
     tokens: &'a [Token],
-) -> Result<(Operand, &'a [Token]), Stop<'a>>
+) -> Result<(Expr, &'a [Token]), Stop<'a>>
     requires { 0 < most }
-    ensures { Gives operand_view result (read_by most BegunPrim tokens.now) }
+    ensures { Gives expr_view result (read_by most Prim tokens.now) }
 {
-    match tokens {
-        [first, ..] => {
-            let start = first.place;
-            let (expr, rest) = primary(alloc, most, tokens)?;
-            Ok((Operand { start, expr }, rest))
-        }
-        [] => Err(Stop::Fault(tokens)),
+    if at_literal(tokens) {
+        literal(tokens)
+    } else if at_sign(Sign::OpenParen, tokens) {
+        let (_, inner) = sign(Sign::OpenParen, tokens)?;
+        let (inside, after) = expr(alloc, most - 1, inner)?;
+        let (_, rest) = sign(Sign::CloseParen, after)?;
+        Ok((inside, rest))
+    } else if at_sign(Sign::OpenBracket, tokens) {
+        array(alloc, most, tokens)
+    } else if at_sign(Sign::OpenBrace, tokens) {
+        dictionary(alloc, most, tokens)
+    } else {
+        let [first, ..] = tokens else {
+            return Err(Stop::Fault(tokens));
+        };
+        let place = first.place;
+        let (_, inner) = word(Word::Function, tokens)?;
+        let (func, rest) = func(alloc, most, inner)?;
+        Ok((function_at(alloc, place, func)?, rest))
     }
 }
 
-/// The operand with the tail that must stand next.
+/// The operand with the member, the index or the arguments that must stand next.
 #[cycle(parse)]
 #[tactic(auto, unfolding(dsl_grammar::specs::Grammar::OneTail))]
 fn with_next_tail<'a>(
@@ -78,51 +96,23 @@ fn with_next_tail<'a>(
     ensures { Gives operand_view result (read_by most (made (with_tail (operand_view operand)) OneTail) tokens.now) }
 {
     if at_sign(Sign::Dot, tokens) {
-        next_member(alloc, operand, tokens)
+        let (_, inner) = sign(Sign::Dot, tokens)?;
+        let (name, rest) = ident(inner)?;
+        Ok((with_member(alloc, operand, name)?, rest))
     } else if at_sign(Sign::OpenBracket, tokens) {
-        next_index(alloc, most, operand, tokens)
+        let (_, inner) = sign(Sign::OpenBracket, tokens)?;
+        let (index, after) = expr(alloc, most - 1, inner)?;
+        let (_, rest) = sign(Sign::CloseBracket, after)?;
+        Ok((with_index(alloc, operand, index)?, rest))
     } else {
-        next_call(alloc, most, operand, tokens)
+        let (_, inner) = sign(Sign::OpenParen, tokens)?;
+        let (list, after) = arguments(alloc, most, inner)?;
+        let (_, rest) = sign(Sign::CloseParen, after)?;
+        Ok((with_call(alloc, operand, list)?, rest))
     }
 }
 
-/// The operand's element whose index stands next, "[" expr "]".
-#[cycle(parse)]
-fn next_index<'a>(
-    alloc: Global,
-    most: usize,
-    operand: Operand,
-    tokens: &'a [Token],
-) -> Result<(Operand, &'a [Token]), Stop<'a>>
-    requires { 0 < most }
-    ensures { Gives operand_view result
-        (read_by most (made (with_tail (operand_view operand)) (made index_tail (behind (sign_rule signs.OpenBracket) (before ExprRule (sign_rule signs.CloseBracket))))) tokens.now) }
-{
-    let (_, inner) = sign(Sign::OpenBracket, tokens)?;
-    let (index, after) = expr(alloc, most - 1, inner)?;
-    let (_, rest) = sign(Sign::CloseBracket, after)?;
-    Ok((with_index(alloc, operand, index)?, rest))
-}
-
-/// The operand's call whose arguments stand next, "(" [ expr { "," expr } ] ")".
-#[cycle(parse)]
-fn next_call<'a>(
-    alloc: Global,
-    most: usize,
-    operand: Operand,
-    tokens: &'a [Token],
-) -> Result<(Operand, &'a [Token]), Stop<'a>>
-    requires { 0 < most }
-    ensures { Gives operand_view result
-        (read_by most (made (with_tail (operand_view operand)) (made call_tail (behind (sign_rule signs.OpenParen) (before Arguments (sign_rule signs.CloseParen))))) tokens.now) }
-{
-    let (_, inner) = sign(Sign::OpenParen, tokens)?;
-    let (list, after) = arguments(alloc, most, inner)?;
-    let (_, rest) = sign(Sign::CloseParen, after)?;
-    Ok((with_call(alloc, operand, list)?, rest))
-}
-
-/// Any number of expressions, with commas between them, [ expr { "," expr } ].
+/// Any number of expressions, with commas between them, `[ expr { "," expr } ]`.
 #[cycle(parse)]
 #[tactic(auto, unfolding(dsl_grammar::specs::Grammar::Arguments, dsl_grammar::specs::Grammar::Listed))]
 fn arguments<'a>(
@@ -133,15 +123,14 @@ fn arguments<'a>(
     requires { 0 < most }
     ensures { Gives (λ es. exprs_view es.items) result (read_by most Arguments tokens.now) }
 {
-    if at_expr(tokens) {
-        let (list, rest) = listed(alloc, most, tokens)?;
-        Ok((list, rest))
-    } else {
-        Ok((Vec::new(alloc), tokens))
+    if !at_expr(tokens) {
+        return Ok((Vec::new(alloc), tokens));
     }
+    let (list, rest) = listed(alloc, most, tokens)?;
+    Ok((list, rest))
 }
 
-/// One or more expressions, with commas between them, expr { "," expr }.
+/// One or more expressions, with commas between them.
 #[cycle(parse)]
 #[tactic(auto, unfolding(dsl_grammar::specs::Grammar::Listed))]
 fn listed<'a>(
@@ -157,28 +146,12 @@ fn listed<'a>(
         if !at_sign(Sign::Comma, rest) {
             break;
         }
-        let (longer, after) = with_next_argument(alloc, most, list, rest)?;
+        let inner = after_first(rest);
+        let (longer, after) = with_next_expr(alloc, most, list, inner)?;
         list = longer;
         rest = after;
     }
     Ok((list, rest))
-}
-
-/// The expressions, and the one that must stand next behind a comma.
-#[cycle(parse)]
-fn with_next_argument<'a>(
-    alloc: Global,
-    most: usize,
-    list: Vec<Expr>,
-    tokens: &'a [Token],
-) -> Result<(Vec<Expr>, &'a [Token]), Stop<'a>>
-    requires { 0 < most }
-    ensures { Gives (λ es. exprs_view es.items) result
-        (read_by most (made (add_expression (exprs_view list.items)) (behind (sign_rule signs.Comma) ExprRule)) tokens.now) }
-{
-    let (_, inner) = sign(Sign::Comma, tokens)?;
-    let (argument, rest) = expr(alloc, most - 1, inner)?;
-    Ok((with_expr(list, argument)?, rest))
 }
 
 /// The expressions, and the one that must stand next.
@@ -193,6 +166,6 @@ fn with_next_expr<'a>(
     ensures { Gives (λ es. exprs_view es.items) result
         (read_by most (made (add_expression (exprs_view list.items)) ExprRule) tokens.now) }
 {
-    let (argument, rest) = expr(alloc, most - 1, tokens)?;
-    Ok((with_expr(list, argument)?, rest))
+    let (next, rest) = expr(alloc, most - 1, tokens)?;
+    Ok((with_expr(list, next)?, rest))
 }

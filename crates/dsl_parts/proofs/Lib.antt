@@ -1,4 +1,4 @@
-pub mod MadeTurns
+pub mod Climbing
 pub mod Steps
 pub mod Arms
 pub mod Assigning

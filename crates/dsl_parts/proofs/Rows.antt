@@ -1,6 +1,6 @@
 -- Turns of rows, by what each makes of the things before it.
 use Rattle.std.proofs.Common.{◌≡◌, ◌≢◌, ◌-◌, ℕ, zero, suc, List, [], ◌∷◌, ◌++◌, drop, Bool, true, false, refl, ap, ◌∙◌, arith}
-use Rattle.dsl_syntax.specs.Syntax.{Statement, Statements, more_statements, no_expression, some_expression, Expression}
+use Rattle.dsl_syntax.specs.Syntax.{Statement, Statements, no_expression, some_expression, Expression}
 use Rattle.dsl_syntax.specs.SyntaxView.{stmt_view, stmts_view}
 use Rattle.dsl_syntax.specs.declared.stmt.Stmt.{Stmt}
 use Rattle.dsl_syntax.proofs.SyntaxLists.{stmts_more}
@@ -17,7 +17,7 @@ use Rattle.dsl_syntax.specs.Lists.{add_statement}
 use Rattle.dsl_grammar.specs.Reading.{reads, read_by}
 use Rattle.dsl_grammar.specs.Terms.{Name, expr, starts, Rule, Turn, nothing, thing, add_turn, behind, maybe}
 use Rattle.dsl_grammar.proofs.Turns.{turns_on, may_at}
-use Rattle.dsl_parts.proofs.MadeTurns.{turned}
+use Rattle.dsl_next.proofs.Turns.{turned}
 
 -- where each turn may be taken
 pub row_made : {A C : Type 0} (m n : ℕ) (cs : List Sort) (step : C → A → C) (p : List Token → Read Token A) (c d : C) (ts mid : List Token) → m ≡ suc n → at sorts cs ts ≡ true → (p ts >>= λ x rest. got (step c x) rest) ≡ got d mid → turns sorts false cs always step p m c ts ≡ turns sorts false cs always step p n d mid

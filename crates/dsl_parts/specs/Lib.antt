@@ -1,4 +1,4 @@
-pub mod Gives
+pub mod Levels
 pub mod ExprParts
 pub mod NamedView
 pub mod Parts

@@ -2,6 +2,8 @@
 use Rattle.std.specs.Prelude.{List, [], ◌∷◌}
 use Rattle.std.specs.Arc.{arc_value}
 use Rattle.dsl_syntax.specs.SyntaxView.{expr_view, uses_view, block_view, maybe_each_view}
+use Rattle.dsl_syntax.specs.Syntax.{StatementKind}
+use Rattle.dsl_lexer.specs.declared.word.Word.{Word}
 use Rattle.dsl_lexer.specs.declared.word.Word.TheVariants as words
 use Rattle.dsl_rules.specs.Alphabet.{Sort}
 use Rattle.dsl_parts.specs.declared.objects.Bodied.{Bodied}
@@ -10,7 +12,7 @@ use Rattle.dsl_parts.specs.declared.applies.Heads.{Heads}
 use Rattle.dsl_parts.specs.declared.inclusions.Located.{Located}
 use Rattle.dsl_parts.specs.declared.objects.Named.{Named}
 use Rattle.dsl_grammar.specs.Codes.{word_sort}
-use Rattle.dsl_grammar.specs.Grammar.{bodied, headed, heads, located, named}
+use Rattle.dsl_grammar.specs.Grammar.{bodied, headed, heads, located, named, object_named, template_named}
 use Rattle.dsl_grammar.specs.Grammar as plain
 
 abbrev pub bodied_view : Bodied → plain.Bodied
@@ -31,3 +33,8 @@ located_view l = located l.place l.name
 -- with which tokens heads begin
 abbrev pub head_sorts : List Sort
 head_sorts = word_sort words.To ∷ word_sort words.For ∷ []
+
+-- the statement of a first word, a type, a name and a body
+abbrev pub named_of : Word → plain.Named → StatementKind
+named_of words.Object n = object_named n
+named_of w n = template_named n

@@ -1,6 +1,8 @@
 -- What the parts of statements, as the parser holds them, stand for.
 use Rattle.std.specs.Prelude.{Option, Some, None}
-use Rattle.dsl_syntax.specs.Syntax.{Expression, expression, StatementKind, eval}
+use Rattle.dsl_lexer.specs.declared.word.Word.{Word}
+use Rattle.dsl_lexer.specs.declared.word.Word.TheVariants as words
+use Rattle.dsl_syntax.specs.Syntax.{Expression, expression, StatementKind, eval, import, throw}
 use Rattle.dsl_syntax.specs.SyntaxView.{armed_view, expr_view, expr_kind_view, stmt_row, base_view, steps_view, arms_view, stmts_view}
 use Rattle.dsl_syntax.specs.declared.arm.Arm.{Arm}
 use Rattle.dsl_syntax.specs.declared.expr_kind.ExprKind.TheBlock.{struct-Arm, Step::Member, Step::Index'}
@@ -39,3 +41,8 @@ with_step (Step::Index' l k) o = grammar.with_index (expression l (expr_kind_vie
 -- the assignment to what an expression leads to
 abbrev pub set_of_left : Expression → grammar.Setting → StatementKind
 set_of_left e x = grammar.set_value (grammar.assigned (grammar.maybe_set (eval e) (grammar.stepped (grammar.target_of e))) x)
+
+-- the statement of a word and an expression
+abbrev pub worded : Word → Expression → StatementKind
+worded words.Import e = import e
+worded w e = throw e

@@ -6,9 +6,9 @@ ghost use Rattle.dsl_grammar.specs.Grammar.{add_head, applied, head_for, head_to
 ghost use Rattle.dsl_parts.specs.NamedView.{headed_view, heads_view, head_sorts};
 ghost use Rattle.dsl_syntax.specs.SyntaxView.{each_view, maybe_expr_view, stmt_kind_view};
 
-use crate::next::at_word;
 use crate::objects::Bodied;
 use dsl_lexer::{Token, Word};
+use dsl_next::next::at_word;
 use dsl_syntax::{Each, Expr, StmtKind};
 use site_base::Text;
 use std::alloc::{AllocError, Global};

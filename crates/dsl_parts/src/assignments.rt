@@ -6,15 +6,15 @@ ghost use Rattle.dsl_syntax.specs.SyntaxView.{expr_view, stmt_kind_view};
 ghost use Rattle.dsl_rules.specs.Alphabet.{at, among, and};
 ghost use Rattle.dsl_rules.specs.Reading.{one_read};
 ghost use Rattle.dsl_grammar.specs.Codes.{sorts, kind_sort, sign_sort};
-ghost use Rattle.dsl_parts.specs.Gives.{Gives};
+ghost use Rattle.dsl_next.specs.Gives.{Gives};
 ghost use Rattle.dsl_grammar.specs.Grammar.{set_value, assigned, maybe_set, stepped, target_of as target_of_plain};
 ghost use Rattle.dsl_grammar.specs.Operators.{set_sorts, set_of as set_of_plain};
 ghost use Rattle.dsl_parts.specs.Parts.{setting_view, target_view, set_of_left};
 
-use crate::next::at_sign;
-use crate::stop::Stop;
 use crate::targets::{Target, is_target, target_of};
 use dsl_lexer::{Sign, Token, TokenKind};
+use dsl_next::next::at_sign;
+use dsl_next::stop::Stop;
 use dsl_syntax::{Expr, SetOp, StmtKind};
 use site_base::OutOfMemory;
 use std::alloc::Global;

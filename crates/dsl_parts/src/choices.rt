@@ -7,8 +7,8 @@ ghost use Rattle.dsl_grammar.specs.Grammar.{Else, first_arm, add_else, choice_va
 ghost use Rattle.dsl_parts.specs.Parts.{choice_view, otherwise_view};
 ghost use Rattle.dsl_rules.specs.Rules.{may};
 
-use crate::next::at_word;
 use dsl_lexer::{Token, Word};
+use dsl_next::next::at_word;
 use dsl_syntax::{Arm, Stmt, StmtKind};
 use std::alloc::{AllocFailed, Global};
 

@@ -1,21 +1,19 @@
-// The parameters of functions, and their definitions.
-ghost use Rattle.std.specs.Prelude.{◌≡◌, ◌<◌, IfOk, []};
-ghost use Rattle.dsl_syntax.specs.Syntax.{define};
-ghost use Rattle.dsl_syntax.specs.SyntaxView.{func_view, stmt_kind_view};
-ghost use Rattle.dsl_parts.specs.Gives.{Gives};
-ghost use Rattle.dsl_grammar.specs.Grammar.{Define, begins_define, Names, Params, add_name};
+// Functions: their parameters, the names that they capture, and their definitions.
+ghost use Rattle.std.specs.Prelude.{◌≡◌, IfOk, []};
+ghost use Rattle.dsl_syntax.specs.Syntax.{define, expression, function, function_value, statement, return, some_expression, more_statements, no_statements};
+ghost use Rattle.dsl_syntax.specs.SyntaxView.{expr_view, func_view, maybe_expr_view, stmt_kind_view, stmts_view, uses_view};
+ghost use Rattle.dsl_syntax.specs.Lists.{add_use};
+ghost use Rattle.dsl_next.specs.Gives.{Gives};
+ghost use Rattle.dsl_grammar.specs.Grammar.{Names, Params};
 ghost use Rattle.dsl_grammar.specs.Reading.{read_by};
-ghost use Rattle.dsl_grammar.specs.Terms.{behind, maybe, sign as sign_rule, IDENT};
-ghost use Rattle.dsl_lexer.specs.declared.sign.Sign.TheVariants as signs;
-ghost use Rattle.dsl_rules.specs.Grammar.{made};
-ghost use Rattle.dsl_parts.specs.ExprParts.{read_flat};
+ghost use Rattle.dsl_grammar.specs.Terms.{maybe};
 
-use crate::next::{after_first, at_ident, at_sign, at_word, ident, sign};
-use crate::stop::Stop;
-use dsl_lexer::{Sign, Token, Word};
-use dsl_syntax::{Func, StmtKind};
-use site_base::{OutOfMemory, Text, Texts};
-use std::alloc::Global;
+use dsl_lexer::{Sign, Token};
+use dsl_next::next::{after_first, at_ident, at_sign, ident, sign};
+use dsl_next::stop::Stop;
+use dsl_syntax::{Expr, ExprKind, Func, Stmt, StmtKind, Use};
+use site_base::{OutOfMemory, Place, Text, Texts};
+use std::alloc::{AllocError, AllocFailed, Global};
 use std::sync::Arc;
 
 /// The statement that defines a function.
@@ -24,13 +22,6 @@ pub fn define_of(alloc: Global, name: Text, func: Func) -> Result<StmtKind, OutO
 {
     let func = Arc::new(alloc, func)?;
     Ok(StmtKind::Define { name, func })
-}
-
-/// Whether a definition stands here: `function` is else that of an expression.
-pub fn at_define(tokens: &[Token]) -> bool
-    ensures { result ≡ begins_define tokens.now }
-{
-    at_word(Word::Function, tokens) && at_ident(after_first(tokens))
 }
 
 /// The parameters of a function, "(" [ IDENT { "," IDENT } ] ")".
@@ -43,71 +34,77 @@ pub fn params<'a>(
     ensures { Gives (λ ps. ps) result (read_by most Params tokens.now) }
 {
     let (_, inner) = sign(Sign::OpenParen, tokens)?;
-    let (names, after) = maybe_names(alloc, most, inner)?;
+    let (names, after) = names(alloc, most, inner)?;
     let (_, rest) = sign(Sign::CloseParen, after)?;
     Ok((names, rest))
 }
 
 /// Any number of names, with commas between them.
 #[tactic(auto, unfolding(dsl_grammar::specs::Grammar::Names))]
-fn maybe_names<'a>(
+fn names<'a>(
     alloc: Global,
     most: usize,
     tokens: &'a [Token],
 ) -> Result<(Texts, &'a [Token]), Stop<'a>>
     ensures { Gives (λ ps. ps) result (read_by most (maybe (λ ns. ns) [] Names) tokens.now) }
 {
-    if at_ident(tokens) {
-        let (list, rest) = names(alloc, most, tokens)?;
-        Ok((list, rest))
-    } else {
-        Ok((Texts::new(alloc), tokens))
+    let mut list = Texts::new(alloc);
+    if !at_ident(tokens) {
+        return Ok((list, tokens));
     }
-}
-
-/// One or more names, with commas between them.
-#[tactic(auto, unfolding(dsl_grammar::specs::Grammar::Names))]
-fn names<'a>(
-    alloc: Global,
-    most: usize,
-    tokens: &'a [Token],
-) -> Result<(Texts, &'a [Token]), Stop<'a>>
-    ensures { Gives (λ ps. ps) result (read_by most Names tokens.now) }
-{
-    let (mut list, mut rest) = with_next_name(Texts::new(alloc), tokens)?;
+    let (first, mut rest) = ident(tokens)?;
+    list.push(first)?;
     for _ in 0..most {
         if !at_sign(Sign::Comma, rest) {
             break;
         }
-        let (longer, after) = with_comma_name(list, rest)?;
-        list = longer;
+        let (next, after) = ident(after_first(rest))?;
+        list.push(next)?;
         rest = after;
     }
     Ok((list, rest))
 }
 
-/// The names, and the one that must stand next behind a comma.
-fn with_comma_name<'a>(
-    mut list: Texts,
-    tokens: &'a [Token],
-) -> Result<(Texts, &'a [Token]), Stop<'a>>
-    ensures { Gives (λ ps. ps) result
-        (read_flat (made (add_name list) (behind (sign_rule signs.Comma) IDENT)) tokens.now) }
+/// A function at its place.
+pub fn function_at(alloc: Global, place: Place, func: Func) -> Result<Expr, AllocError>
+    ensures { IfOk result (λ e. expr_view e ≡ expression place (function_value (func_view func))) }
 {
-    let (_, inner) = sign(Sign::Comma, tokens)?;
-    let (name, rest) = ident(inner)?;
-    list.push(name)?;
-    Ok((list, rest))
+    let kind = ExprKind::Function(Arc::new(alloc, func)?);
+    Ok(Expr { place, kind })
 }
 
-/// The names, and the one that must stand next.
-fn with_next_name<'a>(
-    mut list: Texts,
-    tokens: &'a [Token],
-) -> Result<(Texts, &'a [Token]), Stop<'a>>
-    ensures { Gives (λ ps. ps) result (read_flat (made (add_name list) IDENT) tokens.now) }
+/// A function of its parts.
+#[tactic(auto, using(dsl_syntax::proofs::SyntaxRows::made_func))]
+pub fn func_of(params: Texts, uses: Vec<Use>, block: Vec<Stmt>) -> Func
+    ensures { func_view result ≡ function params (uses_view uses.items) (stmts_view block.items) }
 {
-    let (name, rest) = ident(tokens)?;
-    list.push(name)?;
-    Ok((list, rest))
+    Func {
+        params,
+        uses,
+        block,
+    }
+}
+
+/// The captured names with one more behind them.
+#[tactic(auto, using(dsl_syntax::proofs::SyntaxLists::uses_more))]
+pub fn with_use(
+    mut list: Vec<Use>,
+    name: Text,
+    expr: Option<Expr>,
+) -> Result<Vec<Use>, AllocFailed<Use>>
+    ensures { IfOk result (λ us. uses_view us.items ≡ add_use (uses_view list.items) name (maybe_expr_view expr)) }
+{
+    list.push(Use { name, expr })?;
+    Ok(list)
+}
+
+/// The body that returns an expression.
+pub fn return_of(alloc: Global, place: Place, value: Expr) -> Result<Vec<Stmt>, AllocFailed<Stmt>>
+    ensures { IfOk result
+        (λ b. stmts_view b.items ≡ more_statements (statement place (return (some_expression (expr_view value)))) no_statements) }
+{
+    let kind = StmtKind::Return { expr: Some(value) };
+    let mut body = Vec::new(alloc);
+    body.push(Stmt { place, kind })?;
+    Ok(body)
 }

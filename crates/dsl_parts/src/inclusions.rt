@@ -1,19 +1,16 @@
 // Inclusions of other files.
-ghost use Rattle.std.specs.Prelude.{◌≡◌, [], ◌∷◌, codes};
+ghost use Rattle.std.specs.Prelude.{◌≡◌, codes};
 ghost use Rattle.dsl_lexer.specs.declared.sign.Sign.TheVariants as signs;
-ghost use Rattle.dsl_rules.specs.Alphabet.{at};
-ghost use Rattle.dsl_rules.specs.Grammar.{made};
-ghost use Rattle.dsl_grammar.specs.Codes.{sorts, string_sort};
-ghost use Rattle.dsl_parts.specs.Gives.{Gives};
-ghost use Rattle.dsl_grammar.specs.Grammar.{AngledName, Dashed, Included, IncludedAll, Inclusion, LibraryName, LocatedString, dashed, included as included_plain, included_library, included_all as included_all_plain};
+ghost use Rattle.dsl_next.specs.Gives.{Gives};
+ghost use Rattle.dsl_grammar.specs.Grammar.{AngledName, Dashed, Included, IncludedAll, Inclusion, LibraryName, LocatedString, included as included_plain, included_library, included_all as included_all_plain};
 ghost use Rattle.dsl_parts.specs.NamedView.{located_view};
 ghost use Rattle.dsl_grammar.specs.Reading.{read_by};
-ghost use Rattle.dsl_grammar.specs.Terms.{STRING, IDENT, behind, maybe, sign as sign_plain};
+ghost use Rattle.dsl_grammar.specs.Terms.{STRING, behind, maybe, sign as sign_plain};
 ghost use Rattle.dsl_syntax.specs.SyntaxView.{stmt_kind_view};
 
-use crate::next::{after_first, at_sign, at_word, ident, sign, string, word};
-use crate::stop::Stop;
 use dsl_lexer::{Sign, Token, TokenKind, Word};
+use dsl_next::next::{after_first, at_sign, at_string, at_word, ident, sign, string, word};
+use dsl_next::stop::Stop;
 use dsl_syntax::StmtKind;
 use site_base::{Place, Text};
 use std::alloc::Global;
@@ -83,30 +80,19 @@ fn pattern<'a>(
     Ok((Text::copy_of(alloc, "*.conf")?, tokens))
 }
 
-/// A library's name, with the place of its `<`.
-#[tactic(auto, unfolding(dsl_grammar::specs::Grammar::LibraryName))]
+/// A library's name, with the place of its `<`: `"<" IDENT { "-" IDENT } ">"`.
+#[tactic(auto, unfolding(dsl_grammar::specs::Grammar::LibraryName, dsl_grammar::specs::Grammar::AngledName))]
 fn library_name<'a>(most: usize, tokens: &'a [Token]) -> Result<(Located, &'a [Token]), Stop<'a>>
     ensures { Gives located_view result (read_by most LibraryName tokens.now) }
 {
-    match tokens {
-        [token, ..] => {
-            let (name, rest) = angled_name(most, tokens)?;
-            let place = token.place;
-            Ok((Located { place, name }, rest))
-        }
-        [] => Err(Stop::Fault(tokens)),
-    }
-}
-
-/// A library's name: `"<" IDENT { "-" IDENT } ">"`.
-#[tactic(auto, unfolding(dsl_grammar::specs::Grammar::AngledName))]
-fn angled_name<'a>(most: usize, tokens: &'a [Token]) -> Result<(Text, &'a [Token]), Stop<'a>>
-    ensures { Gives (λ t. t) result (read_by most AngledName tokens.now) }
-{
+    let [first, ..] = tokens else {
+        return Err(Stop::Fault(tokens));
+    };
+    let place = first.place;
     let (_, begin) = sign(Sign::Less, tokens)?;
     let (name, end) = dashed_name(most, begin)?;
     let (_, rest) = sign(Sign::Greater, end)?;
-    Ok((name, rest))
+    Ok((Located { place, name }, rest))
 }
 
 /// A name with dashes: `IDENT { "-" IDENT }`.
@@ -119,25 +105,11 @@ fn dashed_name<'a>(most: usize, tokens: &'a [Token]) -> Result<(Text, &'a [Token
         if !at_sign(Sign::Minus, rest) {
             break;
         }
-        let (more, after) = more_dashed(most, name, rest)?;
-        name = more;
+        let (part, after) = ident(after_first(rest))?;
+        name.push('-')?;
+        name.push_str(part.as_str())?;
         rest = after;
     }
-    Ok((name, rest))
-}
-
-/// This name, and one more part: `"-" IDENT`.
-fn more_dashed<'a>(
-    most: usize,
-    mut name: Text,
-    tokens: &'a [Token],
-) -> Result<(Text, &'a [Token]), Stop<'a>>
-    ensures { Gives (λ t. t) result (read_by most (made (dashed name) (behind (sign_plain signs.Minus) IDENT)) tokens.now) }
-{
-    let (_, begin) = sign(Sign::Minus, tokens)?;
-    let (part, rest) = ident(begin)?;
-    name.push('-')?;
-    name.push_str(part.as_str())?;
     Ok((name, rest))
 }
 
@@ -160,22 +132,6 @@ fn located_string<'a>(most: usize, tokens: &'a [Token]) -> Result<(Located, &'a 
         }
         _ => Err(Stop::Fault(tokens)),
     }
-}
-
-/// Whether a string stands here.
-fn at_string(tokens: &[Token]) -> bool
-    ensures { result ≡ at sorts (string_sort ∷ []) tokens.now }
-{
-    matches!(
-        tokens,
-        [
-            Token {
-                kind: TokenKind::Str(_),
-                ..
-            },
-            ..
-        ]
-    )
 }
 
 /// The inclusion of a file.

@@ -2,14 +2,14 @@
 ghost use Rattle.std.specs.Prelude.{◌≡◌, ◌<◌, ℕ};
 ghost use Rattle.dsl_syntax.specs.Syntax.{for as for_plain};
 ghost use Rattle.dsl_syntax.specs.SyntaxView.{each_view, expr_view, stmt_kind_view, stmts_view, armed_view};
-ghost use Rattle.dsl_parts.specs.Gives.{Gives};
+ghost use Rattle.dsl_next.specs.Gives.{Gives};
 ghost use Rattle.dsl_grammar.specs.Grammar.{Valued, while_armed};
 ghost use Rattle.dsl_syntax.specs.Lists.{armed};
 ghost use Rattle.dsl_grammar.specs.Reading.{read_by};
 
-use crate::next::{at_sign, ident, sign};
-use crate::stop::Stop;
 use dsl_lexer::{Sign, Token};
+use dsl_next::next::{at_sign, ident, sign};
+use dsl_next::stop::Stop;
 use dsl_syntax::{Arm, Each, Expr, Stmt, StmtKind};
 use site_base::Text;
 

@@ -1,15 +1,14 @@
 // The nodes of expressions, made of their parts.
 ghost use Rattle.std.specs.Prelude.{◌≡◌, IfOk};
-ghost use Rattle.dsl_syntax.specs.Syntax.{expression, array, dictionary, function_value, function};
-ghost use Rattle.dsl_syntax.specs.SyntaxView.{expr_view, exprs_view, entries_view, func_view, uses_view, stmts_view, maybe_expr_view};
+ghost use Rattle.dsl_syntax.specs.Syntax.{expression, array, dictionary};
+ghost use Rattle.dsl_syntax.specs.SyntaxView.{expr_view, exprs_view, entries_view};
 ghost use Rattle.dsl_parts.specs.ExprParts.{operand_view};
-ghost use Rattle.dsl_syntax.specs.Lists.{add_expression, add_entry, add_use};
+ghost use Rattle.dsl_syntax.specs.Lists.{add_expression, add_entry};
 ghost use Rattle.dsl_grammar.specs.Grammar.{joined as joined_plain, with_tail, member_tail, index_tail, call_tail};
 
-use dsl_syntax::{BinOp, Expr, ExprKind, Func, Stmt, Use};
-use site_base::{Place, Text, Texts};
+use dsl_syntax::{BinOp, Expr, ExprKind};
+use site_base::{Place, Text};
 use std::alloc::{AllocError, AllocFailed, Global};
-use std::sync::Arc;
 
 /// An expression, and where its text begins: a parenthesis around it leaves no node.
 #[derive(Debug, Drop)]
@@ -38,11 +37,7 @@ pub fn joined(
 }
 
 /// A member of an operand.
-pub(crate) fn with_member(
-    alloc: Global,
-    operand: Operand,
-    name: Text,
-) -> Result<Operand, AllocError>
+pub fn with_member(alloc: Global, operand: Operand, name: Text) -> Result<Operand, AllocError>
     ensures { IfOk result (λ o. operand_view o ≡ with_tail (operand_view operand) (member_tail name)) }
 {
     let start = operand.start;
@@ -98,26 +93,6 @@ pub fn dictionary_at(place: Place, entries: Vec<(Text, Expr)>) -> Expr
     }
 }
 
-/// A function at its place.
-pub fn function_at(alloc: Global, place: Place, func: Func) -> Result<Expr, AllocError>
-    ensures { IfOk result (λ e. expr_view e ≡ expression place (function_value (func_view func))) }
-{
-    let kind = ExprKind::Function(Arc::new(alloc, func)?);
-    Ok(Expr { place, kind })
-}
-
-/// A function of its parts.
-#[tactic(auto, using(dsl_syntax::proofs::SyntaxRows::made_func))]
-pub fn func_of(params: Texts, uses: Vec<Use>, block: Vec<Stmt>) -> Func
-    ensures { func_view result ≡ function params (uses_view uses.items) (stmts_view block.items) }
-{
-    Func {
-        params,
-        uses,
-        block,
-    }
-}
-
 /// The expressions with one more behind them.
 #[tactic(auto, using(dsl_syntax::proofs::SyntaxLists::exprs_more))]
 pub fn with_expr(mut list: Vec<Expr>, expr: Expr) -> Result<Vec<Expr>, AllocFailed<Expr>>
@@ -129,25 +104,12 @@ pub fn with_expr(mut list: Vec<Expr>, expr: Expr) -> Result<Vec<Expr>, AllocFail
 
 /// The entries with one more behind them.
 #[tactic(auto, using(dsl_syntax::proofs::SyntaxLists::entries_more))]
-pub(crate) fn with_entry(
+pub fn with_entry(
     mut list: Vec<(Text, Expr)>,
     entry: (Text, Expr),
 ) -> Result<Vec<(Text, Expr)>, AllocFailed<(Text, Expr)>>
     ensures { IfOk result (λ ps. entries_view ps.items ≡ add_entry (entries_view list.items) entry.0 (expr_view entry.1)) }
 {
     list.push(entry)?;
-    Ok(list)
-}
-
-/// The captured names with one more behind them.
-#[tactic(auto, using(dsl_syntax::proofs::SyntaxLists::uses_more))]
-pub fn with_use(
-    mut list: Vec<Use>,
-    name: Text,
-    expr: Option<Expr>,
-) -> Result<Vec<Use>, AllocFailed<Use>>
-    ensures { IfOk result (λ us. uses_view us.items ≡ add_use (uses_view list.items) name (maybe_expr_view expr)) }
-{
-    list.push(Use { name, expr })?;
     Ok(list)
 }

@@ -1,9 +1,10 @@
 // Objects and templates.
 ghost use Rattle.std.specs.Prelude.{◌≡◌, ◌<◌, IfOk};
 ghost use Rattle.dsl_grammar.specs.Grammar.{bodied, object_named, template_named};
-ghost use Rattle.dsl_parts.specs.NamedView.{bodied_view, named_view};
+ghost use Rattle.dsl_parts.specs.NamedView.{bodied_view, named_of as named_plain, named_view};
 ghost use Rattle.dsl_syntax.specs.SyntaxView.{stmt_kind_view, stmts_view, uses_view};
 
+use dsl_lexer::Word;
 use dsl_syntax::{Block, Expr, Stmt, StmtKind, Use};
 use site_base::Text;
 use std::alloc::{AllocError, Global};
@@ -32,8 +33,18 @@ pub fn bodied_of(alloc: Global, uses: Vec<Use>, statements: Vec<Stmt>) -> Result
     Ok(Bodied { uses, body })
 }
 
+/// An object, or a template where the word is another than `object`.
+pub fn named_of(first: Word, named: Named) -> StmtKind
+    ensures { stmt_kind_view result ≡ named_plain first (named_view named) }
+{
+    match first {
+        Word::Object => object_of(named),
+        _ => template_of(named),
+    }
+}
+
 /// An object.
-pub fn object_of(named: Named) -> StmtKind
+fn object_of(named: Named) -> StmtKind
     ensures { stmt_kind_view result ≡ object_named (named_view named) }
 {
     StmtKind::Object {
@@ -45,7 +56,7 @@ pub fn object_of(named: Named) -> StmtKind
 }
 
 /// A template.
-pub fn template_of(named: Named) -> StmtKind
+fn template_of(named: Named) -> StmtKind
     ensures { stmt_kind_view result ≡ template_named (named_view named) }
 {
     StmtKind::Template {

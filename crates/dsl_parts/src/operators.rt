@@ -2,14 +2,15 @@
 ghost use Rattle.std.specs.Prelude.{◌≡◌, ◌≤◌};
 ghost use Rattle.dsl_rules.specs.Alphabet.{among, at};
 ghost use Rattle.dsl_grammar.specs.Codes.{sorts, kind_sort, sign_sort};
-ghost use Rattle.dsl_parts.specs.Gives.{Gives};
+ghost use Rattle.dsl_next.specs.Gives.{Gives};
 ghost use Rattle.dsl_grammar.specs.Grammar.{Operator};
 ghost use Rattle.dsl_grammar.specs.Operators.{level_sorts, binary_of as binary_plain, unary_sorts, unary_of as unary_plain};
 ghost use Rattle.dsl_grammar.specs.Reading.{read_by};
 
-use crate::next::newlines;
-use crate::stop::Stop;
+use crate::levels::operator_level;
 use dsl_lexer::{Sign, Token, TokenKind, Word};
+use dsl_next::next::newlines;
+use dsl_next::stop::Stop;
 use dsl_syntax::{BinOp, UnOp};
 
 /// An operator of a level, and the tokens behind it and the newlines that follow.
@@ -30,17 +31,6 @@ pub fn operator<'a>(
     }
 }
 
-/// Whether the next token is an operator of the level.
-pub fn at_operator(level: usize, tokens: &[Token]) -> bool
-    requires { level ≤ 10 }
-    ensures { result ≡ at sorts (level_sorts level) tokens.now }
-{
-    match tokens {
-        [token, ..] => is_operator(level, &token.kind),
-        [] => false,
-    }
-}
-
 /// Whether the next token is an operator that stands before its operand.
 pub fn at_prefix(tokens: &[Token]) -> bool
     ensures { result ≡ at sorts unary_sorts tokens.now }
@@ -51,43 +41,12 @@ pub fn at_prefix(tokens: &[Token]) -> bool
     }
 }
 
-/// Whether the token is an operator of the level; the levels go from `*` to `||`.
+/// Whether the token is an operator of the level.
 fn is_operator(level: usize, kind: &TokenKind) -> bool
     requires { level ≤ 10 }
     ensures { result ≡ among (kind_sort kind.now) (level_sorts level) }
 {
-    match kind {
-        TokenKind::Sign(sign) => is_level_sign(level, *sign),
-        TokenKind::Word(word) => level == 4 && *word == Word::In,
-        _ => false,
-    }
-}
-
-/// Whether the sign is an operator of the level.
-fn is_level_sign(level: usize, sign: Sign) -> bool
-    requires { level ≤ 10 }
-    ensures { result ≡ among (sign_sort sign) (level_sorts level) }
-{
-    match level {
-        0 => sign == Sign::Star || sign == Sign::Slash || sign == Sign::Percent,
-        1 => sign == Sign::Plus || sign == Sign::Minus,
-        2 => sign == Sign::ShiftLeft || sign == Sign::ShiftRight,
-        3 => is_order(sign),
-        4 => sign == Sign::NotIn,
-        5 => sign == Sign::Equal || sign == Sign::NotEqual,
-        6 => sign == Sign::BitAnd,
-        7 => sign == Sign::BitXor,
-        8 => sign == Sign::BitOr,
-        9 => sign == Sign::And,
-        _ => sign == Sign::Or,
-    }
-}
-
-/// Whether the sign compares by order.
-fn is_order(sign: Sign) -> bool
-    ensures { result ≡ among (sign_sort sign) (level_sorts 3) }
-{
-    sign == Sign::Less || sign == Sign::Greater || sign == Sign::AtMost || sign == Sign::AtLeast
+    level == operator_level(kind)
 }
 
 /// The binary operator that a token is; any other token counts as `||`.

@@ -4,13 +4,13 @@ ghost use Rattle.dsl_syntax.specs.SyntaxView.{expr_view};
 ghost use Rattle.dsl_syntax.specs.Syntax.{expression, unary};
 ghost use Rattle.dsl_rules.specs.Grammar.{made};
 ghost use Rattle.dsl_parts.specs.ExprParts.{prefixes_view, read_flat};
-ghost use Rattle.dsl_parts.specs.Gives.{Gives};
+ghost use Rattle.dsl_next.specs.Gives.{Gives};
 ghost use Rattle.dsl_grammar.specs.Grammar.{prefix as prefix_plain, OnePrefix, Prefixes, add_prefix, with_prefixes};
 ghost use Rattle.dsl_grammar.specs.Reading.{read_by};
 
 use crate::operators::{at_prefix, is_prefix, unary_of};
-use crate::stop::Stop;
 use dsl_lexer::Token;
+use dsl_next::stop::Stop;
 use dsl_syntax::{Expr, ExprKind, UnOp};
 use site_base::Place;
 use std::alloc::{AllocError, Global};

@@ -7,8 +7,8 @@ ghost use Rattle.dsl_grammar.specs.Codes.{sorts, sign_sort};
 ghost use Rattle.dsl_parts.specs.ExprParts.{slots_view};
 ghost use Rattle.dsl_grammar.specs.Grammar.{add_slot, may_follow};
 
-use crate::next::at_sign;
 use dsl_lexer::{Sign, Token};
+use dsl_next::next::at_sign;
 use dsl_syntax::Expr;
 use std::alloc::AllocFailed;
 

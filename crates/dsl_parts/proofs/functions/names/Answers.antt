@@ -1,13 +1,18 @@
-use Rattle.std.proofs.Common.{rules, ◌≡◌, ◌+◌, ◌-◌, [], ◌∷◌, true, arith}
+use Rattle.std.proofs.Common.{rules, ◌≡◌, ◌+◌, ◌-◌, [], ◌∷◌, drop, true, refl, arith}
 use Rattle.dsl_lexer.specs.declared.sign.Sign.TheVariants as signs
 use Rattle.dsl_rules.specs.Alphabet.{at}
+use Rattle.dsl_rules.specs.Grammar.{made}
+use Rattle.dsl_rules.specs.Reading.{got}
 use Rattle.dsl_grammar.specs.Codes.{sorts, sign_sort}
 use Rattle.dsl_grammar.specs.Grammar.{add_name}
-use Rattle.dsl_grammar.specs.Terms.{behind, sign, IDENT}
-use Rattle.dsl_parts.proofs.MadeTurns.{step_at}
+use Rattle.dsl_grammar.specs.Reading.{read_by}
+use Rattle.dsl_grammar.specs.Terms.{IDENT}
+use Rattle.dsl_next.proofs.Turns.{step_behind}
 use Rattle.dsl_parts.proofs.functions.names.Goals as goal
 
 pub loop-preserved : goal.loop-preserved
 loop-preserved c =
     let held : at sorts (sign_sort signs.Comma ∷ []) c.loop.rest.now ≡ true = search rules in
-    step_at c.args.most _ (c.args.most - (c.loop.counter + 1)) (sign_sort signs.Comma ∷ []) add_name (behind (sign signs.Comma) IDENT) c.loop.list c.in_ok-longer.longer c.loop.rest.now c.in_ok-longer.after.now _ (omega arith) held c.in_ok-longer.ensures c.loop.invariant
+    let next = (let q = c.in_ok-next.ensures in rw c.after_first.ensures at q) in
+    let read : read_by c.args.most (made (add_name c.loop.list) IDENT) (drop 1 c.loop.rest.now) ≡ got c.push-in-loop.new.self c.in_ok-next.after.now = rw (next, c.in_ok-push-2.ensures.ok) refl in
+    step_behind c.args.most _ (c.args.most - (c.loop.counter + 1)) (sign_sort signs.Comma ∷ []) add_name IDENT c.loop.list c.push-in-loop.new.self c.loop.rest.now c.in_ok-next.after.now _ (omega arith) held read c.loop.invariant

@@ -4,7 +4,7 @@ use Rattle.dsl_grammar.specs.Codes.{sorts}
 use Rattle.dsl_parts.specs.ExprParts.{prefixes_view}
 use Rattle.dsl_grammar.specs.Grammar.{OnePrefix, add_prefix}
 use Rattle.dsl_grammar.specs.Operators.{unary_sorts}
-use Rattle.dsl_parts.proofs.MadeTurns.{step_at}
+use Rattle.dsl_next.proofs.Turns.{step_at}
 use Rattle.dsl_parts.proofs.prefixes.prefixes.Goals as goal
 
 pub loop-preserved : goal.loop-preserved

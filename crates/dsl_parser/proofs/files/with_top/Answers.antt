@@ -2,11 +2,11 @@ use Rattle.std.proofs.Common.{rules, ◌≡◌, true, false, sym, subst}
 use Rattle.dsl_syntax.specs.SyntaxView.{stmts_view}
 use Rattle.dsl_rules.specs.Alphabet.{at}
 use Rattle.dsl_grammar.specs.Codes.{sorts}
-use Rattle.dsl_parts.specs.Gives.{Gives}
+use Rattle.dsl_next.specs.Gives.{Gives}
 use Rattle.dsl_grammar.specs.Grammar.{MaybeTop, Top, top_sorts}
 use Rattle.dsl_grammar.proofs.Firsts.{first_Top}
 use Rattle.dsl_parts.proofs.Rows.{thing_read, thing_is, thing_absent}
-use Rattle.dsl_parser.proofs.files.maybe_top.Goals as goal
+use Rattle.dsl_parser.proofs.files.with_top.Goals as goal
 
 pub returns-then-not-at_top : goal.returns-then-not-at_top
 unfolding MaybeTop

@@ -2,7 +2,7 @@ use Rattle.std.proofs.Common.{◌≡◌, ℕ, ◌-◌, [], ◌∷◌, false}
 use Rattle.dsl_rules.specs.Grammar.{always}
 use Rattle.dsl_rules.specs.Reading.{turns, one_read}
 use Rattle.dsl_grammar.specs.Codes.{sorts, line_sort}
-use Rattle.dsl_parts.proofs.next.newlines.Given as goal
+use Rattle.dsl_next.proofs.next.newlines.Given as goal
 
 abbrev pub invariant-loop : goal.invariant-loop
 invariant-loop l =

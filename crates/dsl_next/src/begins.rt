@@ -1,12 +1,13 @@
-// With which tokens statements begin.
+// With which tokens things begin.
 ghost use Rattle.std.specs.Prelude.{◌≡◌, [], ◌∷◌};
 ghost use Rattle.dsl_rules.specs.Alphabet.{among, at, outside};
 ghost use Rattle.dsl_lexer.specs.declared.word.Word.TheVariants as words;
 ghost use Rattle.dsl_lexer.specs.declared.sign.Sign.TheVariants as signs;
-ghost use Rattle.dsl_grammar.specs.Codes.{sorts, kind_sort, word_sort, sign_sort};
+ghost use Rattle.dsl_grammar.specs.Codes.{sorts, kind_sort, word_sort, sign_sort, ident_sort, string_sort};
 ghost use Rattle.dsl_grammar.specs.Terms.{expr, starts, sep, bsep};
-ghost use Rattle.dsl_grammar.specs.Grammar.{common_sorts, body_sorts, statement_sorts, top_sorts};
+ghost use Rattle.dsl_grammar.specs.Grammar.{common_sorts, body_sorts, statement_sorts, top_sorts, tail_sorts, begins_define, begins_lambda as begins_plain};
 
+use crate::next::{after_first, at_ident, at_sign, at_word};
 use dsl_lexer::{Sign, Token, TokenKind, Word};
 
 /// Whether a statement of a file begins here.
@@ -82,6 +83,57 @@ pub fn at_apply_name(tokens: &[Token]) -> bool
         },
         [] => false,
     }
+}
+
+/// Whether the definition of a function begins here: `function` is else that of an expression.
+pub fn at_define(tokens: &[Token]) -> bool
+    ensures { result ≡ begins_define tokens.now }
+{
+    at_word(Word::Function, tokens) && at_ident(after_first(tokens))
+}
+
+/// Whether a function with "=>" begins here: `( )`, `( IDENT ,` or `( IDENT ) =>`.
+pub fn begins_lambda(tokens: &[Token]) -> bool
+    ensures { result ≡ begins_plain tokens.now }
+{
+    if !at_sign(Sign::OpenParen, tokens) {
+        return false;
+    }
+    let inner = after_first(tokens);
+    if at_sign(Sign::CloseParen, inner) {
+        return true;
+    }
+    if !at_ident(inner) {
+        return false;
+    }
+    let behind = after_first(inner);
+    at_sign(Sign::Comma, behind)
+        || at_sign(Sign::CloseParen, behind) && at_sign(Sign::Arrow, after_first(behind))
+}
+
+/// Whether a member, an index or arguments begin here.
+pub fn at_tail(tokens: &[Token]) -> bool
+    ensures { result ≡ at sorts tail_sorts tokens.now }
+{
+    at_sign(Sign::Dot, tokens)
+        || at_sign(Sign::OpenBracket, tokens)
+        || at_sign(Sign::OpenParen, tokens)
+}
+
+/// Whether the key of a dictionary's entry begins here.
+pub fn at_key(tokens: &[Token]) -> bool
+    ensures { result ≡ at sorts (ident_sort ∷ string_sort ∷ []) tokens.now }
+{
+    matches!(
+        tokens,
+        [
+            Token {
+                kind: TokenKind::Ident(_) | TokenKind::Str(_),
+                ..
+            },
+            ..
+        ]
+    )
 }
 
 /// Whether a newline or `;` stands here.

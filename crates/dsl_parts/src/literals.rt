@@ -5,11 +5,11 @@ ghost use Rattle.dsl_syntax.specs.SyntaxView.{expr_view, expr_kind_view};
 ghost use Rattle.dsl_rules.specs.Alphabet.{among, at};
 ghost use Rattle.dsl_rules.specs.Reading.{one_read};
 ghost use Rattle.dsl_grammar.specs.Codes.{sorts, kind_sort, word_sort};
-ghost use Rattle.dsl_parts.specs.Gives.{Gives};
+ghost use Rattle.dsl_next.specs.Gives.{Gives};
 ghost use Rattle.dsl_grammar.specs.Grammar.{literal_sorts, literal_kind as literal_plain};
 
-use crate::stop::Stop;
 use dsl_lexer::{Token, TokenKind, Word};
+use dsl_next::stop::Stop;
 use dsl_syntax::{Expr, ExprKind};
 use std::alloc::AllocError;
 

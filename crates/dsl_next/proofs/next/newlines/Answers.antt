@@ -2,7 +2,7 @@ use Rattle.std.proofs.Common.{rules, ◌≡◌, [], ◌∷◌, ◌+◌, ◌-◌,
 use Rattle.dsl_rules.specs.Alphabet.{at}
 use Rattle.dsl_grammar.specs.Codes.{sorts, line_sort}
 use Rattle.dsl_grammar.proofs.Turns.{line_turn}
-use Rattle.dsl_parts.proofs.next.newlines.Goals as goal
+use Rattle.dsl_next.proofs.next.newlines.Goals as goal
 
 pub loop-preserved : goal.loop-preserved
 loop-preserved c =

@@ -3,7 +3,7 @@ ghost use Rattle.std.specs.Prelude.{◌≡◌, [], ◌∷◌, drop};
 ghost use Rattle.dsl_rules.specs.Alphabet.{at, same, skip};
 ghost use Rattle.dsl_rules.specs.Reading.{got, one_read};
 ghost use Rattle.dsl_grammar.specs.Codes.{sorts, kind_sort, word_sort, sign_sort, ident_sort, string_sort, line_sort};
-ghost use Rattle.dsl_parts.specs.Gives.{Gives};
+ghost use Rattle.dsl_next.specs.Gives.{Gives};
 ghost use Rattle.dsl_grammar.specs.Reading.{read_by};
 ghost use Rattle.dsl_grammar.specs.Terms.{nl, text};
 
@@ -52,7 +52,7 @@ pub fn at_word(word: Word, tokens: &[Token]) -> bool
 }
 
 /// Whether the next token is an identifier.
-pub(crate) fn at_ident(tokens: &[Token]) -> bool
+pub fn at_ident(tokens: &[Token]) -> bool
     ensures { result ≡ at sorts (ident_sort ∷ []) tokens.now }
 {
     matches!(
@@ -60,6 +60,22 @@ pub(crate) fn at_ident(tokens: &[Token]) -> bool
         [
             Token {
                 kind: TokenKind::Ident(_),
+                ..
+            },
+            ..
+        ]
+    )
+}
+
+/// Whether the next token is a string.
+pub fn at_string(tokens: &[Token]) -> bool
+    ensures { result ≡ at sorts (string_sort ∷ []) tokens.now }
+{
+    matches!(
+        tokens,
+        [
+            Token {
+                kind: TokenKind::Str(_),
                 ..
             },
             ..
@@ -100,7 +116,7 @@ pub fn ident<'a>(tokens: &'a [Token]) -> Result<(Text, &'a [Token]), Stop<'a>>
 }
 
 /// A string, and the tokens behind it.
-pub(crate) fn string<'a>(tokens: &'a [Token]) -> Result<(Text, &'a [Token]), Stop<'a>>
+pub fn string<'a>(tokens: &'a [Token]) -> Result<(Text, &'a [Token]), Stop<'a>>
     ensures { Gives (λ t. t) result (one_read sorts (string_sort ∷ []) text tokens.now) }
 {
     match tokens {
@@ -112,6 +128,17 @@ pub(crate) fn string<'a>(tokens: &'a [Token]) -> Result<(Text, &'a [Token]), Sto
             rest @ ..,
         ] => Ok((value.clone()?, rest)),
         _ => Err(Stop::Fault(tokens)),
+    }
+}
+
+/// A key: an identifier or a string, and the tokens behind it.
+pub fn key<'a>(tokens: &'a [Token]) -> Result<(Text, &'a [Token]), Stop<'a>>
+    ensures { Gives (λ t. t) result (one_read sorts (ident_sort ∷ string_sort ∷ []) text tokens.now) }
+{
+    if at_ident(tokens) {
+        ident(tokens)
+    } else {
+        string(tokens)
     }
 }
 

@@ -1,7 +1,7 @@
 use Rattle.std.proofs.Common.{◌≡◌, length}
 use Rattle.dsl_rules.specs.Alphabet.{skip}
 use Rattle.dsl_grammar.specs.Codes.{sorts}
-use Rattle.dsl_parts.proofs.next.skip_lines.Given as goal
+use Rattle.dsl_next.proofs.next.skip_lines.Given as goal
 
 abbrev pub decreases-loop-rest : goal.decreases-loop-rest
 decreases-loop-rest l = length l.rest

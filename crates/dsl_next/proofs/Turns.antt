@@ -1,18 +1,19 @@
 -- Turns that make what is so far into more, and productions that keep what they read.
-use Rattle.std.proofs.Common.{◌≡◌, ℕ, suc, List, Bool, true, false, Result, Ok, Err, refl, sym, ◌∙◌}
+use Rattle.std.proofs.Common.{◌≡◌, ℕ, suc, List, [], ◌∷◌, drop, Bool, true, false, Result, Ok, Err, refl, sym, ◌∙◌}
 use Rattle.std.specs.Borrow.{Bor}
+use Rattle.site_base.specs.declared.place.Place.{Place}
 use Rattle.dsl_lexer.specs.declared.token.Token.{Token}
 use Rattle.dsl_rules.specs.Alphabet.{Sort, at, over}
 use Rattle.dsl_rules.specs.Rules.{may}
-use Rattle.dsl_rules.specs.Reading.{Read, got, bad, ◌>>=◌, turns}
+use Rattle.dsl_rules.specs.Reading.{Read, got, bad, ◌>>=◌, one_read, turns}
 use Rattle.dsl_grammar.specs.Codes.{sorts}
-use Rattle.dsl_rules.specs.Grammar.{made, always}
-use Rattle.dsl_parts.specs.Gives.{Gives}
+use Rattle.dsl_rules.specs.Grammar.{made, one, always}
+use Rattle.dsl_next.specs.Gives.{Gives}
 use Rattle.dsl_grammar.specs.Reading.{read_by}
-use Rattle.dsl_grammar.specs.Terms.{Rule}
+use Rattle.dsl_grammar.specs.Terms.{Rule, behind}
 use Rattle.dsl_grammar.proofs.Turns.{may_at}
-use Rattle.dsl_parts.specs.declared.stop.Stop.{Stop}
-use Rattle.dsl_parts.specs.declared.stop.Stop.TheVariants as stops
+use Rattle.dsl_next.specs.declared.stop.Stop.{Stop}
+use Rattle.dsl_next.specs.declared.stop.Stop.TheVariants as stops
 
 -- a turn is taken, and what it makes is known
 pub turned : {A C : Type 0} (m n : ℕ) (look : Bool) (cs : List Sort) (more : C → Sort → Bool) (step : C → A → C) (p : List Token → Read Token A) (c d : C) (ts mid : List Token) → m ≡ suc n → may sorts cs (more c) (over sorts look ts) ≡ true → p (over sorts look ts) >>= (λ x rest. got (step c x) rest) ≡ got d mid → turns sorts look cs more step p m c ts ≡ turns sorts look cs more step p n d mid
@@ -53,3 +54,27 @@ step_at n m k cs step g c d ts mid whole e h q w = step_may n m k cs always step
 
 pub fault_at : {A C D : Type 0} (n m k : ℕ) (cs : List Sort) (step : C → A → C) (g : Rule A) (view : D → C) (stop : Stop) (c : C) (ts : List Token) (whole : Read Token C) → m ≡ suc k → at sorts cs ts ≡ true → Gives view (Err stop) (read_by n (made (step c) g) ts) → turns sorts false cs always step (read_by n g) m c ts ≡ whole → Gives view (Err stop) whole
 fault_at n m k cs step g view stop c ts whole e h q w = fault_may n m k cs always step g view stop c ts whole e (may_at cs ts ∙ h) q w
+
+-- behind a token of these sorts
+pub made_behind : {A C : Type 0} (n : ℕ) (cs : List Sort) (f : A → C) (g : Rule A) (ts : List Token) → at sorts cs ts ≡ true → read_by n (made f (behind (one cs (λ t. t.place)) g)) ts ≡ read_by n (made f g) (drop 1 ts)
+made_behind n cs f g [] h = absurd cc
+made_behind {A} {C} n cs f g (t ∷ ts) h = rw h (by (read_by n g ts))
+  where
+    by : (r : Read Token A) → ((r >>= λ y rest. got y rest) >>= λ x rest. got (f x) rest) ≡ (r >>= λ x rest. got (f x) rest)
+    by (got x rest) = refl
+    by (bad s) = refl
+
+pub made_sign : {A C : Type 0} (n : ℕ) (cs : List Sort) (f : A → C) (g : Rule A) (p : Place) (ts inner : List Token) → one_read sorts cs (λ t. t.place) ts ≡ got p inner → read_by n (made f (behind (one cs (λ t. t.place)) g)) ts ≡ read_by n (made f g) inner
+made_sign {A} {C} n cs f g p ts inner h = rw h (by (read_by n g inner))
+  where
+    by : (r : Read Token A) → ((r >>= λ y rest. got y rest) >>= λ x rest. got (f x) rest) ≡ (r >>= λ x rest. got (f x) rest)
+    by (got x rest) = refl
+    by (bad s) = refl
+
+-- a turn behind a token of these sorts
+pub step_behind : {A C : Type 0} (n m k : ℕ) (cs : List Sort) (step : C → A → C) (g : Rule A) (c d : C) (ts mid : List Token) (whole : Read Token C) → m ≡ suc k → at sorts cs ts ≡ true → read_by n (made (step c) g) (drop 1 ts) ≡ got d mid → turns sorts false cs always step (read_by n (behind (one cs (λ t. t.place)) g)) m c ts ≡ whole → turns sorts false cs always step (read_by n (behind (one cs (λ t. t.place)) g)) k d mid ≡ whole
+step_behind n m k cs step g c d ts mid whole e h q w = step_at n m k cs step (behind (one cs (λ t. t.place)) g) c d ts mid whole e h (made_behind n cs (step c) g ts h ∙ q) w
+
+pub fault_behind : {A C D : Type 0} (n m k : ℕ) (cs : List Sort) (step : C → A → C) (g : Rule A) (view : D → C) (stop : Stop) (c : C) (ts : List Token) (whole : Read Token C) → m ≡ suc k → at sorts cs ts ≡ true → Gives view (Err stop) (read_by n (made (step c) g) (drop 1 ts)) → turns sorts false cs always step (read_by n (behind (one cs (λ t. t.place)) g)) m c ts ≡ whole → Gives view (Err stop) whole
+fault_behind n m k cs step g view (stops.Fault f) c ts whole e h q w = fault_at n m k cs step (behind (one cs (λ t. t.place)) g) view (stops.Fault f) c ts whole e h (made_behind n cs (step c) g ts h ∙ q) w
+fault_behind n m k cs step g view stops.Memory c ts whole e h q w = tt

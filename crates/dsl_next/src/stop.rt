@@ -12,7 +12,7 @@ pub enum Stop<'a> {
 
 impl<'a> From<OutOfMemory> for Stop<'a> {
     ghost use Rattle.std.specs.Prelude.{◌≡◌};
-    ghost use Rattle.dsl_parts.specs.declared.stop.Stop.TheVariants.{Memory};
+    ghost use Rattle.dsl_next.specs.declared.stop.Stop.TheVariants.{Memory};
 
     ghost from_gives = { λ _ e. e ≡ Memory };
 
@@ -23,7 +23,7 @@ impl<'a> From<OutOfMemory> for Stop<'a> {
 
 impl<'a> From<AllocError> for Stop<'a> {
     ghost use Rattle.std.specs.Prelude.{◌≡◌};
-    ghost use Rattle.dsl_parts.specs.declared.stop.Stop.TheVariants.{Memory};
+    ghost use Rattle.dsl_next.specs.declared.stop.Stop.TheVariants.{Memory};
 
     ghost from_gives = { λ _ e. e ≡ Memory };
 
@@ -34,7 +34,7 @@ impl<'a> From<AllocError> for Stop<'a> {
 
 impl<'a, T: Drop> From<AllocFailed<T>> for Stop<'a> {
     ghost use Rattle.std.specs.Prelude.{◌≡◌};
-    ghost use Rattle.dsl_parts.specs.declared.stop.Stop.TheVariants.{Memory};
+    ghost use Rattle.dsl_next.specs.declared.stop.Stop.TheVariants.{Memory};
 
     ghost from_gives = { λ _ e. e ≡ Memory };
 

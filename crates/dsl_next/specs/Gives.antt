@@ -3,8 +3,8 @@ use Rattle.std.specs.Prelude.{◌≡◌, List, Result, Ok, Err}
 use Rattle.std.specs.Borrow.{Bor}
 use Rattle.dsl_lexer.specs.declared.token.Token.{Token}
 use Rattle.dsl_rules.specs.Reading.{Read, got, bad}
-use Rattle.dsl_parts.specs.declared.stop.Stop.{Stop}
-use Rattle.dsl_parts.specs.declared.stop.Stop.TheVariants as stops
+use Rattle.dsl_next.specs.declared.stop.Stop.{Stop}
+use Rattle.dsl_next.specs.declared.stop.Stop.TheVariants as stops
 
 -- what a function returned is what is read, as `view` sees its value, unless memory ran out
 abbrev pub Gives : {A B : Type 0} → (A → B) → Result (A × Bor (List Token)) Stop → Read Token B → Type 0

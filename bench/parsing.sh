@@ -1,0 +1,45 @@
+#!/usr/bin/env bash
+# Times `lex` and `parse` on one core over texts of the first form of 1 to 8 MiB: 4 MiB are to take below 50 ns a byte, and time
+# is to grow by less than 2.1 for each doubling.
+set -eu
+. "$(dirname "${BASH_SOURCE[0]}")/program.sh"
+
+build_program 'site_base dsl_syntax dsl_lexer dsl_rules dsl_depth dsl_grammar dsl_next dsl_parts dsl_parser anyhow' <<'RATTLE'
+//! Lexes and parses standard input, and prints how long each took.
+#![tactic(auto)]
+
+use dsl_lexer::lex;
+use dsl_parser::parse;
+use std::io::Read;
+use std::time::Instant;
+
+fn main(rt: HostRuntime) -> anyhow::Result<()> {
+    let mut bytes = Vec::new(rt.alloc());
+    rt.reader().read_to_end(&mut bytes)?;
+    if bytes.len() >= 1_000_000_000 {
+        return Ok(());
+    }
+    let start = Instant::now(&rt)?;
+    let Ok(tokens) = lex(rt.alloc(), &bytes, 0) else {
+        return Ok(());
+    };
+    let lexed = start.elapsed(&rt)?.as_micros();
+    let start = Instant::now(&rt)?;
+    let statements = match parse(rt.alloc(), tokens.as_slice()) {
+        Ok(file) => file.statements.len(),
+        Err(_) => 0,
+    };
+    let parsed = start.elapsed(&rt)?.as_micros();
+    println!(rt; "{} bytes, {statements} statements, {lexed} us, {parsed} us", bytes.len())?;
+    Ok(())
+}
+RATTLE
+
+for hosts in 9350 18700 37400 74800; do
+    awk -v hosts="$hosts" 'BEGIN {
+        for (h = 0; h < hosts; h++)
+            printf "object Host \"host-%d\" {\n  check_command = \"hostalive\"\n  address = \"192.0.2.1\"\n  max_check_attempts = 5\n}\n\n", h
+    }' >"$work/text"
+    for _ in 1 2 3 4 5; do taskset -c 0 "$program" <"$work/text"; done | sort -t, -k4,4n | head -1 |
+        awk '{ printf "%.1f MB: lexed in %.0f ms, parsed in %.0f ms, %.1f ns a byte\n", $1 / 1e6, $5 / 1e3, $7 / 1e3, ($5 + $7) * 1e3 / $1 }'
+done
