@@ -279,8 +279,8 @@ module _ (s : PlainSite) (sound : HasParents s) (found below ancs : List (List �
     rank_falls c q l up =
         let inside = parent_in s sound c q up in
         let h = filter_fewer (stands q) (stands c) all q
-            (λ p h. above_stands c p l (let a = stands_above q p inside h in (suc a.0, above_parent s a.0 p c q up a.1)))
-            (in_all q inside) (not_self q inside) (above_stands c q l (parent_above s c q up)) in
+        (λ p h. above_stands c p l (let a = stands_above q p inside h in (suc a.0, above_parent s a.0 p c q up a.1)))
+        (in_all q inside) (not_self q inside) (above_stands c q l (parent_above s c q up)) in
         let e = ap length (ancs_is q) in
         let f = ap length (ancs_is c) in
         omega (arith, h, e, f)
@@ -313,8 +313,8 @@ module _ (s : PlainSite) (sound : HasParents s) (found below ancs : List (List �
     ancs_are c l =
         ancs_is c ∙ filter_agree (stands c) (λ p. is_above s (length s.checkables) p c)
         (λ p. same_tests (stands c p) (is_above s (length s.checkables) p c)
-            (λ h. let a = stands_above c p l h in short a.0 p c (length s.checkables) l (let r = rank_small c l in omega (arith, r)) a.1)
-            (λ h. above_stands c p l (length s.checkables, h))) all
+        (λ h. let a = stands_above c p l h in short a.0 p c (length s.checkables) l (let r = rank_small c l in omega (arith, r)) a.1)
+        (λ h. above_stands c p l (length s.checkables, h))) all
 
     pub ordered : HasOrder s
     ordered = record {

@@ -272,9 +272,10 @@ module _ (o : Outlook) (b : ℕ → Bool) (c : ℕ) where
         by : (r : Option ℕ) → IsFirstAmong leads (of_index c leaders) r → IsFirst held_at r
         by None f = λ k. false_from (held_at k) (λ h. let (j, low, mine, led) = leader_holds k h in never_both led (f j mine))
         by (Some k) (mine, led, f) =
-            let (d, at, child) = teams.child c k mine in
-            (ap held_then at ∙ and_from (nat_eq d.child c) (holds_back o b d) (eq-eqb d.child c child) (sym (leads_holds k d mine at) ∙ led),
-             λ j l. false_from (held_at j) (λ h. let (i, low, one, held) = leader_holds j h in never_both held (f i one (omega (arith, low, l)))))
+            let (d, at, child) = teams.child c k mine in (
+              ap held_then at ∙ and_from (nat_eq d.child c) (holds_back o b d) (eq-eqb d.child c child) (sym (leads_holds k d mine at) ∙ led),
+              λ j l. false_from (held_at j) (λ h. let (i, low, one, held) = leader_holds j h in never_both held (f i one (omega (arith, low, l)))),
+            )
 
     pub first_is : first_of leads (of_index c leaders) ≡ first_back o b c 0 o.site.depends
     first_is = one_first held_at (first_of leads (of_index c leaders)) (first_back o b c 0 o.site.depends) leaders_first back_first

@@ -67,7 +67,6 @@ module _ (lists : List (List ℕ)) where
   abbrev long : ℕ → ℕ
   long k = length (of_index k lists)
 
-
   abbrev so_long : ℕ → ℕ → Bool
   so_long n k = nat_eq (long k) n
 

@@ -71,5 +71,5 @@ module _ {R S : Type 0} (text : R → List ℕ) where
           ∙ ap (λ t. cond t (Some (0 + length ds)) None) (flip d.child q.0 (text r) (text q.1) e))
       by false e =
           let other : (nat_eq q.0 d.child && bytes_eq (text q.1) (text r)) ≡ false =
-              false_from (nat_eq q.0 d.child && bytes_eq (text q.1) (text r)) (λ t. never_both (flip q.0 d.child (text q.1) (text r) t) e) in
+          false_from (nat_eq q.0 d.child && bytes_eq (text q.1) (text r)) (λ t. never_both (flip q.0 d.child (text q.1) (text r) t) e) in
           sym (ap (λ t. option_or (first_keyed q.0 (text q.1) 0 ds) (cond t (Some (0 + length ds)) None)) other ∙ or_none (first_keyed q.0 (text q.1) 0 ds))

@@ -82,8 +82,13 @@ module _ (ds : List DependSpec) where
           let same : m ≡ j = omega (arith, is) in
           let low = within (take k ds) j e here in
           let l : j < k = omega (arith, low, long) in
-          inr (omega (arith, same, l), e, ap (slice_get ds) same ∙ sym (get_take ds j k l) ∙ here, stands,
-            λ i g h at_i. let h' : i < j = omega (arith, h, same) in f i g h' (get_take ds i k (omega (arith, h', l)) ∙ at_i))
+          inr (
+            omega (arith, same, l),
+            e,
+            ap (slice_get ds) same ∙ sym (get_take ds j k l) ∙ here,
+            stands,
+            λ i g h at_i. let h' : i < j = omega (arith, h, same) in f i g h' (get_take ds i k (omega (arith, h', l)) ∙ at_i),
+          )
 
   pub leader_at : (k l : ℕ) → slice_get (all_leaders ds) k ≡ Some l → (d : DependSpec) × (slice_get ds k ≡ Some d) × (l ≡ leader_in (take k ds) d)
   leader_at k l at =

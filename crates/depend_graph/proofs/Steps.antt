@@ -20,7 +20,7 @@ given_has c (e ∷ ds) zero d at q =
     let same : e ≡ d = cc in
     subst (λ (z : DependSpec). has d.parent (given c (z ∷ ds)) ≡ true) (sym same)
     (ap (λ t. has d.parent (map (λ (f : DependSpec). f.parent) (cond t (d ∷ filter (λ (f : DependSpec). nat_eq f.child c) ds) (filter (λ (f : DependSpec). nat_eq f.child c) ds)))) q
-     ∙ or_left (nat_eq d.parent d.parent) (has d.parent (given c ds)) (eq_self d.parent))
+    ∙ or_left (nat_eq d.parent d.parent) (has d.parent (given c ds)) (eq_self d.parent))
 given_has c (e ∷ ds) (suc k) d at q = by (nat_eq e.child c) (given_has c ds k d at q)
   where
     by : (t : Bool) → has d.parent (given c ds) ≡ true
@@ -97,8 +97,8 @@ module _ (o : Outlook) (order : HasOrder o.site) where
   enough (suc m) (suc n) c within h k =
       step_same o (λ p. is_held (reach_in o m p)) (λ p. is_held (reach_in o n p)) c
       (λ q up.
-        let low = order.fewer c q within up in
-        ap is_held (enough m n q (ancestor_in o.site c q (order.parents c q within up)) (omega (arith, low, h)) (omega (arith, low, k))))
+      let low = order.fewer c q within up in
+      ap is_held (enough m n q (ancestor_in o.site c q (order.parents c q within up)) (omega (arith, low, h)) (omega (arith, low, k))))
 
   -- what holds one back, by what holds its parents back
   pub reach_step : (c : ℕ) → c < length o.site.checkables → reach_of o c ≡ step_of o (λ q. is_held (reach_of o q)) c
@@ -109,6 +109,6 @@ module _ (o : Outlook) (order : HasOrder o.site) where
       by (suc n) h e =
           step_same o (λ p. is_held (reach_in o n p)) (λ p. is_held (reach_of o p)) c
           (λ q up.
-            let low = order.fewer c q within up in
-            let inside = ancestor_in o.site c q (order.parents c q within up) in
-            ap is_held (enough n (length o.site.checkables) q inside (omega (arith, low, h)) (order.few q inside)))
+          let low = order.fewer c q within up in
+          let inside = ancestor_in o.site c q (order.parents c q within up) in
+          ap is_held (enough n (length o.site.checkables) q inside (omega (arith, low, h)) (order.few q inside)))

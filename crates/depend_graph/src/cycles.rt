@@ -11,7 +11,11 @@ use site_model::{DependSpec, Site};
 use std::alloc::Global;
 
 /// The dependencies whose child is its own parent, or one of its parent's ancestors.
-pub(crate) fn turning(alloc: Global, site: &Site, ancestors: &Lists) -> Result<Row<u32>, OutOfMemory>
+pub(crate) fn turning(
+    alloc: Global,
+    site: &Site,
+    ancestors: &Lists,
+) -> Result<Row<u32>, OutOfMemory>
     requires few { length (site_view site.now).depends < 2 ^ 32 }
     requires parents { All (λ d. d.parent < length ancestors.now) (site_view site.now).depends }
     requires rising { (c : ℕ) → AllPairs (λ j k. j < k) (of_index c ancestors.now) }

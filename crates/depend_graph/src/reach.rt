@@ -8,13 +8,9 @@ ghost use Rattle.depend_graph.specs.Reaching.{reach_as};
 pub enum Reach {
     Reachable,
     /// The first dependency of the checkable's own that holds it back.
-    Depend {
-        depend: u32,
-    },
+    Depend { depend: u32 },
     /// No dependency does, but the service's host.
-    Host {
-        checkable: u32,
-    },
+    Host { checkable: u32 },
 }
 
 impl Reach {

@@ -22,9 +22,9 @@ pub returns : goal.returns
 returns c =
     let past = c.loop-number-test.false in
     let rows : (n : ℕ) → of_index n c.loop-number.rows ≡ of_length c.args.lists.now n c.args.numbers.now = λ n.
-        at_end (of_index n c.loop-number.rows) (of_length c.args.lists.now n (drop c.loop-number.number-index c.args.numbers.now)) (of_length c.args.lists.now n c.args.numbers.now)
-        (ap (of_length c.args.lists.now n) (drop_all c.loop-number.number-index c.args.numbers.now (omega (arith, past)))) (c.loop-number.invariant.rows n) in
+    at_end (of_index n c.loop-number.rows) (of_length c.args.lists.now n (drop c.loop-number.number-index c.args.numbers.now)) (of_length c.args.lists.now n c.args.numbers.now)
+    (ap (of_length c.args.lists.now n) (drop_all c.loop-number.number-index c.args.numbers.now (omega (arith, past)))) (c.loop-number.invariant.rows n) in
     subst (λ z. IfOk c.joined.result (λ r. r ≡ z))
     (rows_joined c.args.lists.now c.args.numbers.now c.loop-number.rows 0 (λ i l. rows i ∙ (let f : i ≡ 0 + i = omega arith in ap (λ m. of_length c.args.lists.now m c.args.numbers.now) f))
-     ∙ ap (λ m. by_length_from c.args.lists.now 0 m c.args.numbers.now) c.loop-number.invariant.long)
+    ∙ ap (λ m. by_length_from c.args.lists.now 0 m c.args.numbers.now) c.loop-number.invariant.long)
     c.joined.ensures

@@ -16,13 +16,13 @@ loop-checkable-preserved c =
     let m = length-map c.args.site.now.checkables check_view in
     elim c.match-spec.branch [
       | in-Some+in_ok-push w ↦ record {
-          long = ap length (w.lists-is ∙ w.in_ok-push.ensures.ok) ∙ length-set c.loop-checkable.lists _ _ ∙ c.loop-checkable.invariant.long;
-          hosts = λ k. hosted (map check_view c.args.site.now.checkables) c.loop-checkable.lists c.match-spec.lists c.loop-checkable.checkable w.in-Some.host k (omega (arith, l, e, m)) (w.lists-is ∙ w.in_ok-push.ensures.ok)
-              (its_host c.args.site.now.checkables c.loop-checkable.checkable c.spec-item.result l at (Some w.in-Some.host) w.in-Some.is) c.loop-checkable.invariant.hosts;
-        }
+        long = ap length (w.lists-is ∙ w.in_ok-push.ensures.ok) ∙ length-set c.loop-checkable.lists _ _ ∙ c.loop-checkable.invariant.long;
+        hosts = λ k. hosted (map check_view c.args.site.now.checkables) c.loop-checkable.lists c.match-spec.lists c.loop-checkable.checkable w.in-Some.host k (omega (arith, l, e, m)) (w.lists-is ∙ w.in_ok-push.ensures.ok)
+            (its_host c.args.site.now.checkables c.loop-checkable.checkable c.spec-item.result l at (Some w.in-Some.host) w.in-Some.is) c.loop-checkable.invariant.hosts;
+      }
       | in_default w ↦ record {
-          long = ap length w.lists-is ∙ c.loop-checkable.invariant.long;
-          hosts = λ k. ap (of_index k) w.lists-is ∙ unhosted (map check_view c.args.site.now.checkables) c.loop-checkable.lists c.loop-checkable.checkable k
-              (its_host c.args.site.now.checkables c.loop-checkable.checkable c.spec-item.result l at None w.in_default.is) c.loop-checkable.invariant.hosts;
-        }
+        long = ap length w.lists-is ∙ c.loop-checkable.invariant.long;
+        hosts = λ k. ap (of_index k) w.lists-is ∙ unhosted (map check_view c.args.site.now.checkables) c.loop-checkable.lists c.loop-checkable.checkable k
+            (its_host c.args.site.now.checkables c.loop-checkable.checkable c.spec-item.result l at None w.in_default.is) c.loop-checkable.invariant.hosts;
+      }
     ]

@@ -13,7 +13,7 @@ add_unmarked-requires-clause-marked c =
 pub loop-next-init : goal.loop-next-init
 loop-next-init c =
     let is : c.add_unmarked.new.found.items ≡ added [] (of_index c.args.checkable c.args.parents.now) =
-        c.in_ok-add_unmarked.ensures.found ∙ ap (λ xs. added xs c.at.result.now) c.new-found.ensures.items ∙ ap (added []) c.at.ensures in
+    c.in_ok-add_unmarked.ensures.found ∙ ap (λ xs. added xs c.at.result.now) c.new-found.ensures.items ∙ ap (added []) c.at.ensures in
     record {
       long = c.in_ok-add_unmarked.ensures.length ∙ c.requires.length;
       marked = c.in_ok-add_unmarked.ensures.marked;
@@ -40,10 +40,10 @@ loop-next-preserved c =
     let low : c.loop-next.next < length c.loop-next.found.items = omega (arith, e, f) in
     let row = of_index (get_or c.loop-next.found.items c.loop-next.next 0) c.args.parents.now in
     let is : c.add_unmarked-in-loop-next.new.found.items ≡ added c.loop-next.found.items row =
-        c.in_ok-add_unmarked-2.ensures.found ∙ ap (added c.loop-next.found.items) c.at-in-loop-next.ensures
-        ∙ ap (λ k. added c.loop-next.found.items (of_index k c.args.parents.now)) (get_or_read c.loop-next.found.items c.loop-next.next c.index.result.now low c.index.ensures 0) in
+    c.in_ok-add_unmarked-2.ensures.found ∙ ap (added c.loop-next.found.items) c.at-in-loop-next.ensures
+    ∙ ap (λ k. added c.loop-next.found.items (of_index k c.args.parents.now)) (get_or_read c.loop-next.found.items c.loop-next.next c.index.result.now low c.index.ensures 0) in
     let inside : get_or c.loop-next.found.items c.loop-next.next 0 < length c.args.parents.now =
-        (let h = c.loop-next.invariant.marked.below c.loop-next.next 0 low in let g = c.loop-next.invariant.long in omega (arith, h, g)) in
+    (let h = c.loop-next.invariant.marked.below c.loop-next.next 0 low in let g = c.loop-next.invariant.long in omega (arith, h, g)) in
     record {
       long = c.in_ok-add_unmarked-2.ensures.length ∙ c.loop-next.invariant.long;
       marked = c.in_ok-add_unmarked-2.ensures.marked;
@@ -60,5 +60,5 @@ returns-clause-above c = λ s are.
     let f = c.len.ensures in
     subst (AreAbove s c.args.checkable) (sym c.from.ensures)
     (all_above c.args.parents.now s c.args.checkable c.loop-next.found.items c.loop-next.next are c.requires.checkable
-      (subst (λ n. All (λ p. p < n) c.loop-next.found.items) c.loop-next.invariant.long c.loop-next.invariant.marked.below)
-      c.loop-next.invariant.marked.once (omega (arith, e, f)) c.loop-next.invariant.begun c.loop-next.invariant.closed (c.loop-next.invariant.above s are))
+    (subst (λ n. All (λ p. p < n) c.loop-next.found.items) c.loop-next.invariant.long c.loop-next.invariant.marked.below)
+    c.loop-next.invariant.marked.once (omega (arith, e, f)) c.loop-next.invariant.begun c.loop-next.invariant.closed (c.loop-next.invariant.above s are))

@@ -12,12 +12,12 @@ loop-place-preserved c =
     let h = c.requires.leaders c.loop-place.place 0 l in
     elim c.if-leader-place.branch [
       | then-leader-place+in_ok-push w ↦ record {
-          long = ap length (w.rows-is ∙ w.in_ok-push.ensures.ok) ∙ length-set c.loop-place.rows _ _ ∙ c.loop-place.invariant.long;
-          rows = λ k. following_step c.loop-place.rows c.if-leader-place.rows k c.args.leaders.now c.loop-place.place _ l (omega (arith, h, e)) w.if-leader-place.true (w.rows-is ∙ w.in_ok-push.ensures.ok) (c.loop-place.invariant.rows k);
-        }
+        long = ap length (w.rows-is ∙ w.in_ok-push.ensures.ok) ∙ length-set c.loop-place.rows _ _ ∙ c.loop-place.invariant.long;
+        rows = λ k. following_step c.loop-place.rows c.if-leader-place.rows k c.args.leaders.now c.loop-place.place _ l (omega (arith, h, e)) w.if-leader-place.true (w.rows-is ∙ w.in_ok-push.ensures.ok) (c.loop-place.invariant.rows k);
+      }
       | else-leader-place w ↦ record {
-          long = ap length w.rows-is ∙ c.loop-place.invariant.long;
-          rows = λ k. following_skip c.if-leader-place.rows k c.args.leaders.now c.loop-place.place _ l w.if-leader-place.false
-              (ap (λ rs. of_index k rs ++ following c.loop-place.place k (drop c.loop-place.place c.args.leaders.now)) w.rows-is ∙ c.loop-place.invariant.rows k);
-        }
+        long = ap length w.rows-is ∙ c.loop-place.invariant.long;
+        rows = λ k. following_skip c.if-leader-place.rows k c.args.leaders.now c.loop-place.place _ l w.if-leader-place.false
+            (ap (λ rs. of_index k rs ++ following c.loop-place.place k (drop c.loop-place.place c.args.leaders.now)) w.rows-is ∙ c.loop-place.invariant.rows k);
+      }
     ]

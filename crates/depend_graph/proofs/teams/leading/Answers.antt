@@ -15,13 +15,13 @@ loop-place-preserved c =
     let inside : c.index-depends-place.result.child < length c.loop-place.rows = subst (λ (d : DependSpec). d.child < length c.loop-place.rows) (sym c.index-depends-place.is) (omega (arith, h, e)) in
     elim c.if-leaders-place.branch [
       | then-leaders-place+in_ok-push w ↦ record {
-          long = ap length (w.rows-is ∙ w.in_ok-push.ensures.ok) ∙ length-set c.loop-place.rows _ _ ∙ c.loop-place.invariant.long;
-          rows = λ k. leading_step c.loop-place.rows c.if-leaders-place.rows k c.args.depends.now c.args.leaders.now c.loop-place.place c.index-depends-place.result _ l (omega (arith, l, m)) c.index-depends-place.is inside
-              w.if-leaders-place.true (w.rows-is ∙ w.in_ok-push.ensures.ok) (c.loop-place.invariant.rows k);
-        }
+        long = ap length (w.rows-is ∙ w.in_ok-push.ensures.ok) ∙ length-set c.loop-place.rows _ _ ∙ c.loop-place.invariant.long;
+        rows = λ k. leading_step c.loop-place.rows c.if-leaders-place.rows k c.args.depends.now c.args.leaders.now c.loop-place.place c.index-depends-place.result _ l (omega (arith, l, m)) c.index-depends-place.is inside
+            w.if-leaders-place.true (w.rows-is ∙ w.in_ok-push.ensures.ok) (c.loop-place.invariant.rows k);
+      }
       | else-leaders-place w ↦ record {
-          long = ap length w.rows-is ∙ c.loop-place.invariant.long;
-          rows = λ k. leading_skip c.if-leaders-place.rows k c.args.depends.now c.args.leaders.now c.loop-place.place _ l (omega (arith, l, m)) w.if-leaders-place.false
-              (ap (λ rs. of_index k rs ++ leading c.loop-place.place k (drop c.loop-place.place c.args.depends.now) (drop c.loop-place.place c.args.leaders.now)) w.rows-is ∙ c.loop-place.invariant.rows k);
-        }
+        long = ap length w.rows-is ∙ c.loop-place.invariant.long;
+        rows = λ k. leading_skip c.if-leaders-place.rows k c.args.depends.now c.args.leaders.now c.loop-place.place _ l (omega (arith, l, m)) w.if-leaders-place.false
+            (ap (λ rs. of_index k rs ++ leading c.loop-place.place k (drop c.loop-place.place c.args.depends.now) (drop c.loop-place.place c.args.leaders.now)) w.rows-is ∙ c.loop-place.invariant.rows k);
+      }
     ]

@@ -125,7 +125,7 @@ gather-requires-3-clause-order c =
     let back : (k : ℕ) → of_index k c.in_ok-ancestors.ancestors ≡ gathered c.in_ok-below.below k (from_on 0 (length s.checkables)) = λ k. c.in_ok-ancestors.ensures.rows k ∙ ap (gathered c.in_ok-below.below k) numbers_2 in
     let ancs_many : length c.in_ok-ancestors.ancestors ≡ length s.checkables = c.in_ok-ancestors.ensures.length ∙ count in
     let first : c.as_slice-4.result.now ≡ by_length c.in_ok-ancestors.ancestors (length s.checkables) (from_on 0 (length s.checkables)) =
-        c.as_slice-4.ensures ∙ c.in_ok-first.ensures ∙ ap (λ n. by_length c.in_ok-ancestors.ancestors n c.as_slice-3.result.now) ancs_many ∙ ap (by_length c.in_ok-ancestors.ancestors (length s.checkables)) numbers_3 in
+    c.as_slice-4.ensures ∙ c.in_ok-first.ensures ∙ ap (λ n. by_length c.in_ok-ancestors.ancestors n c.as_slice-3.result.now) ancs_many ∙ ap (by_length c.in_ok-ancestors.ancestors (length s.checkables)) numbers_3 in
     subst (All (λ k. k < length c.in_ok-below.below)) (sym first) (subst (λ n. All (λ k. k < n) (by_length c.in_ok-ancestors.ancestors (length s.checkables) (from_on 0 (length s.checkables)))) (sym below_many) (first_below c.in_ok-ancestors.ancestors (length s.checkables)))
 
 pub gather-requires-3-clause-below : goal.gather-requires-3-clause-below
@@ -154,7 +154,7 @@ returns-clause-graph c =
     let ancs_many : length c.in_ok-ancestors.ancestors ≡ length s.checkables = c.in_ok-ancestors.ensures.length ∙ count in
     let free : All (λ (d : DependSpec). ¬ IsOnCycle s d) s.depends = none_named s c.requires c.in_ok-found.found c.in_ok-below.below c.in_ok-ancestors.ancestors many above turned back c.in_ok-depends.depends c.in_ok-depends.ensures (eqb-true (length c.in_ok-depends.depends) 0 (sym c.is_empty.ensures ∙ c.if-not-is_empty.false)) in
     let first : c.as_slice-4.result.now ≡ by_length c.in_ok-ancestors.ancestors (length s.checkables) (from_on 0 (length s.checkables)) =
-        c.as_slice-4.ensures ∙ c.in_ok-first.ensures ∙ ap (λ n. by_length c.in_ok-ancestors.ancestors n c.as_slice-3.result.now) ancs_many ∙ ap (by_length c.in_ok-ancestors.ancestors (length s.checkables)) numbers_3 in
+    c.as_slice-4.ensures ∙ c.in_ok-first.ensures ∙ ap (λ n. by_length c.in_ok-ancestors.ancestors n c.as_slice-3.result.now) ancs_many ∙ ap (by_length c.in_ok-ancestors.ancestors (length s.checkables)) numbers_3 in
     record {
       count = ap length c.in_ok-with_teams.ensures.ancestors ∙ ancs_many;
       ancestors = λ k l. ap (of_index k) c.in_ok-with_teams.ensures.ancestors ∙ ancs_are s c.requires c.in_ok-found.found c.in_ok-below.below c.in_ok-ancestors.ancestors many above turned back free k l;

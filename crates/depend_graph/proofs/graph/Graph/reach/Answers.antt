@@ -27,7 +27,7 @@ reach_at-requires-clause-checkable c =
     let l : c.loop-ancestor.ancestor-index < length order = subst (λ xs. c.loop-ancestor.ancestor-index < length xs) c.at-ancestor-items.ensures c.loop-ancestor-test.true in
     subst (λ xs. get_or xs c.loop-ancestor.ancestor-index 0 < length (site_view c.args.site.now).checkables) (sym c.at-ancestor-items.ensures)
     (ancestor_in (site_view c.args.site.now) c.args.checkable (get_or order c.loop-ancestor.ancestor-index 0)
-      (order_has o c.requires.graph.has_order c.args.checkable c.requires.checkable order (c.requires.graph.order c.args.checkable c.requires.checkable) c.loop-ancestor.ancestor-index l))
+    (order_has o c.requires.graph.has_order c.args.checkable c.requires.checkable order (c.requires.graph.order c.args.checkable c.requires.checkable) c.loop-ancestor.ancestor-index l))
 
 pub place_in-requires : goal.place_in-requires
 place_in-requires c =
@@ -49,11 +49,11 @@ loop-ancestor-preserved c =
     let at : get_or c.at-ancestor-items.result.now i 0 ≡ get_or order i 0 = ap (λ xs. get_or xs i 0) c.at-ancestor-items.ensures in
     let known = c.loop-ancestor.invariant.flags in
     let held : c.is_held-is_held.result ≡ is_held (reach_of o (get_or order i 0)) =
-        c.is_held-is_held.ensures ∙ ap is_held (c.reach_at.ensures
-        ∙ ap (λ xs. step_of o (flagged xs c.as_slice.result.now) (get_or c.at-ancestor-items.result.now i 0)) a
-        ∙ ap (λ fs. step_of o (flagged above fs) (get_or c.at-ancestor-items.result.now i 0)) c.as_slice.ensures.value
-        ∙ ap (step_of o (flagged above flags)) at
-        ∙ reach_next o c.requires.graph.has_order c.args.checkable c.requires.checkable order first above flags i l known) in
+    c.is_held-is_held.ensures ∙ ap is_held (c.reach_at.ensures
+    ∙ ap (λ xs. step_of o (flagged xs c.as_slice.result.now) (get_or c.at-ancestor-items.result.now i 0)) a
+    ∙ ap (λ fs. step_of o (flagged above fs) (get_or c.at-ancestor-items.result.now i 0)) c.as_slice.ensures.value
+    ∙ ap (step_of o (flagged above flags)) at
+    ∙ reach_next o c.requires.graph.has_order c.args.checkable c.requires.checkable order first above flags i l known) in
     let rises : AllPairs (λ p q. p < q) above = subst (AllPairs (λ p q. p < q)) (sym mine) (ancestors_rise (site_view c.args.site.now) c.args.checkable) in
     elim c.match-place_in.branch [
       | in-Some w ↦
@@ -62,8 +62,8 @@ loop-ancestor-preserved c =
             long = ap length put ∙ length-set flags w.in-Some.place c.is_held-is_held.result ∙ c.loop-ancestor.invariant.long;
             flags = λ k h. ap (λ fs. flagged above fs (get_or order k 0)) put
                 ∙ known_more o c.requires.graph.has_order c.args.checkable c.requires.checkable order first above flags i w.in-Some.place c.is_held-is_held.result rises
-                  (subst (λ xs. w.in-Some.place < length xs) a w.in-Some.ensures.place) c.loop-ancestor.invariant.long
-                  (ap (λ xs. get_or xs w.in-Some.place 0) (sym a) ∙ w.in-Some.ensures.number ∙ at) held known k (omega (arith, h));
+                (subst (λ xs. w.in-Some.place < length xs) a w.in-Some.ensures.place) c.loop-ancestor.invariant.long
+                (ap (λ xs. get_or xs w.in-Some.place 0) (sym a) ∙ w.in-Some.ensures.number ∙ at) held known k (omega (arith, h));
           }
       | in_default w ↦
           let there : has (get_or order i 0) (ancestors (site_view c.args.site.now) c.args.checkable) ≡ true = order_has o c.requires.graph.has_order c.args.checkable c.requires.checkable order first i l in

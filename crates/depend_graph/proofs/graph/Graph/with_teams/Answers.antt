@@ -24,7 +24,7 @@ pub returns-clause-teams : goal.returns-clause-teams
 returns-clause-teams c =
     teams_are (site_view c.args.site.now) c.in_ok-leading.field-0 c.in_ok-following.field-0
     (λ k. c.in_ok-leading.ensures.rows k ∙ ap (λ ls. leading 0 k c.as_slice-depends.result.now ls) (c.as_slice.ensures ∙ c.in_ok-firsts.ensures)
-      ∙ ap (λ (ds : List DependSpec). leading 0 k ds (all_leaders ds)) c.as_slice-depends.ensures)
+    ∙ ap (λ (ds : List DependSpec). leading 0 k ds (all_leaders ds)) c.as_slice-depends.ensures)
     (λ k. c.in_ok-following.ensures.rows k ∙ ap (following 0 k) (c.as_slice-2.ensures ∙ c.in_ok-firsts.ensures ∙ ap all_leaders c.as_slice-depends.ensures))
     (c.in_ok-leading.ensures.length ∙ c.len.ensures ∙ sym (length-map c.args.site.now.checkables check_view))
     (c.in_ok-following.ensures.length ∙ ap length (c.as_slice-2.ensures ∙ c.in_ok-firsts.ensures ∙ ap all_leaders c.as_slice-depends.ensures) ∙ length_leaders [] c.args.site.now.depends)

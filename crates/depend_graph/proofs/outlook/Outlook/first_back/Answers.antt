@@ -7,4 +7,4 @@ pub leads_back-requires-clause-depend : goal.leads_back-requires-clause-depend
 leads_back-requires-clause-depend c =
     subst (λ xs. get_or xs c.loop-depend.depend-index 0 < length c.args.self.now.site.now.depends) (sym c.at-depend-items.ensures)
     (leader_in_range (site_view c.args.self.now.site.now) c.args.self.now.leaders.now c.args.self.now.followers.now c.requires.fit.teams c.args.checkable c.loop-depend.depend-index
-      (subst (λ xs. c.loop-depend.depend-index < length xs) c.at-depend-items.ensures c.loop-depend-test.true))
+    (subst (λ xs. c.loop-depend.depend-index < length xs) c.at-depend-items.ensures c.loop-depend-test.true))

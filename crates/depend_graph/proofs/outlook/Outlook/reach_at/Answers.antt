@@ -19,7 +19,7 @@ returns-in-Notes-Some c =
     step_none (meant_by c.args.self.now) (flagged c.args.self.now.above.now c.args.blocked.now) c.args.checkable c.args.self.now.leaders.now c.args.self.now.followers.now c.requires.fit.teams
     (held_by_host c.in-Notes-Some.host) c.in_default.ensures
     (asked_host c.args.self.now.site.now.checkables c.args.checkable c.index-as_slice-checkable.result (omega (arith, h, g)) (c.index-as_slice-checkable.is ∙ ap (λ (xs : List CheckSpec). get_or xs c.args.checkable c.index-as_slice-checkable.result) c.as_slice.ensures)
-      (meant_by c.args.self.now) (flagged c.args.self.now.above.now c.args.blocked.now) c.in-Notes-Some.host true (ap purpose_as c.in-Notes-Some.is-0) c.in-Notes-Some.is-1 c.if-is_held_by.ensures)
+    (meant_by c.args.self.now) (flagged c.args.self.now.above.now c.args.blocked.now) c.in-Notes-Some.host true (ap purpose_as c.in-Notes-Some.is-0) c.in-Notes-Some.is-1 c.if-is_held_by.ensures)
 
 pub returns-in_default-2 : goal.returns-in_default-2
 returns-in_default-2 c =
@@ -28,7 +28,7 @@ returns-in_default-2 c =
     step_none (meant_by c.args.self.now) (flagged c.args.self.now.above.now c.args.blocked.now) c.args.checkable c.args.self.now.leaders.now c.args.self.now.followers.now c.requires.fit.teams
     reachable c.in_default.ensures
     (asked_host c.args.self.now.site.now.checkables c.args.checkable c.index-as_slice-checkable.result (omega (arith, h, g)) (c.index-as_slice-checkable.is ∙ ap (λ (xs : List CheckSpec). get_or xs c.args.checkable c.index-as_slice-checkable.result) c.as_slice.ensures)
-      (meant_by c.args.self.now) (flagged c.args.self.now.above.now c.args.blocked.now) c.in-Notes-Some.host false (ap purpose_as c.in-Notes-Some.is-0) c.in-Notes-Some.is-1 c.if-is_held_by.ensures)
+    (meant_by c.args.self.now) (flagged c.args.self.now.above.now c.args.blocked.now) c.in-Notes-Some.host false (ap purpose_as c.in-Notes-Some.is-0) c.in-Notes-Some.is-1 c.if-is_held_by.ensures)
 
 pub returns-in_default-2-2 : goal.returns-in_default-2-2
 returns-in_default-2-2 c =
@@ -37,7 +37,7 @@ returns-in_default-2-2 c =
     step_none (meant_by c.args.self.now) (flagged c.args.self.now.above.now c.args.blocked.now) c.args.checkable c.args.self.now.leaders.now c.args.self.now.followers.now c.requires.fit.teams
     reachable c.in_default.ensures
     (no_host c.args.self.now.site.now.checkables c.args.checkable c.index-as_slice-checkable.result (omega (arith, h, g)) (c.index-as_slice-checkable.is ∙ ap (λ (xs : List CheckSpec). get_or xs c.args.checkable c.index-as_slice-checkable.result) c.as_slice.ensures)
-      (meant_by c.args.self.now) (flagged c.args.self.now.above.now c.args.blocked.now) c.in_default-2.is-1)
+    (meant_by c.args.self.now) (flagged c.args.self.now.above.now c.args.blocked.now) c.in_default-2.is-1)
 
 pub returns-in_default-2-3 : goal.returns-in_default-2-3
 returns-in_default-2-3 c =
@@ -46,4 +46,4 @@ returns-in_default-2-3 c =
     step_none (meant_by c.args.self.now) (flagged c.args.self.now.above.now c.args.blocked.now) c.args.checkable c.args.self.now.leaders.now c.args.self.now.followers.now c.requires.fit.teams
     reachable c.in_default.ensures
     (unasked_host c.args.self.now.site.now.checkables c.args.checkable c.index-as_slice-checkable.result (omega (arith, h, g)) (c.index-as_slice-checkable.is ∙ ap (λ (xs : List CheckSpec). get_or xs c.args.checkable c.index-as_slice-checkable.result) c.as_slice.ensures)
-      (meant_by c.args.self.now) (flagged c.args.self.now.above.now c.args.blocked.now) (ap purpose_as c.in_default-2.is-0))
+    (meant_by c.args.self.now) (flagged c.args.self.now.above.now c.args.blocked.now) (ap purpose_as c.in_default-2.is-0))
