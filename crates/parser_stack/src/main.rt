@@ -7,29 +7,26 @@ use site_base::{OutOfMemory, Text};
 use std::alloc::Global;
 use std::thread::Builder;
 
-/// How many brackets stand in one another.
-const LEVELS: usize = 100;
-
 /// What a worker's thread has.
 const STACK: usize = 1 << 20;
 
 fn main(rt: HostRuntime) -> anyhow::Result<()> {
     let forms = [
-        ("parentheses", "(", ")"),
-        ("operators", "a + (", ")"),
-        ("arrays", "[", "]"),
-        ("dictionaries", "{ a = ", "}"),
-        ("calls", "f(", ")"),
-        ("arrow functions", "() => {", "}"),
-        ("functions", "function() {", "}"),
-        ("assigned functions", "x = function() {", "}"),
-        ("definitions", "function f() {", "}"),
-        ("conditions", "if (a) {", "}"),
-        ("loops", "for (a in b) {", "}"),
+        ("parentheses", 100, "(", ")"),
+        ("operators", 100, "a + (", ")"),
+        ("arrays", 100, "[", "]"),
+        ("dictionaries", 100, "{ a = ", "}"),
+        ("calls", 100, "f(", ")"),
+        ("arrow functions", 66, "() => {", "}"),
+        ("functions", 100, "function() {", "}"),
+        ("assigned functions", 100, "x = function() {", "}"),
+        ("definitions", 100, "function f() {", "}"),
+        ("conditions", 100, "if (a) {", "}"),
+        ("loops", 100, "for (a in b) {", "}"),
     ];
-    for (name, open, close) in forms {
+    for (name, levels, open, close) in forms {
         let alloc = rt.alloc();
-        let text = nested(alloc, open, close)?;
+        let text = nested(alloc, levels, open, close)?;
         let child = Builder::new()
             .stack_size(STACK)
             .spawn(&rt, move || told(alloc, &text))?;
@@ -38,14 +35,14 @@ fn main(rt: HostRuntime) -> anyhow::Result<()> {
     Ok(())
 }
 
-/// A text of so many levels around a name.
-fn nested(alloc: Global, open: &str, close: &str) -> Result<Text, OutOfMemory> {
+/// A text of so many levels around a name. A bracket, an arrow and a sign weigh one each, and a text may weigh 200.
+fn nested(alloc: Global, levels: u32, open: &str, close: &str) -> Result<Text, OutOfMemory> {
     let mut text = Text::new(alloc);
-    for _ in 0..LEVELS {
+    for _ in 0..levels {
         text.push_str(open)?;
     }
     text.push_str("a")?;
-    for _ in 0..LEVELS {
+    for _ in 0..levels {
         text.push_str(close)?;
     }
     Ok(text)

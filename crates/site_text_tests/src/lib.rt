@@ -1,11 +1,5 @@
-//! Tests of site_text: the lines of entries, event by event and outcome by outcome.
+//! Tests of site_text that no table can hold: how much stack a listing takes.
 #![tactic(auto)]
 
 #[cfg(test)]
-mod entries;
-#[cfg(test)]
-mod events;
-#[cfg(test)]
-mod printable;
-#[cfg(test)]
-mod site;
+mod deep;

@@ -17,7 +17,8 @@ use Rattle.time_range.specs.declared.range_fault.RangeFault.{RangeFault}
 use Rattle.time_range.specs.declared.range_fault.RangeFault.TheVariants.{BadRange, OutOfMemory}
 use Rattle.time_range.specs.Days.{Names, day_of}
 use Rattle.time_range.specs.Spans.{IsPushed}
-use Rattle.time_range.specs.Ranges.{IsBefore, Leads, AreRising, CanRead, HasRisingKeys, IsRange, AreRanges, IsBad, Has, IsFirstBad, Holds, Refuses, value_spans, range_of, with_front, with_range, ranges_of, ranges_in, Gives}
+use Rattle.site_base.specs.Lawful.{IsBefore, Leads, AreRising}
+use Rattle.time_range.specs.Ranges.{CanRead, HasRisingKeys, IsRange, AreRanges, IsBad, Has, IsFirstBad, Holds, Refuses, value_spans, range_of, with_front, with_range, ranges_of, ranges_in, Gives}
 use Rattle.time_range.proofs.DayLemmas.{day_found, day_again}
 use Rattle.time_range.proofs.SpanLemmas.{spans_found, spans_again}
 

@@ -1,29 +1,13 @@
 -- Time ranges: what keys and their values stand for.
 use Rattle.std.specs.Prelude.{◌≡◌, ℕ, ◌⊎◌, Option, Some, None, Result, Ok, Err, List, [], ◌++◌, option_and_then}
-use Rattle.std.specs.Cmp.Lexicographic.{slice_cmp}
-use Rattle.std.specs.Ordering.{nat_cmp}
-use Rattle.std.specs.declared.cmp.Ordering.TheVariants.{Less}
 use Rattle.site_base.specs.Data.{Data, null, boolean, number, string, list, dict, Pairs, no_pairs, pair}
+use Rattle.site_base.specs.Lawful.{IsBefore, AreRising}
 use Rattle.site_base.specs.declared.day.Day.{Day}
 use Rattle.site_base.specs.declared.day_span.DaySpan.{DaySpan}
 use Rattle.time_range.specs.declared.range_fault.RangeFault.{RangeFault}
 use Rattle.time_range.specs.declared.range_fault.RangeFault.TheVariants.{BadRange, OutOfMemory}
 use Rattle.time_range.specs.Days.{Names, day_of}
 use Rattle.time_range.specs.Spans.{AreSpans, spans_of}
-
--- one key is before another in byte order
-abbrev pub IsBefore : List ℕ → List ℕ → Type 0
-IsBefore key other = slice_cmp nat_cmp key other ≡ Less
-
--- a key is before each of these
-abbrev pub Leads : List ℕ → Pairs → Type 0
-Leads key no_pairs = Unit {0}
-Leads key (pair other value more) = IsBefore key other × Leads key more
-
--- the keys differ, and stand in byte order
-abbrev pub AreRising : Pairs → Type 0
-AreRising no_pairs = Unit {0}
-AreRising (pair key value more) = Leads key more × AreRising more
 
 -- a value from which ranges are read: null, or a dictionary
 abbrev pub CanRead : Data → Type 0

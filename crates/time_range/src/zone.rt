@@ -49,8 +49,8 @@ impl Zone {
     ///
     /// # Errors
     ///
-    /// `BadZone` where the reader of `jiff` refuses the bytes: they have another form, or their rule
-    /// contradicts their table. `OutOfMemory` where there is none for the table.
+    /// `BadZone` where the reader of `jiff` refuses the bytes: they have another form, or their
+    /// rule contradicts their table. `OutOfMemory` where there is none for the table.
     pub fn of_file(alloc: Global, bytes: &[u8]) -> Result<Zone, ZoneFault>
         ensures file { IfOk result (λ zone. MatchOption zone ⊥ (IsTableOf bytes.now)) }
         ensures bad { IsErrOf result ZoneFault.BadZone → IsBadFile bytes.now }
