@@ -11,11 +11,11 @@ use Rattle.site_model.specs.declared.check_spec.CheckSpec.{CheckSpec}
 front_all : (xs : List CheckSpec) (n : ℕ) → ((k : ℕ) (c : CheckSpec) → k < n → slice_get xs k ≡ Some c → c.host ≡ None) → All (λ (c : CheckSpec). c.host ≡ None) (take n xs)
 front_all xs zero h = λ k d l. absurd (omega (arith, l))
 front_all [] (suc n) h = λ k d l. absurd (omega (arith, l))
-front_all (x ∷ xs) (suc n) h = by
+front_all (x ∷ xs) (suc n) h = by (front_all xs n (λ j c m at. h (suc j) c (omega (arith, m)) at))
   where
-    by : (k : ℕ) (d : CheckSpec) → k < length (take (suc n) (x ∷ xs)) → (get_or (take (suc n) (x ∷ xs)) k d).host ≡ None
-    by zero d l = h 0 x (omega arith) refl
-    by (suc k) d l = front_all xs n (λ j c m at. h (suc j) c (omega (arith, m)) at) k d (omega (arith, l))
+    by : All (λ (c : CheckSpec). c.host ≡ None) (take n xs) → (k : ℕ) (d : CheckSpec) → k < length (take (suc n) (x ∷ xs)) → (get_or (take (suc n) (x ∷ xs)) k d).host ≡ None
+    by rest zero d l = h 0 x (omega arith) refl
+    by rest (suc k) d l = rest k d (omega (arith, l))
 
 pub in_order : (xs : List CheckSpec) (n : ℕ) → n ≤ length xs → ((k : ℕ) (c : CheckSpec) → k < n → slice_get xs k ≡ Some c → c.host ≡ None)
     → All (λ (c : CheckSpec). IsSomeAnd c.host (IsIndex n)) (drop n xs) → AreHostsThenServices (map check_view xs)

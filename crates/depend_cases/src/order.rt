@@ -1,7 +1,7 @@
 // Whether a site's checkables and dependencies stand as a graph wants them.
-ghost use Rattle.std.specs.Prelude.{◌≡◌, ◌<◌, ◌≤◌, ◌↔◌, ℕ, IsTrue, IsSomeAnd, All, length, slice_get};
-ghost use Rattle.site_model.specs.PlainSite.{site_view};
-ghost use Rattle.site_model.specs.Sound.{IsIndex};
+ghost use Rattle.std.specs.Prelude.{◌≡◌, ◌<◌, ◌≤◌, ◌↔◌, ◌^◌, ℕ, IsTrue, IsSomeAnd, All, drop, length, map, slice_get};
+ghost use Rattle.site_model.specs.PlainSite.{site_view, check_view};
+ghost use Rattle.site_model.specs.Sound.{AreHostsThenServices, IsIndex};
 ghost use Rattle.site_model.specs.declared.check_spec.CheckSpec.{CheckSpec};
 ghost use Rattle.depend_graph.specs.Parents.{HasParents};
 
@@ -11,13 +11,31 @@ use site_model::{CheckSpec, DependSpec, Site};
 pub(crate) fn has_parents(site: &Site) -> bool
     ensures { IsTrue result → HasParents (site_view site.now) }
 {
-    let checkables = site.checkables.as_slice();
-    let depends = site.depends.as_slice();
+    are_few(site) && are_in_order(site.checkables.as_slice()) && join_checkables(site)
+}
+
+/// Whether 32 bits name each.
+fn are_few(site: &Site) -> bool
+    ensures checkables { IsTrue result → length (site_view site.now).checkables < 2 ^ 32 }
+    ensures depends { IsTrue result → length (site_view site.now).depends < 2 ^ 32 }
+{
+    site.checkables.len() < 1_000_000 && site.depends.len() < 1_000_000
+}
+
+/// Whether hosts stand before services.
+fn are_in_order(checkables: &[CheckSpec]) -> bool
+    ensures { IsTrue result → AreHostsThenServices (map check_view checkables.now) }
+{
     let hosts = hosts_in_front(checkables);
-    checkables.len() < 1_000_000
-        && depends.len() < 1_000_000
-        && are_services(&checkables[hosts..], hosts)
-        && are_joined(depends, checkables.len())
+    are_services(checkables, hosts)
+}
+
+/// Whether every dependency joins two checkables.
+fn join_checkables(site: &Site) -> bool
+    ensures children { IsTrue result → All (λ d. d.child < length (site_view site.now).checkables) (site_view site.now).depends }
+    ensures parents { IsTrue result → All (λ d. d.parent < length (site_view site.now).checkables) (site_view site.now).depends }
+{
+    are_joined(site.depends.as_slice(), site.checkables.len())
 }
 
 /// How many hosts stand in front.
@@ -33,11 +51,14 @@ fn hosts_in_front(checkables: &[CheckSpec]) -> usize
     checkables.len()
 }
 
-/// Whether all are services of hosts below this number.
+/// Whether all behind so many hosts are services of these.
 fn are_services(checkables: &[CheckSpec], hosts: usize) -> bool
-    ensures { IsTrue result → All (λ c. IsSomeAnd c.host (IsIndex hosts)) checkables.now }
+    ensures { IsTrue result → All (λ c. IsSomeAnd c.host (IsIndex hosts)) (drop hosts checkables.now) }
 {
-    checkables.iter().all(|spec| is_below(spec.host, hosts))
+    checkables
+        .iter()
+        .skip(hosts)
+        .all(|spec| is_below(spec.host, hosts))
 }
 
 fn is_below(host: Option<u32>, hosts: usize) -> bool

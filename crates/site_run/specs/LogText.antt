@@ -5,14 +5,11 @@ use Rattle.std.specs.List.{concat, flat_map}
 use Rattle.site_edge.specs.declared.turn.Turn.{Turn}
 use Rattle.site_model.specs.PlainSite.{PlainSite}
 use Rattle.site_text.specs.Entries.{entry_line}
+use Rattle.log_text.specs.LogLines.{turn_line}
 use Rattle.run_meaning.specs.Turns.{Histories}
 use Rattle.run_meaning.specs.Dealing.{Refusal, refused_line, refused_report}
 use Rattle.run_meaning.specs.Runs.{TurnLog}
 use Rattle.site_run.specs.Replay.{replayed}
-
--- `turn NUMBER MOMENT`
-abbrev pub turn_line : ℕ → ℕ → List ℕ
-turn_line number moment = codes "turn " ++ (decimal number ++ 32 ∷ (decimal moment ++ 10 ∷ []))
 
 -- `refused line N FAULT` or `refused report ORDER`
 abbrev pub refusal_line : Refusal → List ℕ

@@ -4,7 +4,7 @@ ghost use Rattle.std.specs.List.{flat_map};
 ghost use Rattle.site_model.specs.PlainSite.{site_view};
 ghost use Rattle.run_meaning.specs.Turns.{Histories, of_index};
 ghost use Rattle.run_meaning.specs.Rounds.{behind};
-ghost use Rattle.site_run.specs.LogText.{refusal_line, turn_line as line_of_turn, turn_lines as lines_of_turn};
+ghost use Rattle.site_run.specs.LogText.{refusal_line, turn_lines as lines_of_turn};
 ghost use Rattle.site_run.specs.Replay.{turn_needs_more};
 ghost use Rattle.site_run.specs.Standings.{AllStand, refusal_of, turn_made};
 
@@ -12,6 +12,7 @@ use crate::dealing::deal;
 use crate::refusal::Refusal;
 use crate::round::take_events;
 use crate::standing::Standing;
+use log_text::print_turn;
 use site_base::{Moment, OutOfMemory, Text, Texts};
 use site_edge::Turn;
 use site_model::Site;
@@ -36,23 +37,11 @@ pub fn turn_lines(
 {
     let dealt = deal(alloc, site, turn, moment, standings)?;
     let mut lines = Vec::new(alloc);
-    lines.push(turn_line(alloc, number, moment)?)?;
+    lines.push(print_turn(alloc, number, moment)?)?;
     add_refusals(alloc, &dealt.refusals, &mut lines)?;
     let round = take_events(alloc, site, moment, dealt.events, standings)?;
     add_entries(round, &mut lines)?;
     Ok(lines)
-}
-
-/// The line that begins a turn.
-fn turn_line(alloc: Global, number: u64, moment: Moment) -> Result<Text, OutOfMemory>
-    ensures { IfOk result (λ t. t ≡ line_of_turn number moment) }
-{
-    let mut text = Text::copy_of(alloc, "turn ")?;
-    text.push_decimal(number)?;
-    text.push(' ')?;
-    text.push_decimal(moment.secs())?;
-    text.push('\n')?;
-    Ok(text)
 }
 
 /// Adds the lines of what is refused.

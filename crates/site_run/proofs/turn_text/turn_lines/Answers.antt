@@ -4,7 +4,8 @@ use Rattle.std.specs.List.{flat_map}
 use Rattle.site_model.specs.PlainSite.{site_view}
 use Rattle.run_meaning.specs.Alone.{alone}
 use Rattle.run_meaning.specs.Dealing as dealing
-use Rattle.site_run.specs.LogText.{refusal_line, round_lines, turn_line}
+use Rattle.log_text.specs.LogLines.{turn_line}
+use Rattle.site_run.specs.LogText.{refusal_line, round_lines}
 use Rattle.site_run.specs.Replay.{first_basis}
 use Rattle.site_run.specs.Standings.{AllStand, refusal_of}
 use Rattle.run_meaning.specs.Rounds.{behind}
@@ -17,8 +18,8 @@ returns-clause-lines c before all =
     let first = turn_line c.args.number c.args.moment in
     c.in_ok-add_entries.ensures
     ∙ ap (λ ls. ls ++ flat_map (λ lines. lines) c.in_ok-round.round.items)
-    (c.in_ok-add_refusals.ensures ∙ ap (λ ls. ls ++ map refusal_line (map refusal_of c.deref.result.now)) (c.in_ok-push.ensures.items ∙ ap (λ ls. ls ++ c.in_ok-turn_line.field-0 ∷ []) c.new-lines.ensures.items))
-    ∙ ap (λ t. join t (map refusal_of c.deref.result.now) c.in_ok-round.round.items) c.in_ok-turn_line.ensures
+    (c.in_ok-add_refusals.ensures ∙ ap (λ ls. ls ++ map refusal_line (map refusal_of c.deref.result.now)) (c.in_ok-push.ensures.items ∙ ap (λ ls. ls ++ c.in_ok-print_turn.field-0 ∷ []) c.new-lines.ensures.items))
+    ∙ ap (λ t. join t (map refusal_of c.deref.result.now) c.in_ok-round.round.items) c.in_ok-print_turn.ensures
     ∙ ap (λ rs. join first (map refusal_of rs) c.in_ok-round.round.items) c.deref.ensures.value
     ∙ ap (λ rs. join first rs c.in_ok-round.round.items) c.in_ok-dealt.ensures.refusals
     ∙ ap (join first _) ((c.in_ok-round.ensures.stands before all).noted ∙ ap (λ es. round_lines s 0 (alone (first_basis s) c.args.moment before es)) (c.in_ok-dealt.ensures.events before all))
