@@ -1,4 +1,4 @@
-//! Reads the deepest texts that are read, each on a thread with a stack of 1 MiB.
+//! Reads the deepest texts that are read, each on a thread with a stack of 800 KiB.
 #![tactic(auto)]
 
 use dsl_lexer::lex;
@@ -7,8 +7,8 @@ use site_base::{OutOfMemory, Text};
 use std::alloc::Global;
 use std::thread::Builder;
 
-/// What a worker's thread has.
-const STACK: usize = 1 << 20;
+/// The stack of each thread, which is less than a worker has.
+const STACK: usize = 800 << 10;
 
 fn main(rt: HostRuntime) -> anyhow::Result<()> {
     let forms = [
