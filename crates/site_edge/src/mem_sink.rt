@@ -1,5 +1,5 @@
 // A sink in memory.
-ghost use Rattle.std.specs.Prelude.{◌≡◌, ◌≢◌, ◌≤◌, [], IsErrOf, Some, Err, OnOk, OnErr};
+ghost use Rattle.std.specs.Prelude.{◌≡◌, ◌≢◌, ◌≤◌, [], IsErrOf, IsFalse, IsTrue, Some, Err, OnOk, OnErr};
 ghost use Rattle.site_edge.specs.Fakes.{fresh, sink_failures, FailsAsListed, IsCalm};
 ghost use Rattle.site_edge.specs.Lists.{Adds, AddsPart};
 ghost use Rattle.site_edge.specs.Told.{Rose};
@@ -10,7 +10,7 @@ use site_base::Row;
 use std::alloc::Global;
 
 /// A sink in memory, of which all is told. The n-th call fails exactly where n is listed, counted
-/// from 1; it then writes the first half of its bytes.
+/// from 1, `put` and `flush` together; a `put` that fails writes the first half of its bytes.
 #[derive(Debug, Drop)]
 pub struct MemSink {
     bytes: Vec<u8>,
@@ -59,8 +59,7 @@ impl Sink for MemSink {
         ensures calm { IsCalm (sink_failures self.old) → IsCalm (sink_failures self.new) }
         ensures unfailing { IsCalm (sink_failures self.old) → result ≢ Err SinkFault.Failed }
     {
-        if self.failures.next_fails() {
-            self.faults = self.faults.saturating_add(1);
+        if fails(&mut self.failures, &mut self.faults) {
             let _ = self.bytes.extend_from_slice(&bytes[..bytes.len() / 2]);
             return Err(SinkFault::Failed);
         }
@@ -69,4 +68,36 @@ impl Sink for MemSink {
             Err(_) => Err(SinkFault::OutOfMemory),
         }
     }
+
+    fn flush(&mut self) -> Result<(), SinkFault>
+        ensures kept { self.new.bytes ≡ self.old.bytes }
+        ensures failing { FailsAsListed (sink_failures self.old) (sink_failures self.new)
+            (IsErrOf result SinkFault.Failed) }
+        ensures cause { IsErrOf result SinkFault.Failed → Rose self.old.faults self.new.faults }
+        ensures counts { self.old.faults ≤ self.new.faults }
+        ensures quiet { result ≢ Err SinkFault.Failed → self.new.faults ≡ self.old.faults }
+        ensures calm { IsCalm (sink_failures self.old) → IsCalm (sink_failures self.new) }
+        ensures unfailing { IsCalm (sink_failures self.old) → result ≢ Err SinkFault.Failed }
+    {
+        if fails(&mut self.failures, &mut self.faults) {
+            return Err(SinkFault::Failed);
+        }
+        Ok(())
+    }
+}
+
+/// Counts a call, and a fault where it is to fail.
+fn fails(failures: &mut Failures, faults: &mut u64) -> bool
+    ensures failing { FailsAsListed failures.old failures.new (IsTrue result) }
+    ensures cause { IsTrue result → Rose faults.old faults.new }
+    ensures counts { faults.old ≤ faults.new }
+    ensures quiet { IsFalse result → faults.new ≡ faults.old }
+    ensures calm { IsCalm failures.old → IsCalm failures.new }
+    ensures spared { IsCalm failures.old → IsFalse result }
+{
+    let fails = failures.next_fails();
+    if fails {
+        *faults = faults.saturating_add(1);
+    }
+    fails
 }

@@ -16,12 +16,23 @@ pub trait Sink {
     /// No later call fails.
     ghost calm: { Self → Type 0 };
 
-    /// Writes all of the bytes, or after an error some prefix of them.
+    /// Writes all of the bytes, or after an error some prefix of them. They may be kept back until the next flush.
     ///
     /// `Failed` comes only where the count of faults rose in this call.
     fn put(&mut self, bytes: &[u8]) -> Result<(), SinkFault>
         ensures ok { OnOk result (Adds bytes.now (written self.old) (written self.new)) }
         ensures err { OnErr result (AddsPart bytes.now (written self.old) (written self.new)) }
+        ensures cause { IsErrOf result SinkFault.Failed → Rose (faults self.old) (faults self.new) }
+        ensures counts { faults self.old ≤ faults self.new }
+        ensures quiet { OnOk result (faults self.new ≡ faults self.old) }
+        ensures calm { calm self.old → calm self.new }
+        ensures unfailing { calm self.old → result ≢ Err SinkFault.Failed };
+
+    /// Hands on what is still kept back, so that a reader of the output sees all that was put.
+    ///
+    /// `Failed` comes only where the count of faults rose in this call.
+    fn flush(&mut self) -> Result<(), SinkFault>
+        ensures kept { written self.new ≡ written self.old }
         ensures cause { IsErrOf result SinkFault.Failed → Rose (faults self.old) (faults self.new) }
         ensures counts { faults self.old ≤ faults self.new }
         ensures quiet { OnOk result (faults self.new ≡ faults self.old) }

@@ -1,4 +1,4 @@
-// Why bytes were not written.
+// The faults of a sink.
 use thiserror::Error;
 
 /// Why bytes were not written.

@@ -29,15 +29,50 @@ impl io::Print for Kept<'_> {
     }
 }
 
+/// How many bytes were written.
+fn count(bytes: &RefCell<Vec<u8>>) -> usize {
+    match bytes.try_borrow() {
+        Ok(kept) => kept.len(),
+        Err(_) => usize::MAX,
+    }
+}
+
 #[test]
-fn each_piece_is_written_whole(rt: HostRuntime) -> Result<(), Fail> {
+fn pieces_are_written_whole_by_a_flush(rt: HostRuntime) -> Result<(), Fail> {
     let bytes = RefCell::new(Vec::new(rt.alloc()));
-    let mut out = OutSink::new(Kept { bytes: &bytes });
+    let mut out = OutSink::new(rt.alloc(), Kept { bytes: &bytes });
     for piece in [b"ab\n".as_slice(), b"", b"\xff\0", b"c"] {
         assert_eq!(rt; out.put(piece), Ok(()));
     }
+    assert_eq!(rt; count(&bytes), 0);
+    assert_eq!(rt; out.flush(), Ok(()));
+    assert_eq!(rt; out.flush(), Ok(()));
     drop(out);
     assert_eq!(rt; bytes.into_inner().as_slice(), b"ab\n\xff\0c".as_slice());
+    Ok(())
+}
+
+/// 40,000 bytes twice are more than are kept back, and 70,000 are more than that alone.
+#[test]
+fn many_bytes_are_written_in_their_order(rt: HostRuntime) -> Result<(), Fail> {
+    let bytes = RefCell::new(Vec::new(rt.alloc()));
+    let mut out = OutSink::new(rt.alloc(), Kept { bytes: &bytes });
+    let mut whole = Vec::new(rt.alloc());
+    for (byte, length, written) in [
+        (b'a', 40_000, 0),
+        (b'b', 40_000, 40_000),
+        (b'c', 70_000, 150_000),
+    ] {
+        let piece = vec![in rt.alloc(); byte; length]?;
+        assert_eq!(rt; out.put(piece.as_slice()), Ok(()));
+        assert_eq!(rt; count(&bytes), written);
+        whole.extend_from_slice(piece.as_slice())?;
+    }
+    assert_eq!(rt; out.put(b"d"), Ok(()));
+    assert_eq!(rt; out.flush(), Ok(()));
+    whole.push(b'd')?;
+    drop(out);
+    assert_eq!(rt; bytes.into_inner().as_slice(), whole.as_slice());
     Ok(())
 }
 
@@ -60,9 +95,15 @@ impl io::Print for Stuck {
 }
 
 #[test]
-fn a_refused_write_is_a_fault(rt: HostRuntime) {
-    let mut real = OutSink::new(&rt);
+fn a_refused_write_is_a_fault(rt: HostRuntime) -> Result<(), Fail> {
+    let mut real = OutSink::new(rt.alloc(), &rt);
     assert_eq!(rt; real.put(b""), Ok(()));
-    let mut stuck = OutSink::new(Stuck);
-    assert_eq!(rt; stuck.put(b"a"), Err(SinkFault::Failed));
+    assert_eq!(rt; real.flush(), Ok(()));
+    let mut stuck = OutSink::new(rt.alloc(), Stuck);
+    assert_eq!(rt; stuck.put(b"a"), Ok(()));
+    assert_eq!(rt; stuck.flush(), Err(SinkFault::Failed));
+    assert_eq!(rt; stuck.flush(), Ok(()));
+    let long = vec![in rt.alloc(); b'a'; 70_000]?;
+    assert_eq!(rt; stuck.put(long.as_slice()), Err(SinkFault::Failed));
+    Ok(())
 }
