@@ -19,8 +19,8 @@
 //!
 //! Downtimes that another downtime triggers, and recurring ones, are none of this crate's.
 //!
-//! In reading order: what a downtime is, how a list of them is kept, a sorted run, several runs, and
-//! the book.
+//! In reading order: what a downtime is, how a list of them is kept, a sorted run, several runs,
+//! and the book.
 #![tactic(auto)]
 
 mod book;

@@ -45,8 +45,8 @@ fn join_older(runs: &mut Vec<SortedRun>)
     drop_empty(runs);
 }
 
-/// Joins the run at this place with the one before it, and leaves it empty. Where there is no memory
-/// for that, both stay.
+/// Joins the run at this place with the one before it, and leaves it empty. Where there is no
+/// memory for that, both stay.
 fn join(runs: &mut Vec<SortedRun>, newer: usize)
     requires some { 0 < newer }
     requires place { newer < length runs.old.items }

@@ -103,8 +103,8 @@ impl SortedRun {
         mem::replace(self, SortedRun::new(alloc))
     }
 
-    /// Takes those of another run in, and gives back what is left of it: nothing, or all where there
-    /// is no memory for them.
+    /// Takes those of another run in, and gives back what is left of it: nothing, or all where
+    /// there is no memory for them.
     pub fn join(&mut self, mut other: SortedRun) -> SortedRun
         ensures { IsPermutation (self.old ++ other) (self.new ++ result) }
     {
@@ -126,7 +126,8 @@ impl SortedRun {
 
     /// Whether one of this number is live at this moment.
     pub fn is_live(&self, number: u64, moment: Moment) -> bool
-        ensures { result ≡ list_any (λ d. d.number == number) (filter (is_live moment) self.now) }
+        ensures { result ≡
+            list_any (λ d. d.number == number) (filter (is_live moment) self.now) }
     {
         self.live_at(moment)
             .any(|downtime| downtime.number == number)

@@ -92,7 +92,8 @@ impl Zone {
     }
 
     fn time_zone(&self) -> TimeZone<'_>
-        ensures offset { (nanos : ℤ) → offset_at (plain_zone result) nanos ≡ ahead self.now nanos }
+        ensures offset { (nanos : ℤ) →
+            offset_at (plain_zone result) nanos ≡ ahead self.now nanos }
         ensures offsets { (civil : Civil) →
             ambiguous_at (plain_zone result) civil ≡ offsets self.now civil }
     {
@@ -138,7 +139,8 @@ fn clock(second: u32) -> Time
 /// The moment so many seconds after 1970.
 fn moment_of(second: i64) -> Option<Moment>
     ensures value { IfSome result (λ moment. pos moment ≡ second) }
-    ensures none { IfNone result ((moment : ℕ) → moment ≤ Moment.LAST → pos moment ≡ second → ⊥) }
+    ensures none { IfNone result
+        ((moment : ℕ) → moment ≤ Moment.LAST → pos moment ≡ second → ⊥) }
 {
     Moment::of(u64::try_from(second).ok()?)
 }
