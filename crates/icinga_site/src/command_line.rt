@@ -55,7 +55,7 @@ fn run_words(rt: &HostRuntime, words: &[Text]) -> Status {
             let alloc = rt.alloc();
             let mut files = DiskFiles::new(rt);
             let mut world = MemWorld::new(alloc, Row::new(alloc), Row::new(alloc));
-            let mut out = OutSink::new(rt);
+            let mut out = OutSink::new(alloc, rt);
             run_one(alloc, words, &mut files, &mut world, &mut out).unwrap()
         }
     }

@@ -43,3 +43,8 @@ line_part xs i x line old mid new h is same before now =
 pub adds_none : (more : List ℕ) (old : Option (List ℕ)) → AddsPart more old old
 adds_none more None = refl
 adds_none more (Some all) = ([], more, refl, ap Some (sym (append-nil all)))
+
+-- all was added, and then nothing
+pub adds_all : (more : List ℕ) (old mid new : Option (List ℕ)) → Adds more old mid → new ≡ mid → AddsPart more old new
+adds_all more None mid new p q = q ∙ p
+adds_all more (Some all) mid new p q = (more, [], sym (append-nil more), q ∙ p)

@@ -1,7 +1,7 @@
 -- One line more was written, or a part of one.
 use Rattle.std.proofs.Common.{arith, rules}
 use Rattle.site_run.proofs.Writing.{line_written, line_part}
-use Rattle.site_run.proofs.output.write_lines.Goals as goal
+use Rattle.site_run.proofs.output.put_lines.Goals as goal
 
 pub loop-line-preserved : goal.loop-line-preserved
 loop-line-preserved g c =

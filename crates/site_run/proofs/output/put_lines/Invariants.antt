@@ -2,7 +2,7 @@
 use Rattle.std.proofs.Common.{◌≤◌, take}
 use Rattle.std.specs.List.{concat}
 use Rattle.site_edge.specs.Lists.{Adds}
-use Rattle.site_run.proofs.output.write_lines.Given as goal
+use Rattle.site_run.proofs.output.put_lines.Given as goal
 
 abbrev pub invariant-loop-line : goal.invariant-loop-line
 invariant-loop-line g l =
