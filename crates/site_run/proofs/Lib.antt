@@ -1,3 +1,4 @@
+pub mod CommandLaws
 pub mod DealingLaws
 pub mod ReadLaws
 pub mod ReadingForms

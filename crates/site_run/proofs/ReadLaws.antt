@@ -6,8 +6,7 @@ use Rattle.std.proofs.lemmas.List.Folds.{list_any_at}
 use Rattle.site_edge.specs.declared.turn.Turn.{Turn}
 use Rattle.site_model.specs.PlainSite.{PlainSite}
 use Rattle.site_model.specs.Sound.{HasNames}
-use Rattle.site_model.specs.declared.event.Event.{Event}
-use Rattle.event_text.specs.Lines.{Answer, told, faulty, Has, HasEvent}
+use Rattle.event_text.specs.Lines.{Answer, told, faulty, Has}
 use Rattle.event_text.specs.Reading.{line_read}
 use Rattle.event_text.proofs.LineLaws.{judged, has_read}
 use Rattle.run_meaning.specs.Turns as turns
@@ -50,7 +49,7 @@ line_is : (s : PlainSite) (line : List ℕ) (r : Line) → HasNames s → IsLine
 line_is s line (turns.asking a) names h = let e = has_read s line (told a.checkable a.event) names h.0 in (ap is_later e ∙ ap not h.1, sym (ap as_line e))
 line_is s line (turns.faulty name) names h = let e = has_read s line (faulty h.0) names h.1 in (ap is_later e, ap turns.faulty h.2 ∙ sym (ap as_line e))
 
-neither : (a b : Bool) → a ≡ false → b ≡ false → (a || b) ≡ false
+pub neither : (a b : Bool) → a ≡ false → b ≡ false → (a || b) ≡ false
 neither a b e f = ap (λ x. x || b) e ∙ f
 
 lines_are : (s : PlainSite) (lines : List (List ℕ)) (rs : List Line) → HasNames s → AreLinesRead s lines rs

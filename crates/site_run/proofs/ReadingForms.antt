@@ -1,10 +1,11 @@
--- A line tells no event but one that can be printed, on a checkable of the site.
+-- A line tells no event but one that a command can ask for and that can be printed, on a checkable of the site.
 use Rattle.std.proofs.Common.{◌≡◌, ◌≤◌, ◌<◌, ℕ, zero, suc, length, ◌==◌, Bool, true, false, cond, List, [], ◌∷◌, Option, Some, None, min, slice_get, slice_index, drop, ◌-◌, refl, subst, arith}
 use Rattle.std.specs.Bool.{OnTrue}
 use Rattle.std.specs.Str.{is_utf8}
 use Rattle.site_model.specs.Names.{place_of}
 use Rattle.site_model.specs.PlainSite.{PlainSite, PlainCheck}
 use Rattle.site_model.specs.declared.event.Event.{Event}
+use Rattle.run_meaning.specs.Turns.{is_command}
 use Rattle.site_text.specs.Entries.{IsInForm}
 use Rattle.event_text.specs.Checkables.{full_name, is_host, is_service_of, host_at, service_at, service_below, host_named, service_named}
 use Rattle.event_text.specs.Commands.{command_named}
@@ -13,14 +14,13 @@ use Rattle.event_text.specs.Fields.{field, fields_in, service_in, semicolon}
 use Rattle.event_text.specs.Kinds.{kind_of, limits_of, names_of, count_of, ends_in_text, event_of, has_span, is_open_to, is_one}
 use Rattle.event_text.specs.Lines.{Answer, told, faulty, bracket}
 use Rattle.event_text.specs.Numbers.{is_number, numbers_in}
-use Rattle.event_text.specs.Reading.{line_read, text_read, head_read, command_read, cut_read, command_alone, command_with, fields_read, place_read, numbers_read, judged_read, looked_up}
+use Rattle.event_text.specs.Reading.{line_read, text_read, head_read, command_read, cut_read, command_alone, command_with, fields_read, place_read, numbers_read, looked_up}
 use Rattle.event_text.specs.declared.command.Command.{Command}
 use Rattle.event_text.specs.declared.command.Command.TheVariants as command
-use Rattle.event_text.specs.declared.line_fault.LineFault.TheVariants as fault
 
--- what is told can be printed, and is told of a checkable of the site
+-- what is told can be printed, is told of a checkable of the site, and is what a command can ask for
 abbrev pub TellsInForm : PlainSite → Answer → Type 0
-TellsInForm s (told k e) = IsInForm e × (k < length s.checkables)
+TellsInForm s (told k e) = IsInForm e × (k < length s.checkables) × (is_command e ≡ true)
 TellsInForm s (faulty f) = Unit {0}
 
 either : (s : PlainSite) (b : Bool) (x y : Answer) → TellsInForm s x → TellsInForm s y → TellsInForm s (cond b x y)
@@ -59,6 +59,31 @@ event_in_form command.ServiceChecksOff ns last = tt
 event_in_form command.ServiceNotesOn ns last = tt
 event_in_form command.ServiceNotesOff ns last = tt
 
+-- a command can ask for it
+asked_by_command : (c : Command) (ns : List ℕ) (last : List ℕ) → is_command (event_of (kind_of c) ns last) ≡ true
+asked_by_command command.HostResult ns last = refl
+asked_by_command command.ServiceResult ns last = refl
+asked_by_command command.HostCheck ns last = refl
+asked_by_command command.ForcedHostCheck ns last = refl
+asked_by_command command.ServiceCheck ns last = refl
+asked_by_command command.ForcedServiceCheck ns last = refl
+asked_by_command command.AcknowledgeHost ns last = refl
+asked_by_command command.AcknowledgeService ns last = refl
+asked_by_command command.UnacknowledgeHost ns last = refl
+asked_by_command command.UnacknowledgeService ns last = refl
+asked_by_command command.HostDowntime ns last = refl
+asked_by_command command.ServiceDowntime ns last = refl
+asked_by_command command.EndHostDowntime ns last = refl
+asked_by_command command.EndServiceDowntime ns last = refl
+asked_by_command command.HostChecksOn ns last = refl
+asked_by_command command.HostChecksOff ns last = refl
+asked_by_command command.HostNotesOn ns last = refl
+asked_by_command command.HostNotesOff ns last = refl
+asked_by_command command.ServiceChecksOn ns last = refl
+asked_by_command command.ServiceChecksOff ns last = refl
+asked_by_command command.ServiceNotesOn ns last = refl
+asked_by_command command.ServiceNotesOff ns last = refl
+
 -- what is looked up is there
 host_there : (cs : List PlainCheck) (k : ℕ) → is_host (slice_get cs k) ≡ true → k < length cs
 host_there [] k h = absurd cc
@@ -94,7 +119,7 @@ found_within s host (Some service) k e = below_within s (full_name host service)
 of_numbers : (s : PlainSite) (c : Command) (place : ℕ) (last : List ℕ) (ns : Option (List ℕ)) → place < length s.checkables → TellsInForm s (numbers_read s (kind_of c) place last ns)
 of_numbers s c place last None h = tt
 of_numbers s c place last (Some ns) h =
-    either s (has_span (kind_of c) ns) _ _ (either s (is_open_to (kind_of c) (slice_get s.checkables place)) _ _ (event_in_form c ns last, h) tt) tt
+    either s (has_span (kind_of c) ns) _ _ (either s (is_open_to (kind_of c) (slice_get s.checkables place)) _ _ (event_in_form c ns last, h, asked_by_command c ns last) tt) tt
 
 of_place : (s : PlainSite) (c : Command) (fs : List (List ℕ)) (r : Option ℕ) → ((k : ℕ) → r ≡ Some k → k < length s.checkables) → TellsInForm s (place_read s c fs r)
 of_place s c fs None h = tt
@@ -133,7 +158,7 @@ of_line : (s : PlainSite) (line : List ℕ) → TellsInForm s (line_read s line)
 unfolding line_read
 of_line s line = either s (is_utf8 line) _ _ (of_text s line) tt
 
-told_in_form : (s : PlainSite) (line : List ℕ) (k : ℕ) (e : Event) → line_read s line ≡ told k e → IsInForm e × (k < length s.checkables)
+told_in_form : (s : PlainSite) (line : List ℕ) (k : ℕ) (e : Event) → line_read s line ≡ told k e → IsInForm e × (k < length s.checkables) × (is_command e ≡ true)
 told_in_form s line k e h = subst (TellsInForm s) h (of_line s line)
 
 -- a line's event can be printed
@@ -143,3 +168,7 @@ line_in_form s line k e h = (told_in_form s line k e h).0
 -- and its checkable is the site's
 pub line_on_site : (s : PlainSite) (line : List ℕ) (k : ℕ) (e : Event) → line_read s line ≡ told k e → k < length s.checkables
 line_on_site s line k e h = (told_in_form s line k e h).1
+
+-- and a command can ask for it
+pub line_asks : (s : PlainSite) (line : List ℕ) (k : ℕ) (e : Event) → line_read s line ≡ told k e → is_command e ≡ true
+line_asks s line k e h = (told_in_form s line k e h).2

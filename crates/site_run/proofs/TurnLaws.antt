@@ -9,9 +9,8 @@ use Rattle.site_model.specs.PlainSite.{PlainSite}
 use Rattle.run_meaning.specs.Alone.{run_alone, turn_alone, alone}
 use Rattle.run_meaning.specs.Turns.{Reported}
 use Rattle.run_meaning.specs.Dealing.{Refusal, Taken, taken_reports, line_events, line_refusals, report_refusals, still, ticks}
-use Rattle.run_meaning.specs.Turns.{Histories, of_index}
+use Rattle.run_meaning.specs.Turns.{of_index}
 use Rattle.run_meaning.specs.Rounds.{behind}
-use Rattle.run_meaning.specs.Turns.{Begun, Plans, Slot}
 use Rattle.run_meaning.specs.Runs.{Stage, TurnLog, greatest_moment, stage_after}
 use Rattle.site_run.specs.LogText.{log_text, turn_lines, replay_text}
 use Rattle.site_run.specs.Replay.{first_basis, first_stage, turn_read, report_read}

@@ -11,7 +11,7 @@ use Rattle.event_text.specs.Lines.{Answer, told, faulty}
 use Rattle.event_text.specs.Reading.{line_read}
 use Rattle.run_meaning.specs.Acts.{Basis, Live}
 use Rattle.run_meaning.specs.Turns as turns
-use Rattle.run_meaning.specs.Turns.{Line, Reported, ReadTurn}
+use Rattle.run_meaning.specs.Turns.{Feed, Line, Reported, ReadTurn}
 use Rattle.run_meaning.specs.Runs.{TurnLog, Stage, no_entries, start}
 use Rattle.run_meaning.specs.Alone.{run_alone}
 
@@ -61,6 +61,10 @@ turn_read s t = record { moment = t.moment; reports = map report_read t.reports;
 abbrev pub none_live : Live
 none_live c history number moment = false
 
+-- nothing is fed
+abbrev pub nothing_fed : Feed
+nothing_fed begun = []
+
 -- no checkable depends on another, nobody is notified, no downtime is live, no check is ordered, and nothing is fed
 abbrev pub first_basis : PlainSite → Basis
 first_basis s = record {
@@ -69,7 +73,7 @@ first_basis s = record {
   ancestors = λ k. [];
   decisions = λ k c history e seen. [];
   schedule = λ plans moment before round. record { orders = []; slots = plans.slots };
-  feed = λ begun. [];
+  feed = nothing_fed;
 }
 
 -- before the first turn

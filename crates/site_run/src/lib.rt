@@ -4,7 +4,7 @@
 //! In reading order: the scripts that can't be taken yet (`needs`); what stands of a checkable between its events
 //! (`standing`), which events and refusals a turn gives (`dealing`, `refusal`), what the events make of all checkables
 //! (`round`), the lines of a turn (`turn_text`), and turn after turn (`log`), each line written by one call (`output`).
-//! `laws` tells that a log is that of a run, and how turns are read.
+//! `laws` tells that a log is that of a run, how turns are read, and what they ask for.
 #![tactic(auto)]
 
 mod dealing;
@@ -18,7 +18,9 @@ mod round;
 mod standing;
 mod turn_text;
 
-pub use laws::{a_replay_is_a_run, turns_are_read_in_one_way};
+pub use laws::{
+    a_replay_is_a_run, lines_ask_for_commands, scripts_keep_the_schedule, turns_are_read_in_one_way,
+};
 pub use log::write_log;
 pub use log_fault::LogFault;
 pub use needs::needs_more;

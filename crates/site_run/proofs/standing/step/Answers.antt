@@ -1,5 +1,5 @@
 -- What a step makes of a status stands for the entry.
-use Rattle.std.proofs.Common.{refl, sym, ap, ◌∙◌, subst}
+use Rattle.std.proofs.Common.{sym, ap, ◌∙◌, subst}
 use Rattle.site_model.specs.PlainSite.{check_view}
 use Rattle.run_meaning.specs.View.{status_in}
 use Rattle.check_state.specs.Stands.{IsTakenAs}
