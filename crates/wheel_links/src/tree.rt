@@ -166,8 +166,10 @@ fn left_or_right<L: Ledger>(
 ) -> usize
     requires few { length inner.now ≤ 2 ^ 32 }
     requires inner { node < length inner.now }
-    ensures left { node_of inner.now moments.now (2 * node) ≡ Some moment → result ≡ 2 * node }
-    ensures right { node_of inner.now moments.now (2 * node) ≢ Some moment → result ≡ 2 * node + 1 }
+    ensures left { node_of inner.now moments.now (2 * node) ≡ Some moment →
+        result ≡ 2 * node }
+    ensures right { node_of inner.now moments.now (2 * node) ≢ Some moment →
+        result ≡ 2 * node + 1 }
     ensures cost { steps.new ≡ steps.old + 1 }
 {
     let left = 2 * node;
