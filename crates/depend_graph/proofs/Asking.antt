@@ -1,11 +1,11 @@
 -- The answers of an outlook: what is known of a parent, and what holds one back.
-use Rattle.std.proofs.Common.{◌≡◌, ◌<◌, ◌||◌, ℕ, List, [], length, map, get_or, slice_get, cond, Bool, true, false, Option, None, Some, refl, sym, ap, ◌∙◌}
+use Rattle.std.proofs.Common.{◌≡◌, ◌<◌, ◌||◌, ℕ, List, length, map, get_or, slice_get, option_to_list, Bool, true, false, Option, None, Some, refl, sym, ap, ◌∙◌}
 use Rattle.std.proofs.lemmas.Bool.{or_left}
 use Rattle.std.proofs.lemmas.Option.{slice_get-get_or}
 use Rattle.site_model.specs.PlainSite.{PlainSite, check_view}
 use Rattle.site_model.specs.declared.check_spec.CheckSpec.{CheckSpec}
 use Rattle.run_meaning.proofs.Lists.{get_of_map, within}
-use Rattle.run_meaning.specs.Reachability.{Outlook, Purpose, Reach, depend_or, for_checks, for_notes, held_by_depend, held_by_host, host_back, host_in, is_hard_down, reachable, view_among}
+use Rattle.run_meaning.specs.Reachability.{Outlook, Reach, depend_or, held_by_depend, host_back, host_in}
 use Rattle.run_meaning.specs.Turns.{of_index}
 use Rattle.depend_graph.specs.Outlooks.{first_of, leads_back, step_of}
 use Rattle.depend_graph.specs.Teams.{AreTeams}
@@ -45,18 +45,9 @@ module _ (xs : List CheckSpec) (c : ℕ) (x : CheckSpec) (inside : c < length xs
   its_host h is =
       ap host_in (get_of_map check_view xs c x (slice_get-get_or xs c x inside ∙ ap Some (sym at))) ∙ ap (λ (o : Option ℕ). host_in (Some (record (check_view x) { host = o }))) is
 
-  pub no_host : (o : Outlook) (b : ℕ → Bool) → x.host ≡ None → reachable ≡ host_back o b o.purpose (host_in (slice_get (map check_view xs) c))
-  no_host o b is = sym (ap (host_back o b o.purpose) (its_host None is) ∙ by o.purpose)
+  pub own_host : host_in (slice_get (map check_view xs) c) ≡ option_to_list x.host
+  own_host = its_host x.host refl ∙ by x.host
     where
-      by : (p : Purpose) → host_back o b p [] ≡ reachable
-      by for_checks = refl
-      by for_notes = refl
-
-  pub unasked_host : (o : Outlook) (b : ℕ → Bool) → o.purpose ≡ for_checks → reachable ≡ host_back o b o.purpose (host_in (slice_get (map check_view xs) c))
-  unasked_host o b is = sym (ap (λ p. host_back o b p (host_in (slice_get (map check_view xs) c))) is)
-
-  pub asked_host : (o : Outlook) (b : ℕ → Bool) (h : ℕ) (t : Bool) → o.purpose ≡ for_notes → x.host ≡ Some h → t ≡ (b h || is_hard_down (view_among h o.seen))
-      → cond t (held_by_host h) reachable ≡ host_back o b o.purpose (host_in (slice_get (map check_view xs) c))
-  asked_host o b h t notes is test =
-      ap (λ u. cond u (held_by_host h) reachable) test
-      ∙ sym (ap (λ p. host_back o b p (host_in (slice_get (map check_view xs) c))) notes ∙ ap (host_back o b for_notes) (its_host (Some h) is))
+      by : (h : Option ℕ) → host_in (Some (record (check_view x) { host = h })) ≡ option_to_list h
+      by None = refl
+      by (Some h) = refl

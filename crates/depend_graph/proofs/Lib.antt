@@ -7,6 +7,7 @@ pub mod Flags
 pub mod Gathering
 pub mod Has
 pub mod Keying
+pub mod LastPlaces
 pub mod Leaders
 pub mod Marking
 pub mod Above

@@ -3,6 +3,7 @@ pub mod Graph
 pub mod Order
 pub mod Outlooks
 pub mod Parents
+pub mod Positions
 pub mod Reaching
 pub mod Search
 pub mod Teams

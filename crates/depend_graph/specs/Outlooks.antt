@@ -13,6 +13,7 @@ use Rattle.run_meaning.specs.Reachability as Meant
 use Rattle.run_meaning.specs.Reachability.{depend_or, first_back, host_back, host_in, is_down}
 use Rattle.depend_graph.specs.declared.outlook.Outlook.{Outlook}
 use Rattle.depend_graph.specs.declared.purpose.Purpose.{Purpose}
+use Rattle.depend_graph.specs.Positions.{ArePositions}
 use Rattle.depend_graph.specs.Reaching.{purpose_as}
 use Rattle.depend_graph.specs.Teams.{AreTeams}
 
@@ -63,8 +64,9 @@ abbrev pub first_of : (ℕ → Bool) → List ℕ → Option ℕ
 first_of test [] = None
 first_of test (k ∷ ks) = if test k then Some k else first_of test ks
 
--- the ancestors rise and are those of the sights, and the dependencies stand together as they should
+-- the ancestors rise, are those of the sights and stand where they should, and the dependencies stand together as they should
 pub record IsFit (o : Outlook) : Type 0 where
   pub rising : AllPairs (λ p q. p < q) o.above.now
   pub sights : map (λ (s : ℕ × View). s.0) o.sights.now ≡ o.above.now
+  pub places : ArePositions o.above.now o.positions.now
   pub teams : AreTeams (site_view o.site.now) o.leaders.now o.followers.now

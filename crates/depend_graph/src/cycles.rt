@@ -41,7 +41,7 @@ fn is_turning(depend: &DependSpec, ancestors: &Lists) -> bool
 }
 
 /// The place of a number in a rising list.
-pub(crate) fn place_in(numbers: &[u32], number: u32) -> Option<usize>
+fn place_in(numbers: &[u32], number: u32) -> Option<usize>
     requires { AllPairs (λ j k. j < k) numbers.now }
     ensures place { IfSome result (λ k. k < length numbers.now) }
     ensures number { IfSome result (λ k. slice_index numbers.now k ≡ number) }

@@ -3,8 +3,8 @@
 //!
 //! In reading order: lists of numbers (`lists`), the parents of each checkable (`parents`), all that stands above it (`search`), lists
 //! turned round and put in order (`order`), dependencies on a cycle (`cycles`) and in redundancy groups (`teams`), and the graph
-//! that is made of all this (`graph`); then what is known where one is to be reached (`outlook`), and what holds it back
-//! (`reaching`).
+//! that is made of all this (`graph`); then where its ancestors stand (`positions`), what is known where it is to be reached (`outlook`), and what holds
+//! it back (`reaching`).
 #![tactic(auto)]
 
 mod cycles;
@@ -15,6 +15,7 @@ mod lists;
 mod order;
 mod outlook;
 mod parents;
+mod positions;
 mod purpose;
 mod reach;
 mod reaching;

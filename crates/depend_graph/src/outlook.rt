@@ -1,13 +1,14 @@
 // What is known where a checkable is to be reached.
-ghost use Rattle.std.specs.Prelude.{◌≡◌, ◌<◌, ◌||◌, ◌&&◌, length, Some};
+ghost use Rattle.std.specs.Prelude.{◌≡◌, ◌<◌, ◌||◌, ◌&&◌, length, option_to_list, slice_index, IfNone, IfSome, IsFalse, Some};
 ghost use Rattle.site_model.specs.PlainSite.{site_view};
 ghost use Rattle.run_meaning.specs.Turns.{of_index};
-ghost use Rattle.run_meaning.specs.Reachability.{fails as fails_in, is_for, is_hard_down as is_hard_down_in, period_holds, view_among};
+ghost use Rattle.run_meaning.specs.Reachability.{fails as fails_in, host_back as host_back_in, is_for, is_hard_down as is_hard_down_in, period_holds, view_among};
 ghost use Rattle.depend_graph.specs.Outlooks.{meant_by, flagged, step_of, down_at, first_of, leads_back as leads_back_in, IsFit};
-ghost use Rattle.depend_graph.specs.Reaching.{reach_as};
+ghost use Rattle.depend_graph.specs.Parents.{has};
+ghost use Rattle.depend_graph.specs.Reaching.{purpose_as, reach_as};
 
-use crate::cycles::place_in;
 use crate::lists::Lists;
+use crate::positions::Positions;
 use crate::{Purpose, Reach};
 use site_base::Moment;
 use site_model::{DependSpec, Site, State, View};
@@ -22,6 +23,8 @@ pub(crate) struct Outlook<'a> {
     pub(crate) followers: &'a Lists,
     /// The ancestors, ascending.
     pub(crate) above: &'a [u32],
+    /// Where each stands among them.
+    pub(crate) positions: &'a Positions,
     /// What they show, in the same order.
     pub(crate) sights: &'a [(u32, View)],
     pub(crate) purpose: Purpose,
@@ -41,7 +44,16 @@ impl<'a> Outlook<'a> {
             return Reach::Depend { depend };
         }
         let spec = &self.site.checkables.as_slice()[checkable as usize];
-        match (self.purpose, spec.host) {
+        self.host_back(spec.host, blocked)
+    }
+
+    /// Whether a checkable that no dependency holds back is held back by its host, which a service has: of notifications alone.
+    fn host_back(&self, host: Option<u32>, blocked: &[bool]) -> Reach
+        requires fit { IsFit self.now }
+        requires length { length blocked.now ≡ length self.now.above.now }
+        ensures { reach_as result ≡ host_back_in (meant_by self.now) (flagged self.now.above.now blocked.now) (purpose_as self.now.purpose) (option_to_list host) }
+    {
+        match (self.purpose, host) {
             (Purpose::Notes, Some(host)) if self.is_held_by(host, blocked) => {
                 Reach::Host { checkable: host }
             }
@@ -124,7 +136,7 @@ impl<'a> Outlook<'a> {
         requires length { length blocked.now ≡ length self.now.above.now }
         ensures { result ≡ (flagged self.now.above.now blocked.now depend.now.parent || fails_in depend.now (view_among depend.now.parent (meant_by self.now).seen)) }
     {
-        match place_in(self.above, depend.parent) {
+        match self.place_of(depend.parent) {
             Some(place) => blocked[place] || fails(depend, &self.sights[place].1),
             None => false,
         }
@@ -136,10 +148,20 @@ impl<'a> Outlook<'a> {
         requires length { length blocked.now ≡ length self.now.above.now }
         ensures { result ≡ (flagged self.now.above.now blocked.now host || is_hard_down_in (view_among host (meant_by self.now).seen)) }
     {
-        match place_in(self.above, host) {
+        match self.place_of(host) {
             Some(place) => blocked[place] || is_hard_down(&self.sights[place].1),
             None => false,
         }
+    }
+
+    /// Where an ancestor stands among them.
+    pub(crate) fn place_of(&self, checkable: u32) -> Option<usize>
+        requires { IsFit self.now }
+        ensures place { IfSome result (λ k. k < length self.now.above.now) }
+        ensures number { IfSome result (λ k. slice_index self.now.above.now k ≡ checkable) }
+        ensures none { IfNone result (IsFalse (has checkable self.now.above.now)) }
+    {
+        self.positions.get(checkable)
     }
 }
 

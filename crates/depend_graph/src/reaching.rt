@@ -6,8 +6,8 @@ ghost use Rattle.depend_graph.specs.Graph.{IsGraphOf};
 ghost use Rattle.depend_graph.specs.Outlooks.{outlook_of};
 ghost use Rattle.depend_graph.specs.Reaching.{reach_as};
 
-use crate::cycles::place_in;
 use crate::outlook::Outlook;
+use crate::positions::Positions;
 use crate::{Graph, Purpose, Reach};
 use site_base::{Moment, OutOfMemory};
 use site_model::{Site, View};
@@ -20,7 +20,7 @@ impl Graph {
     ///
     /// # Errors
     ///
-    /// `OutOfMemory` where there is none for a flag for each ancestor.
+    /// `OutOfMemory` where there is none for the place of each ancestor and a flag for it.
     pub fn reach(
         &self,
         site: &Site,
@@ -36,11 +36,13 @@ impl Graph {
         ensures { IfOk result (λ r. reach_as r ≡ reach_of (outlook_of (site_view site.now) zone.now purpose moment sights.now) checkable) }
     {
         let above = self.ancestors(checkable);
+        let positions = Positions::of(self.alloc, above)?;
         let outlook = Outlook {
             site,
             leaders: &self.leaders,
             followers: &self.followers,
             above,
+            positions: &positions,
             sights,
             purpose,
             moment,
@@ -49,7 +51,7 @@ impl Graph {
         let mut blocked = vec![in self.alloc; false; above.len()]?;
         for ancestor in self.order.at(checkable as usize) {
             let is_held = outlook.reach_at(*ancestor, blocked.as_slice()).is_held();
-            if let Some(place) = place_in(above, *ancestor) {
+            if let Some(place) = outlook.place_of(*ancestor) {
                 blocked[place] = is_held;
             }
         }

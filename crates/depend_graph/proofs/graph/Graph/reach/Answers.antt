@@ -17,6 +17,7 @@ reach_at-requires-clause-fit c =
     record {
       rising = subst (AllPairs (λ p q. p < q)) (sym e) (ancestors_rise (site_view c.args.site.now) c.args.checkable);
       sights = c.requires.sights ∙ sym e;
+      places = c.in_ok-positions.ensures;
       teams = c.requires.graph.teams;
     }
 
@@ -29,9 +30,15 @@ reach_at-requires-clause-checkable c =
     (ancestor_in (site_view c.args.site.now) c.args.checkable (get_or order c.loop-ancestor.ancestor-index 0)
     (order_has o c.requires.graph.has_order c.args.checkable c.requires.checkable order (c.requires.graph.order c.args.checkable c.requires.checkable) c.loop-ancestor.ancestor-index l))
 
-pub place_in-requires : goal.place_in-requires
-place_in-requires c =
-    subst (AllPairs (λ p q. p < q)) (sym (c.ancestors-above.ensures (site_view c.args.site.now) c.requires.graph)) (ancestors_rise (site_view c.args.site.now) c.args.checkable)
+pub place_of-requires : goal.place_of-requires
+place_of-requires c =
+    let e = c.ancestors-above.ensures (site_view c.args.site.now) c.requires.graph in
+    record {
+      rising = subst (AllPairs (λ p q. p < q)) (sym e) (ancestors_rise (site_view c.args.site.now) c.args.checkable);
+      sights = c.requires.sights ∙ sym e;
+      places = c.in_ok-positions.ensures;
+      teams = c.requires.graph.teams;
+    }
 
 pub loop-ancestor-preserved : goal.loop-ancestor-preserved
 loop-ancestor-preserved c =
@@ -55,9 +62,9 @@ loop-ancestor-preserved c =
     ∙ ap (step_of o (flagged above flags)) at
     ∙ reach_next o c.requires.graph.has_order c.args.checkable c.requires.checkable order first above flags i l known) in
     let rises : AllPairs (λ p q. p < q) above = subst (AllPairs (λ p q. p < q)) (sym mine) (ancestors_rise (site_view c.args.site.now) c.args.checkable) in
-    elim c.match-place_in.branch [
+    elim c.match-place_of.branch [
       | in-Some w ↦
-          let put : c.match-place_in.blocked.items ≡ set flags w.in-Some.place c.is_held-is_held.result = ap (λ v. v.items) w.blocked-is in
+          let put : c.match-place_of.blocked.items ≡ set flags w.in-Some.place c.is_held-is_held.result = ap (λ v. v.items) w.blocked-is in
           record {
             long = ap length put ∙ length-set flags w.in-Some.place c.is_held-is_held.result ∙ c.loop-ancestor.invariant.long;
             flags = λ k h. ap (λ fs. flagged above fs (get_or order k 0)) put
@@ -76,6 +83,7 @@ reach_at-requires-2-clause-fit c =
     record {
       rising = subst (AllPairs (λ p q. p < q)) (sym e) (ancestors_rise (site_view c.args.site.now) c.args.checkable);
       sights = c.requires.sights ∙ sym e;
+      places = c.in_ok-positions.ensures;
       teams = c.requires.graph.teams;
     }
 
