@@ -1,1 +1,4 @@
+pub mod FirstLaws
 pub mod KeyLaws
+pub mod PlaceLaws
+pub mod StandingLaws

@@ -1,6 +1,6 @@
 -- Which objects there are, by type and full name.
-use Rattle.std.specs.Prelude.{ℕ, ◌&&◌, Bool, List, [], ◌∷◌, ◌++◌, Option, Some, None}
-use Rattle.std.specs.List.{list_any}
+use Rattle.std.specs.Prelude.{ℕ, ◌&&◌, Bool, List, [], ◌∷◌, ◌++◌, Option, Some, None, map}
+use Rattle.std.specs.List.{list_any, filter}
 use Rattle.std.specs.Str.{bytes_eq}
 use Rattle.object_types.specs.declared.object_type.ObjectType.{ObjectType}
 use Rattle.object_types.specs.Names.{type_name, type_named}
@@ -14,6 +14,21 @@ is_object t name o = bytes_eq o.kind (type_name t) && bytes_eq o.name name
 -- one of these objects is and has
 abbrev pub has_object : List PlainObject → ObjectType → List ℕ → Bool
 has_object os t name = list_any (is_object t name) os
+
+-- an object is of a type
+abbrev pub is_of : ObjectType → PlainObject → Bool
+is_of t o = bytes_eq o.kind (type_name t)
+
+-- the objects of a type, in their order
+abbrev pub of_type : ObjectType → List PlainObject → List PlainObject
+of_type t os = filter (is_of t) os
+
+abbrev pub name_of : PlainObject → List ℕ
+name_of o = o.name
+
+-- their full names
+abbrev pub names_of : ObjectType → List PlainObject → List (List ℕ)
+names_of t os = map name_of (of_type t os)
 
 -- The same, by keys: the type's name and the full name with `!` between.
 

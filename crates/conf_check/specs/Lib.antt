@@ -1,3 +1,5 @@
+pub mod Duplicates
 pub mod Keys
 pub mod Ordering
 pub mod References
+pub mod Standing

@@ -1,6 +1,6 @@
 // Which objects there are, by type and full name.
-ghost use Rattle.std.specs.Prelude.{◌≡◌, [], map, IfOk, OnOk};
-ghost use Rattle.site_model.specs.Names.{with_name};
+ghost use Rattle.std.specs.Prelude.{◌≡◌, [], map, IfOk, OnOk, Some};
+ghost use Rattle.site_model.specs.Names.{place_of, with_name};
 ghost use Rattle.site_model.specs.PlainSite.{object_view};
 ghost use Rattle.conf_check.specs.Keys.{key_of, in_keys, keys_from};
 
@@ -22,15 +22,15 @@ pub(crate) fn keys_of(alloc: Global, objects: &[Object]) -> Result<Names, OutOfM
     Ok(keys)
 }
 
-/// Adds a key. More than a `u32` counts fit into no memory.
-fn add_key(keys: &mut Names, key: Text) -> Result<(), OutOfMemory>
-    ensures { OnOk result (keys.new ≡ with_name key keys.old) }
+/// The place of a key, which is added where it isn't there. More than a `u32` counts fit into no memory.
+pub(crate) fn add_key(keys: &mut Names, key: Text) -> Result<u32, OutOfMemory>
+    ensures place { IfOk result (λ k. place_of key keys.new ≡ Some k) }
+    ensures keys { OnOk result (keys.new ≡ with_name key keys.old) }
 {
     if keys.len() >= u32::MAX as usize {
         return Err(OutOfMemory);
     }
-    keys.add(key)?;
-    Ok(())
+    keys.add(key)
 }
 
 /// Whether there is an object of a type under a full name.
@@ -49,7 +49,7 @@ pub(crate) fn has_key(
 
 /// The key of an object: the type's name and the full name, which no type's name can be mistaken for part of, since `!`
 /// stands between.
-fn key_of(alloc: Global, kind: ObjectType, name: &str) -> Result<Text, OutOfMemory>
+pub(crate) fn key_of(alloc: Global, kind: ObjectType, name: &str) -> Result<Text, OutOfMemory>
     ensures { IfOk result (λ key. key ≡ key_of kind name.now) }
 {
     let mut key = Text::copy_of(alloc, kind.name())?;

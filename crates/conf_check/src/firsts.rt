@@ -1,0 +1,58 @@
+// Which objects were first of their type and full name.
+ghost use Rattle.std.specs.Prelude.{◌≡◌, ◌<◌, [], All, IfOk, OnOk, IfSome, length};
+ghost use Rattle.object_types.specs.Names.{type_named};
+ghost use Rattle.site_base.specs.declared.place.Place.{Place};
+ghost use Rattle.site_model.specs.Names.{with_name};
+ghost use Rattle.conf_check.specs.Duplicates.{place_under, with_place};
+ghost use Rattle.conf_check.specs.Keys.{key_of};
+
+use crate::keys::{add_key, key_of};
+use object_types::ObjectType;
+use site_base::{OutOfMemory, Place};
+use site_model::Names;
+use std::alloc::Global;
+
+/// The keys of objects, each with the place of the first one that has it.
+#[derive(Drop)]
+pub(crate) struct Firsts {
+    keys: Names,
+    places: Vec<Place>,
+}
+
+impl Firsts {
+    /// No objects.
+    pub(crate) fn new(alloc: Global) -> Firsts
+        ensures keys { result.keys ≡ [] }
+        ensures places { result.places.items ≡ [] }
+    {
+        Firsts {
+            keys: Names::new(alloc),
+            places: Vec::new(alloc),
+        }
+    }
+
+    /// The place of the first object of this type and full name. Where there was none it is the one at this place, and the
+    /// answer is `None`.
+    pub(crate) fn first(
+        &mut self,
+        alloc: Global,
+        kind: ObjectType,
+        name: &str,
+        place: Place,
+    ) -> Result<Option<Place>, OutOfMemory>
+        requires { length self.old.places.items ≡ length self.old.keys }
+        ensures first { IfOk result (λ first. first
+            ≡ place_under self.old.keys self.old.places.items (key_of kind name.now)) }
+        ensures keys { OnOk result (self.new.keys ≡ with_name (key_of kind name.now) self.old.keys) }
+        ensures places { OnOk result (self.new.places.items
+            ≡ with_place self.old.keys self.old.places.items (key_of kind name.now) place) }
+    {
+        let key = key_of(alloc, kind, name)?;
+        let at = add_key(&mut self.keys, key)? as usize;
+        if at < self.places.len() {
+            return Ok(Some(self.places[at]));
+        }
+        self.places.push(place)?;
+        Ok(None)
+    }
+}
