@@ -1,0 +1,74 @@
+// What an object sets under an attribute, and what holds where it doesn't.
+ghost use Rattle.std.specs.Prelude.{◌≡◌};
+ghost use Rattle.site_base.specs.View.{view, pairs_view};
+ghost use Rattle.object_values.specs.Attributes.{set_value, set_among as set_in, unset_of, value_under as value_in, if_set as set_if, value_view};
+
+use object_types::{Attribute, ObjectType, SchemaRow, Unset, ValueKind};
+use site_base::{Text, Tree};
+
+/// The attributes of an object of a type.
+#[derive(Clone, Copy)]
+pub struct Attributes<'a> {
+    pub kind: ObjectType,
+    pub tree: &'a Tree,
+}
+
+impl<'a> Attributes<'a> {
+    /// What the object sets, unless it counts as not set.
+    #[tactic(auto, unfolding(crate::specs::Attributes::set_value))]
+    pub(crate) fn set(&self, attribute: Attribute) -> Option<&'a Tree>
+        ensures { value_view result ≡ set_value self.now.kind attribute (view self.now.tree.now) }
+    {
+        match self.tree {
+            Tree::Dict(pairs) => set_among(
+                self.kind.row(attribute.name()),
+                attribute.name(),
+                pairs,
+            ),
+            _ => None,
+        }
+    }
+
+    /// What holds where the object doesn't set it.
+    #[tactic(auto, unfolding(crate::specs::Attributes::unset_of))]
+    pub(crate) fn unset(&self, attribute: Attribute) -> Unset
+        ensures { result ≡ unset_of self.now.kind attribute }
+    {
+        match self.kind.row(attribute.name()) {
+            Some(row) => row.unset,
+            None => Unset::Nothing,
+        }
+    }
+}
+
+/// What pairs set under an attribute of which the schema says this.
+fn set_among<'a>(row: Option<SchemaRow>, name: &str, pairs: &'a [(Text, Tree)]) -> Option<&'a Tree>
+    ensures { value_view result ≡ set_in row name.now (pairs_view pairs.now) }
+{
+    match row {
+        Some(row) => if_set(row.kind, value_under(name, pairs)),
+        None => None,
+    }
+}
+
+/// A value, unless it counts as not set.
+fn if_set(kind: ValueKind, value: Option<&Tree>) -> Option<&Tree>
+    ensures { value_view result ≡ set_if kind (value_view value.entry) }
+{
+    match value {
+        Some(value) if !kind.is_unset(value) => Some(value),
+        _ => None,
+    }
+}
+
+/// The value under a key; of equal keys the first counts.
+pub(crate) fn value_under<'a>(name: &str, pairs: &'a [(Text, Tree)]) -> Option<&'a Tree>
+    ensures { value_view result ≡ value_in name.now (pairs_view pairs.now) }
+{
+    for (key, value) in pairs {
+        if key.as_str() == name {
+            return Some(value);
+        }
+    }
+    None
+}
