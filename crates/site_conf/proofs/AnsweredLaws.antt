@@ -29,7 +29,7 @@ use Rattle.site_conf.proofs.FaultLaws.{AreStops}
 use Rattle.site_conf.proofs.TreeLaws.{AreTokens, AreOutcomes, AreKept, kept_of, tree_of, kept_at, begins_kept, order_kept, count_kept, met_kept_by, entered_kept, tree_is, whole_is, walk_keeps}
 
 -- the fault of each file that was met is told
-AreAnswered : Told → WalkState → Type 0
+abbrev AreAnswered : Told → WalkState → Type 0
 AreAnswered all s = (index : ℕ) (source : Source) → slice_get s.sources index ≡ Some source → (d : Diag) → Contains (kept_content index (content_of all source)).faults d → Contains s.diags d
 
 more_told : (all : Told) (d : Diag) (s t : WalkState) → t.sources ≡ s.sources → t.diags ≡ s.diags ++ d ∷ [] → AreAnswered all s → AreAnswered all t
@@ -131,7 +131,7 @@ walk_answers all root =
 
 -- What a file has by what is read of it.
 
-Tells : WalkState → Kept → Type 0
+abbrev Tells : WalkState → Kept → Type 0
 Tells s k = (d : Diag) → Contains k.faults d → Contains s.diags d
 
 of_outcome : (s : WalkState) (index : ℕ) (bytes : List ℕ) (ts : List Token) (o : Outcome) → length bytes ≤ 4194304 → HasTokens index bytes ts → Holds ts o → Tells s (kept_outcome index o) → slice_get s.trees index ≡ Some (kept_outcome index o).tree

@@ -13,3 +13,5 @@ pub mod ReadLaws
 pub mod Through
 pub mod TreeLaws
 pub mod FaultLaws
+pub mod TellingLaws
+pub mod AnsweredLaws

@@ -93,7 +93,7 @@ pub in_order : (all : Told) (left index : ℕ) (file : List ℕ) (before : List 
 in_order all left index file before i behind s =
     let t : WalkState = following all left index file before s in
     let u : WalkState = following all left index file (before ++ i ∷ []) s in
-    let whole : before ++ i ∷ behind ≡ (before ++ i ∷ []) ++ behind = append_assoc before (i ∷ []) behind in
+    let whole : before ++ i ∷ behind ≡ (before ++ i ∷ []) ++ behind = sym (append_assoc before (i ∷ []) behind) in
     record {
       of_those_before = following_grows all left index file before s;
       of_it = subst (λ (w : WalkState). Keeps t w) (sym (following_on all left index file before (i ∷ []) s)) (following_grows all left index file (i ∷ []) t);

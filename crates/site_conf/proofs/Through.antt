@@ -17,7 +17,7 @@ pub record Stays (all : Told) (P : WalkState → Type 0) : Type 0 where
   pub taken : (left : ℕ) (at : Place) (source : Source) (s : WalkState) → P s → P (stopped (entered all left at source s))
 
 -- it stays over what follows an inclusion
-abbrev StaysOnward : (WalkState → Type 0) → (Entered → WalkState) → Type 0
+abbrev pub StaysOnward : (WalkState → Type 0) → (Entered → WalkState) → Type 0
 StaysOnward P onward = (e : Entered) → P (stopped e) → P (onward e)
 
 sources_stay : (all : Told) (P : WalkState → Type 0) → Stays all P → (onward : Entered → WalkState) → StaysOnward P onward → (left : ℕ) (at : Place) (xs : List Source) (s : WalkState) → P s → P (each_source all onward left at xs s)
@@ -38,7 +38,7 @@ inclusion_stays all P st onward on left index file i s p = by s.ended
     by true = p
     by false = sources_stay all P st onward on left (in_file index (place_of i)) named (with_number (length named) s) (st.numbered (length named) s p)
 
-inclusions_stay : (all : Told) (P : WalkState → Type 0) → Stays all P → (onward : Entered → WalkState) → StaysOnward P onward → (left index : ℕ) (file : List ℕ) (is : List Inclusion) (s : WalkState) → P s
+pub inclusions_stay : (all : Told) (P : WalkState → Type 0) → Stays all P → (onward : Entered → WalkState) → StaysOnward P onward → (left index : ℕ) (file : List ℕ) (is : List Inclusion) (s : WalkState) → P s
     → P (each_inclusion all onward left index file is s)
 inclusions_stay all P st onward on left index file [] s p = p
 inclusions_stay all P st onward on left index file (i ∷ is) s p = inclusions_stay all P st onward on left index file is (one_inclusion all onward left index file i s) (inclusion_stays all P st onward on left index file i s p)
@@ -54,7 +54,7 @@ onward_stays : (P : WalkState → Type 0) (walk : ℕ → WalkState → WalkStat
 onward_stays P walk h (follows index s) p = h index s p
 onward_stays P walk h (stays s) p = p
 
-part_stays : (all : Told) (P : WalkState → Type 0) → Stays all P → (left index : ℕ) (s : WalkState) → P s → P (part all left index s)
+pub part_stays : (all : Told) (P : WalkState → Type 0) → Stays all P → (left index : ℕ) (s : WalkState) → P s → P (part all left index s)
 part_stays all P st zero index s p = part_with_stays all P st stopped (λ e q. q) zero index s p
 part_stays all P st (suc left) index s p = part_with_stays all P st (onward_by (part all left)) (onward_stays P (part all left) (part_stays all P st left)) (suc left) index s p
 

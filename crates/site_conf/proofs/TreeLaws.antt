@@ -185,7 +185,7 @@ outcome_whole file (tree_found tree) e = refl
 outcome_whole file (fault_at p) e = cc
 outcome_whole file (deep_at_place p) e = cc
 
-tree_is : (file : ℕ) (bytes : List ℕ) (tokens : List Token) (tree : Statements) → length bytes ≤ 4194304 → HasTokens file bytes tokens → Holds tokens (tree_found tree) → IsTreeOf file bytes tree
+pub tree_is : (file : ℕ) (bytes : List ℕ) (tokens : List Token) (tree : Statements) → length bytes ≤ 4194304 → HasTokens file bytes tokens → Holds tokens (tree_found tree) → IsTreeOf file bytes tree
 tree_is file bytes tokens tree short read h = record { short = short; tokens = tokens; read = read; parsed = h.0; only = h.1; shallow = h.2 }
 
 -- a law: what is read of bytes is their tokens

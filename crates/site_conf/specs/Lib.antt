@@ -12,3 +12,4 @@ pub mod Views
 pub mod Sound
 pub mod Reads
 pub mod Findings
+pub mod Telling

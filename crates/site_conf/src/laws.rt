@@ -1,9 +1,11 @@
 // What always holds of walks over files that are told.
 ghost use Rattle.std.specs.Prelude.{◌≡◌, ℕ, List, Some, All, map, slice_get};
 ghost use Rattle.site_conf.specs.Findings.{IsTold, IsFinding};
-ghost use Rattle.site_conf.specs.Sources.{full_name, is_library};
+ghost use Rattle.site_conf.specs.Sources.{content_of, full_name, is_library};
 ghost use Rattle.site_conf.specs.Sound.{IsClear};
-ghost use Rattle.site_conf.specs.Walks.{Told, walked};
+ghost use Rattle.site_conf.specs.Telling.{IsAnswered, StandInOrder};
+ghost use Rattle.site_conf.specs.Walks.{Told, WalkState, walked};
+ghost use Rattle.site_conf.specs.declared.inclusion.Inclusion.{Inclusion};
 ghost use Rattle.site_conf.specs.declared.source.Source.{Source};
 
 use dsl_grammar::files_have_one_outcome;
@@ -29,3 +31,20 @@ pub fn each_diagnostic_is_of_a_fault()
     what_is_read_are_the_tokens();
     files_have_one_outcome();
 }
+
+/// Of each file that was met and isn't too long the tree is there, or a fault of its own text is told.
+pub fn each_file_has_its_tree_or_its_fault()
+    ensures { (all : Told) (root : List ℕ) (index : ℕ) (source : Source) (bytes : List ℕ) →
+        slice_get (walked all root).sources index ≡ Some source → content_of all source ≡ Some bytes →
+        IsAnswered (walked all root) index bytes }
+{
+    what_is_read_are_the_tokens();
+    files_have_one_outcome();
+}
+
+/// Faults are told in walking order: what is told of an inclusion and of the files in it stands behind all that is told of the
+/// inclusions before it, and before all that is told of those behind it.
+pub fn faults_stand_in_walking_order()
+    ensures { (all : Told) (left index : ℕ) (file : List ℕ) (before : List Inclusion) (i : Inclusion)
+        (behind : List Inclusion) (s : WalkState) → StandInOrder all left index file before i behind s }
+{}

@@ -27,7 +27,10 @@ mod sources;
 mod walk_answer;
 mod walking;
 
-pub use laws::{each_diagnostic_is_of_a_fault, trees_are_those_of_their_files};
+pub use laws::{
+    each_diagnostic_is_of_a_fault, each_file_has_its_tree_or_its_fault,
+    faults_stand_in_walking_order, trees_are_those_of_their_files,
+};
 pub use load_fault::LoadFault;
 pub use site_walk::Walk;
 pub use walk_answer::WalkAnswer;
