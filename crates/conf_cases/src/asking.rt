@@ -1,7 +1,10 @@
 // What a row asks for.
+use crate::placed::are_placed;
 use case_trees::tree_of;
-use conf_check::references;
-use site_base::{Diag, DiagKind, ItemNo, OutOfMemory, Place, TargetNo, Text, Tree, copy_tree};
+use conf_check::{duplicates, references};
+use site_base::{
+    Diag, DiagKind, Diags, ItemNo, OutOfMemory, Place, Row, TargetNo, Text, Texts, Tree, copy_tree,
+};
 use site_model::Object;
 use std::alloc::Global;
 
@@ -25,7 +28,11 @@ pub(crate) fn push_answer(
     if !push_objects(alloc, &mut objects, text)? {
         return out.push_str("no objects");
     }
-    let faults = references(alloc, &objects)?;
+    let faults = if word == "duplicates" {
+        duplicates_among(alloc, &objects)?
+    } else {
+        references(alloc, &objects)?
+    };
     if faults.is_empty() {
         return out.push_str("fine");
     }
@@ -38,6 +45,17 @@ pub(crate) fn push_answer(
         push_fault(out, fault)?;
     }
     Ok(())
+}
+
+/// The duplicates among objects of the two files.
+fn duplicates_among(alloc: Global, objects: &[Object]) -> Result<Diags, OutOfMemory> {
+    let mut files: Texts = Row::new(alloc);
+    files.push(Text::copy_of(alloc, "even.conf")?)?;
+    files.push(Text::copy_of(alloc, "conf.d/odd.conf")?)?;
+    if !are_placed(objects, &files) {
+        return Ok(Row::new(alloc));
+    }
+    duplicates(alloc, objects, &files)
 }
 
 /// Adds the objects that a dictionary of their heads and trees writes. Answers whether it is one.
@@ -53,7 +71,7 @@ fn push_objects(alloc: Global, objects: &mut Vec<Object>, text: &str) -> Result<
     }
 }
 
-/// The object of a head `NUMBER TYPE NAME`, whose place is that line, and a tree.
+/// The object of a head `NUMBER TYPE NAME` and a tree.
 fn object_of(alloc: Global, head: &str, tree: Tree) -> Result<Object, OutOfMemory> {
     let (number, rest) = head.split_once(' ').unwrap_or((head, ""));
     let (kind, name) = rest.split_once(' ').unwrap_or((rest, ""));
@@ -68,11 +86,12 @@ fn object_of(alloc: Global, head: &str, tree: Tree) -> Result<Object, OutOfMemor
     })
 }
 
+/// Where an item stands: in the line of its number, in the first file where that is even and in the second where it is odd.
 fn place_of(item: u32) -> Place {
     Place {
-        file: 0,
+        file: item % 2,
         line: item,
-        col: 1,
+        col: item / 2 + 1,
     }
 }
 
@@ -93,6 +112,7 @@ fn push_fault(out: &mut Text, fault: &Diag) -> Result<(), OutOfMemory> {
     let item = fault.number.item;
     out.push_decimal(u64::from(item))?;
     out.push_str(match fault.kind {
+        DiagKind::Duplicate => " Duplicate ",
         DiagKind::NoReference => " NoReference ",
         _ => " another kind ",
     })?;

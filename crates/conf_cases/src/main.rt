@@ -5,6 +5,7 @@
 #![tactic(auto)]
 
 mod asking;
+mod placed;
 
 use case_rows::{ANSWER, row_of};
 use site_base::{OutOfMemory, Text};
