@@ -1,10 +1,10 @@
 -- The tree that a walk gives is lawful, and costs what the walk counted.
-use Rattle.std.proofs.Common.{◌≡◌, ℕ, zero, suc, ◌+◌, ◌<◌, ◌≤◌, Bool, true, false, cond, nat_lt, T, ◌&&◌, List, [], ◌∷◌, ◌++◌, length, Ok, Err, Result, refl, sym, ap, subst, ◌∙◌, arith}
+use Rattle.std.proofs.Common.{◌≡◌, ℕ, zero, suc, ◌+◌, ◌≤◌, Bool, true, false, cond, nat_lt, T, List, [], ◌∷◌, ◌++◌, length, Ok, Err, Result, refl, ap, subst, ◌∙◌, arith}
 use Rattle.std.specs.List.{AllByRecursion}
 use Rattle.std.specs.Ordering.{is_lt}
 use Rattle.std.specs.FinMap.Entries as entries
 use Rattle.std.proofs.lemmas.Bool.Decides.{nat_tests}
-use Rattle.site_base.specs.Data.{Data, null, boolean, number, string, list, dict as pairs_tree, item, pair}
+use Rattle.site_base.specs.Data.{Data, string, list, dict as pairs_tree}
 use Rattle.site_base.specs.Lawful.{Leads, AreRising, IsLawful, AreLawful, HaveLawful}
 use Rattle.site_base.specs.View.{items_of, pairs_of}
 use Rattle.dsl_value.specs.Contents.{PlainCell, array, dict, Contained, Contents, cell_at, IsInOrder}
@@ -106,6 +106,14 @@ abbrev value_or : Data → Result Data TreeFault → Data
 value_or d (Ok e) = e
 value_or d (Err f) = d
 
+abbrev units_in : Walk Data → ℕ
+units_in (walked d c) = c
+units_in (stopped f) = 0
+
+abbrev cost_in : Walk Data → ℕ
+cost_in (walked d c) = cost d
+cost_in (stopped f) = 0
+
 module _ (cells : List PlainCell) (ordered : (k : ℕ) → IsInOrder (cell_at cells k)) where
   stops_or : (b : Bool) (k c : ℕ) (w : Walk Data) → TreeFits c w → TreeFits c (cond b (stopped (Cyclic k)) w)
   stops_or true k c w h = tt
@@ -128,6 +136,14 @@ module _ (cells : List PlainCell) (ordered : (k : ℕ) → IsInOrder (cell_at ce
   unfolding walk
   walk_fits zero open_cells v c le = tt
   walk_fits (suc levels) open_cells v c le = value_fits (walk levels cells) (walk_fits levels) open_cells v c le
+
+  counted_cost : (w : Walk Data) (d : Data) (units : ℕ) → TreeFits 0 w → w ≡ walked d units → units ≡ cost d
+  counted_cost (walked e c) d units h is = omega (arith, h.1.sum, ap units_in is, ap cost_in is)
+  counted_cost (stopped f) d units h is = cc
+
+  -- what is counted is what the tree costs
+  pub walk_counts : (v : Value) (d : Data) (units : ℕ) → walk (most + 1) cells [] v 0 ≡ walked d units → units ≡ cost d
+  walk_counts v d units is = counted_cost (walk (most + 1) cells [] v 0) d units (walk_fits (most + 1) [] v 0 (omega arith)) is
 
   outcome_fits : (w : Walk Data) (d : Data) → TreeFits 0 w → outcome w ≡ Ok d → Fits d
   outcome_fits (walked e c) d h is = subst Fits (ap (value_or e) is) (record { lawful = h.0; within = omega (arith, h.1.sum, h.1.within) })

@@ -1,21 +1,20 @@
 -- A tree that is loaded is given back.
-use Rattle.std.proofs.Common.{◌≡◌, ℕ, ◌+◌, ◌-◌, ◌<◌, ◌≤◌, ◌==◌, ◌||◌, ◌&&◌, Bool, true, false, cond, T, List, [], ◌∷◌, ◌++◌, length, Result, Ok, Err, refl, sym, ap, subst, ◌∙◌, arith, length-append}
+use Rattle.std.proofs.Common.{◌≡◌, ℕ, ◌+◌, ◌-◌, ◌<◌, ◌≤◌, ◌==◌, ◌||◌, Bool, false, cond, T, List, [], ◌∷◌, ◌++◌, length, Ok, refl, sym, ap, subst, ◌∙◌, arith, length-append}
 use Rattle.std.specs.List.{AllByRecursion}
 use Rattle.std.specs.Ordering.{is_lt}
 use Rattle.std.specs.FinMap.Entries as entries
 use Rattle.std.proofs.Math.Seq.{get_or-append_seam}
-use Rattle.std.proofs.lemmas.List.{get_or_append_left, get_or-append-add, get_or-append_right}
+use Rattle.std.proofs.lemmas.List.{get_or_append_left, get_or-append-add}
 use Rattle.std.proofs.lemmas.Bool.Decides.{nat_tests}
 use Rattle.site_base.specs.Data.{Data, null, boolean, number, string, list, dict, Items, no_items, item, Pairs as TreePairs, no_pairs, pair}
 use Rattle.site_base.specs.Lawful.{Leads, AreRising, IsLawful, AreLawful, HaveLawful}
 use Rattle.site_base.specs.View.{items_of, pairs_of}
 use Rattle.dsl_value.specs.Contents.{PlainCell, array, dict as pairs_cell, cell_at}
-use Rattle.dsl_value.specs.Pairs.{Pairs, key_cmp, dict_of, is_sorted}
-use Rattle.dsl_value.specs.Loads.{Made, load, load_items, load_pairs, cost, items_cost, pairs_cost, Fits, grown, given}
-use Rattle.dsl_value.specs.Walks.{most, Walk, walked, stopped, ◌>>=◌, charged, values_walked, pairs_walked, cell_walked, is_open, value_walked, walk, outcome, tree_walked}
+use Rattle.dsl_value.specs.Pairs.{key_cmp, dict_of, is_sorted}
+use Rattle.dsl_value.specs.Loads.{load, load_items, load_pairs, cost, items_cost, pairs_cost, Fits, grown, given}
+use Rattle.dsl_value.specs.Walks.{most, walked, stopped, ◌>>=◌, charged, values_walked, pairs_walked, cell_walked, is_open, walk, outcome, tree_walked}
 use Rattle.dsl_value.specs.declared.value.Value.{Value}
 use Rattle.dsl_value.specs.declared.value.Value.TheVariants as value
-use Rattle.dsl_value.specs.declared.tree_fault.TreeFault.{TreeFault}
 use Rattle.dsl_value.specs.declared.tree_fault.TreeFault.TheVariants.{Cyclic}
 use Rattle.dsl_value.proofs.Kept.{all_more}
 use Rattle.dsl_value.proofs.Named.{one_longer, load_stands}

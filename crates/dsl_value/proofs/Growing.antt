@@ -1,9 +1,12 @@
 -- Changes after which a store has only grown.
-use Rattle.std.proofs.Common.{◌≡◌, ℕ, zero, suc, ◌+◌, ◌<◌, ◌≤◌, List, [], ◌∷◌, ◌++◌, length, set, slice_get, Some, refl, sym, ap, subst, ◌∙◌, arith, length-append, true}
-use Rattle.std.proofs.lemmas.List.{get_or_append_left, get_or-set_other, get_or-set_same, length-set, append_assoc}
+use Rattle.std.proofs.Common.{◌≡◌, ℕ, zero, suc, ◌+◌, ◌<◌, ◌≤◌, List, [], ◌∷◌, ◌++◌, length, set, refl, sym, ap, subst, ◌∙◌, arith, length-append}
+use Rattle.std.proofs.lemmas.List.{get_or_append_left, get_or-set_other, length-set, append_assoc}
 use Rattle.site_base.specs.Data.{Data, null, boolean, number, string, list, dict as pairs_of, Items, no_items, item, Pairs as TreePairs, no_pairs, pair}
-use Rattle.dsl_value.specs.Contents.{PlainCell, array, dict, PlainFunction, Contained, Contents, cell_at, with_cell, with_cells, function_at, is_array, is_dict, pushed, with_value, with_pair, without_pair}
-use Rattle.dsl_value.specs.Pairs.{Pairs, dict_of}
+use Rattle.dsl_value.specs.Changes.{changed}
+use Rattle.dsl_value.specs.declared.change.Change.{Change}
+use Rattle.dsl_value.specs.declared.change.Change.TheVariants as change
+use Rattle.dsl_value.specs.Contents.{PlainCell, array, dict, PlainFunction, Contained, Contents, cell_at, with_cell, with_cells, function_at, is_array, pushed, with_value, with_pair, without_pair}
+use Rattle.dsl_value.specs.Pairs.{dict_of}
 use Rattle.dsl_value.specs.Loads.{load, load_items, load_pairs, cost, items_cost, pairs_cost}
 use Rattle.dsl_value.specs.Grows.{Grows}
 use Rattle.dsl_value.specs.Whole.{Names}
@@ -109,17 +112,14 @@ removed_kind : (c : PlainCell) (k : List ℕ) → is_array (without_pair c k) �
 removed_kind (array vs) k = refl
 removed_kind (dict ps) k = refl
 
-pub grows_put : (s t : Contents) (i k : ℕ) (v : Value) → s.base ≤ i → t ≡ with_cells s (with_cell s.cells i (with_value (cell_at s.cells i) k v)) → Grows 0 s t
-grows_put s t i k v le = grows_set s t i (with_value (cell_at s.cells i) k v) le (value_kind (cell_at s.cells i) k v)
+changed_kind : (c : PlainCell) (x : Change) → is_array (changed x c) ≡ is_array c
+changed_kind c (change.Put i v) = value_kind c i v
+changed_kind c (change.Push v) = pushed_kind c v
+changed_kind c (change.Set k v) = pair_kind c k v
+changed_kind c (change.Remove k) = removed_kind c k.now
 
-pub grows_push : (s t : Contents) (i : ℕ) (v : Value) → s.base ≤ i → t ≡ with_cells s (with_cell s.cells i (pushed (cell_at s.cells i) v)) → Grows 0 s t
-grows_push s t i v le = grows_set s t i (pushed (cell_at s.cells i) v) le (pushed_kind (cell_at s.cells i) v)
-
-pub grows_pair : (s t : Contents) (i : ℕ) (k : List ℕ) (v : Value) → s.base ≤ i → t ≡ with_cells s (with_cell s.cells i (with_pair (cell_at s.cells i) k v)) → Grows 0 s t
-grows_pair s t i k v le = grows_set s t i (with_pair (cell_at s.cells i) k v) le (pair_kind (cell_at s.cells i) k v)
-
-pub grows_without : (s t : Contents) (i : ℕ) (k : List ℕ) → s.base ≤ i → t ≡ with_cells s (with_cell s.cells i (without_pair (cell_at s.cells i) k)) → Grows 0 s t
-grows_without s t i k le = grows_set s t i (without_pair (cell_at s.cells i) k) le (removed_kind (cell_at s.cells i) k)
+pub grows_changed : (s t : Contents) (i : ℕ) (x : Change) → s.base ≤ i → t ≡ with_cells s (with_cell s.cells i (changed x (cell_at s.cells i))) → Grows 0 s t
+grows_changed s t i x le = grows_set s t i (changed x (cell_at s.cells i)) le (changed_kind (cell_at s.cells i) x)
 
 -- a tree has no more cells than units
 mutual
@@ -177,3 +177,15 @@ module _ (frozen live : Contained) (b : ℕ) (s : Contents) (view : shown frozen
       let top : length (shown frozen new b).cells ≡ length s.cells + length (load d (length s.cells)).cells = ap length all ∙ omega (arith, long, count) in
       subst (Names (length (shown frozen new b).cells) (length (shown frozen new b).functions)) (sym is)
       (load_stands (length (shown frozen new b).functions) (length (shown frozen new b).cells) d (length s.cells) (omega (arith, top))).1
+
+-- what adds none adds one at most
+pub grows_one : (s t : Contents) → Grows 0 s t → Grows 1 s t
+grows_one s t h = record {
+  base = h.base;
+  frozen = h.frozen;
+  functions = h.functions;
+  no_function_lost = h.no_function_lost;
+  no_cell_lost = h.no_cell_lost;
+  kinds = h.kinds;
+  few_added = omega (arith, h.few_added);
+}

@@ -11,6 +11,9 @@ use Rattle.dsl_value.specs.declared.value.Value.{Value}
 use Rattle.dsl_value.specs.declared.value.Value.TheVariants as value
 use Rattle.dsl_value.specs.Pairs.{Pairs, key_cmp, put, dict_of}
 use Rattle.dsl_value.proofs.Places.{sorted_put}
+use Rattle.dsl_value.specs.Changes.{changed as changed_by, NamesIn}
+use Rattle.dsl_value.specs.declared.change.Change.{Change}
+use Rattle.dsl_value.specs.declared.change.Change.TheVariants as change
 use Rattle.dsl_value.specs.Contents.{PlainCell, array, dict, PlainFunction, Contained, Contents, with_cells, cell_at, pushed, with_value, with_pair, without_pair, IsInOrder}
 use Rattle.dsl_value.specs.Parts.{beside}
 use Rattle.dsl_value.specs.Whole.{Names, NamesAll, Stands, Captures, IsWhole, IsKept}
@@ -77,6 +80,12 @@ stands_set cells functions (dict ps) k v n s = (names_put cells functions k v ps
 pub stands_removed : (cells functions : ℕ) (c : PlainCell) (k : List ℕ) → Stands cells functions c → Stands cells functions (without_pair c k)
 stands_removed cells functions (array vs) k s = s
 stands_removed cells functions (dict ps) k s = (all_filter (λ p. Names cells functions p.1) (λ p. not (eq_by_cmp key_cmp k p.0)) ps s.0, entries.is_sorted-where_key key_cmp (λ x. not (eq_by_cmp key_cmp k x)) ps s.1)
+
+pub stands_changed : (cells functions : ℕ) (c : PlainCell) (x : Change) → NamesIn cells functions x → Stands cells functions c → Stands cells functions (changed_by x c)
+stands_changed cells functions c (change.Put i v) n s = stands_put cells functions c i v n s
+stands_changed cells functions c (change.Push v) n s = stands_pushed cells functions c v n s
+stands_changed cells functions c (change.Set k v) n s = stands_set cells functions c k v n s
+stands_changed cells functions c (change.Remove k) n s = stands_removed cells functions c k.now s
 
 pub in_order : (cells functions : ℕ) (c : PlainCell) → Stands cells functions c → IsInOrder c
 in_order cells functions (array vs) s = tt
@@ -170,7 +179,7 @@ kept_function frozen live b f kept few captures =
       };
     }
 
-names_dict : (cells functions : ℕ) (ps sorted : Pairs) → NamesAll cells functions ps → Stands cells functions (dict sorted) → Stands cells functions (dict (dict_of ps sorted))
+pub names_dict : (cells functions : ℕ) (ps sorted : Pairs) → NamesAll cells functions ps → Stands cells functions (dict sorted) → Stands cells functions (dict (dict_of ps sorted))
 names_dict cells functions [] sorted a s = s
 names_dict cells functions (p ∷ ps) sorted a s = names_dict cells functions ps (put p.0 p.1 sorted) a.1 (names_put cells functions p.0 p.1 sorted a.0 s.0, sorted_put p.0 p.1 sorted s.1)
 

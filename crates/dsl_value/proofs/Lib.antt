@@ -1,3 +1,4 @@
+pub mod Counted
 pub mod Fitting
 pub mod Found
 pub mod GivenBack
@@ -6,10 +7,11 @@ pub mod Kept
 pub mod Keyed
 pub mod Layered
 pub mod Levels
-pub mod Made
 pub mod Named
+pub mod Parted
 pub mod Places
 pub mod Plainly
 pub mod Rising
 pub mod Seen
+pub mod Settled
 pub mod Steps

@@ -1,12 +1,11 @@
 -- What is made for a tree names what is there.
-use Rattle.std.proofs.Common.{◌≡◌, ℕ, ◌+◌, ◌<◌, ◌≤◌, List, [], ◌∷◌, ◌++◌, length, refl, sym, ap, subst, ◌∙◌, arith, length-append}
+use Rattle.std.proofs.Common.{◌≡◌, ℕ, ◌+◌, ◌<◌, ◌≤◌, List, [], ◌∷◌, ◌++◌, length, arith, length-append}
 use Rattle.std.specs.List.{AllByRecursion}
 use Rattle.site_base.specs.Data.{Data, null, boolean, number, string, list, dict, Items, no_items, item, Pairs as TreePairs, no_pairs, pair}
 use Rattle.dsl_value.specs.Contents.{PlainCell, array, dict as pairs_cell}
-use Rattle.dsl_value.specs.Pairs.{Pairs, dict_of}
+use Rattle.dsl_value.specs.Pairs.{dict_of}
 use Rattle.dsl_value.specs.Whole.{Names, NamesAll, Stands}
-use Rattle.dsl_value.specs.Loads.{Made, load, load_items, load_pairs}
-use Rattle.dsl_value.specs.declared.value.Value.{Value}
+use Rattle.dsl_value.specs.Loads.{load, load_items, load_pairs}
 use Rattle.dsl_value.proofs.Kept.{all_append, stands_dict}
 
 pub one_longer : {A : Type 0} (xs : List A) (x : A) → length (xs ++ x ∷ []) ≡ length xs + 1

@@ -1,8 +1,8 @@
 -- Stores whose functions are plain syntax.
-use Rattle.std.proofs.Common.{◌≡◌, ℕ, zero, suc, List, [], ◌∷◌, ◌++◌, map, slice_get, Option, Some, None, refl, sym, ap, ◌∙◌}
+use Rattle.std.proofs.Common.{◌≡◌, List, [], ◌∷◌, ◌++◌, map, refl, sym, ap, ◌∙◌}
 use Rattle.std.proofs.lemmas.List.{length-map}
 use Rattle.std.proofs.lemmas.Option.{slice_get-map}
-use Rattle.dsl_value.specs.Contents.{PlainFunction, Contents}
+use Rattle.dsl_value.specs.Contents.{PlainFunction}
 use Rattle.dsl_value.specs.PlainStores.{Closure, closure, PlainStore, plain_store, IsPlainly}
 use Rattle.std.specs.Option.{option_map}
 

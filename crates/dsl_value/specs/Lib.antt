@@ -1,4 +1,6 @@
+pub mod Changes
 pub mod Contents
+pub mod Costs
 pub mod Entering
 pub mod Equality
 pub mod Faults
@@ -6,6 +8,7 @@ pub mod Grows
 pub mod Loading
 pub mod Loads
 pub mod Nests
+pub mod Outcomes
 pub mod Pairs
 pub mod Parts
 pub mod Paths

@@ -1,5 +1,5 @@
 -- Where a walk stands: the arrays and dictionaries that it is inside of.
-use Rattle.std.specs.Prelude.{◌≡◌, ℕ, ◌+◌, ◌-◌, ◌*◌, ◌<◌, ◌≤◌, List, [], ◌∷◌, ◌++◌, map, length, drop, reverse, slice_get, Option, Some, None, Result, Ok, Err, false}
+use Rattle.std.specs.Prelude.{◌≡◌, ℕ, ◌+◌, ◌-◌, ◌*◌, ◌<◌, ◌≤◌, List, [], ◌∷◌, ◌++◌, map, length, drop, slice_get, Option, Some, None, Result, Ok, Err, false}
 use Rattle.std.specs.List.{AllByRecursion}
 use Rattle.site_base.specs.Data.{Data}
 use Rattle.site_base.specs.Data as tree

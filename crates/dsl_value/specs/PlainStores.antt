@@ -1,5 +1,5 @@
 -- A store whose functions are plain syntax.
-use Rattle.std.specs.Prelude.{◌≡◌, ℕ, ◌+◌, List, [], ◌∷◌, ◌++◌, length, map, slice_get, Option, Some}
+use Rattle.std.specs.Prelude.{◌≡◌, ℕ, List, [], ◌∷◌, ◌++◌, length, map, slice_get, Some}
 use Rattle.dsl_syntax.specs.Syntax.{Function}
 use Rattle.dsl_syntax.specs.SyntaxView.{func_view}
 use Rattle.dsl_value.specs.Pairs.{Pairs}

@@ -1,13 +1,35 @@
 // What changes one cell.
 ghost use Rattle.std.specs.Prelude.{◌≡◌, ◌<◌, OnOk, OnErr, IsTrue, length};
+ghost use Rattle.dsl_value.specs.Changes.{changed, FitsCell};
 ghost use Rattle.dsl_value.specs.Contents.{plain, pushed, is_array, is_dict, values_of, IsInOrder, with_value, with_pair, without_pair};
 
 use crate::pairs::{put_pair, remove_pair};
-use crate::{Cell, Value};
+use crate::{Cell, Change, Value};
 use site_base::{OutOfMemory, Text};
 
+/// Changes a cell.
+pub(crate) fn change_cell(cell: &mut Cell, change: Change) -> Result<(), OutOfMemory>
+    requires fits { FitsCell change (plain cell.old) }
+    requires sorted { IsInOrder (plain cell.old) }
+    ensures ok { OnOk result (plain cell.new ≡ changed change.entry (plain cell.old)) }
+    ensures err { OnErr result (plain cell.new ≡ plain cell.old) }
+{
+    match change {
+        Change::Put(place, value) => {
+            put_in(cell, place as usize, value);
+            Ok(())
+        }
+        Change::Push(value) => push_in(cell, value),
+        Change::Set(key, value) => set_in(cell, key, value),
+        Change::Remove(key) => {
+            remove_in(cell, key);
+            Ok(())
+        }
+    }
+}
+
 /// Changes one element of an array.
-pub(crate) fn put_in(cell: &mut Cell, place: usize, value: Value)
+fn put_in(cell: &mut Cell, place: usize, value: Value)
     requires is_array { IsTrue (is_array (plain cell.old)) }
     requires inside { place < length (values_of (plain cell.old)) }
     ensures { plain cell.new ≡ with_value (plain cell.old) place value }
@@ -18,7 +40,7 @@ pub(crate) fn put_in(cell: &mut Cell, place: usize, value: Value)
 }
 
 /// Adds a value at an array's end.
-pub(crate) fn push_in(cell: &mut Cell, value: Value) -> Result<(), OutOfMemory>
+fn push_in(cell: &mut Cell, value: Value) -> Result<(), OutOfMemory>
     requires { IsTrue (is_array (plain cell.old)) }
     ensures ok { OnOk result (plain cell.new ≡ pushed (plain cell.old) value) }
     ensures err { OnErr result (plain cell.new ≡ plain cell.old) }
@@ -33,7 +55,7 @@ pub(crate) fn push_in(cell: &mut Cell, value: Value) -> Result<(), OutOfMemory>
 }
 
 /// Gives a key of a dictionary a value.
-pub(crate) fn set_in(cell: &mut Cell, key: Text, value: Value) -> Result<(), OutOfMemory>
+fn set_in(cell: &mut Cell, key: Text, value: Value) -> Result<(), OutOfMemory>
     requires is_dict { IsTrue (is_dict (plain cell.old)) }
     requires sorted { IsInOrder (plain cell.old) }
     ensures ok { OnOk result (plain cell.new ≡ with_pair (plain cell.old) key value) }
@@ -46,7 +68,7 @@ pub(crate) fn set_in(cell: &mut Cell, key: Text, value: Value) -> Result<(), Out
 }
 
 /// Takes a key's pair out of a dictionary.
-pub(crate) fn remove_in(cell: &mut Cell, key: &str)
+fn remove_in(cell: &mut Cell, key: &str)
     requires is_dict { IsTrue (is_dict (plain cell.old)) }
     requires sorted { IsInOrder (plain cell.old) }
     ensures { plain cell.new ≡ without_pair (plain cell.old) key.now }

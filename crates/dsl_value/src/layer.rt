@@ -1,12 +1,13 @@
 // Cells and functions that several stores may share.
-ghost use Rattle.std.specs.Prelude.{◌≡◌, ◌<◌, ◌++◌, [], ◌∷◌, IfOk, OnOk, OnErr, IsTrue, length, slice_get, Some, map};
-ghost use Rattle.dsl_value.specs.Contents.{Contained, plain, function, with_cell, cell_at, pushed, is_array, is_dict, values_of, IsInOrder, with_value, with_pair, without_pair};
+ghost use Rattle.std.specs.Prelude.{◌≡◌, ◌<◌, ◌++◌, [], ◌∷◌, IfOk, OnOk, OnErr, length, slice_get, Some, map};
+ghost use Rattle.dsl_value.specs.Changes.{changed, FitsCell};
+ghost use Rattle.dsl_value.specs.Contents.{Contained, plain, function, with_cell, cell_at, IsInOrder};
 ghost use Rattle.dsl_value.specs.Parts.{part_of};
 
-use crate::cells::{push_in, put_in, remove_in, set_in};
+use crate::cells::change_cell;
 use crate::part::Part;
-use crate::{Cell, Function, Value};
-use site_base::{OutOfMemory, Text};
+use crate::{Cell, Change, Function};
+use site_base::OutOfMemory;
 use std::alloc::Global;
 use std::marker::Model;
 use std::sync::Arc;
@@ -143,57 +144,16 @@ impl Layer {
         }
     }
 
-    /// Changes one element of an array.
-    pub(crate) fn put(&mut self, cell: usize, place: usize, value: Value) -> Result<(), OutOfMemory>
+    /// Changes a cell.
+    pub(crate) fn change(&mut self, cell: usize, change: Change) -> Result<(), OutOfMemory>
         requires inside { cell < length self.old.cells }
-        requires is_array { IsTrue (is_array (cell_at self.old.cells cell)) }
-        requires place { place < length (values_of (cell_at self.old.cells cell)) }
-        ensures ok { OnOk result (self.new ≡ record { cells = with_cell self.old.cells cell (with_value (cell_at self.old.cells cell) place value); functions = self.old.functions }) }
-        ensures err { OnErr result (self.new ≡ self.old) }
-    {
-        match &mut self.part {
-            Some(part) => put_to(part, cell, place, value),
-            None => unreachable!(),
-        }
-    }
-
-    /// Adds a value at an array's end.
-    pub(crate) fn push(&mut self, cell: usize, value: Value) -> Result<(), OutOfMemory>
-        requires inside { cell < length self.old.cells }
-        requires is_array { IsTrue (is_array (cell_at self.old.cells cell)) }
-        ensures ok { OnOk result (self.new ≡ record { cells = with_cell self.old.cells cell (pushed (cell_at self.old.cells cell) value); functions = self.old.functions }) }
-        ensures err { OnErr result (self.new ≡ self.old) }
-    {
-        match &mut self.part {
-            Some(part) => push_to(part, cell, value),
-            None => unreachable!(),
-        }
-    }
-
-    /// Gives a dictionary's key a value.
-    pub(crate) fn set(&mut self, cell: usize, key: Text, value: Value) -> Result<(), OutOfMemory>
-        requires inside { cell < length self.old.cells }
-        requires is_dict { IsTrue (is_dict (cell_at self.old.cells cell)) }
+        requires fits { FitsCell change (cell_at self.old.cells cell) }
         requires sorted { IsInOrder (cell_at self.old.cells cell) }
-        ensures ok { OnOk result (self.new ≡ record { cells = with_cell self.old.cells cell (with_pair (cell_at self.old.cells cell) key value); functions = self.old.functions }) }
+        ensures ok { OnOk result (self.new ≡ record { cells = with_cell self.old.cells cell (changed change.entry (cell_at self.old.cells cell)); functions = self.old.functions }) }
         ensures err { OnErr result (self.new ≡ self.old) }
     {
         match &mut self.part {
-            Some(part) => set_to(part, cell, key, value),
-            None => unreachable!(),
-        }
-    }
-
-    /// Takes a key's pair out of a dictionary.
-    pub(crate) fn remove(&mut self, cell: usize, key: &str) -> Result<(), OutOfMemory>
-        requires inside { cell < length self.old.cells }
-        requires is_dict { IsTrue (is_dict (cell_at self.old.cells cell)) }
-        requires sorted { IsInOrder (cell_at self.old.cells cell) }
-        ensures ok { OnOk result (self.new ≡ record { cells = with_cell self.old.cells cell (without_pair (cell_at self.old.cells cell) key.now); functions = self.old.functions }) }
-        ensures err { OnErr result (self.new ≡ self.old) }
-    {
-        match &mut self.part {
-            Some(part) => remove_to(part, cell, key),
+            Some(part) => change_in(part, cell, change),
             None => unreachable!(),
         }
     }
@@ -301,59 +261,15 @@ fn copy_function(func: &Function) -> Result<Function, OutOfMemory>
     })
 }
 
-fn put_to(part: &mut Arc<Part>, cell: usize, place: usize, value: Value) -> Result<(), OutOfMemory>
+fn change_in(part: &mut Arc<Part>, cell: usize, change: Change) -> Result<(), OutOfMemory>
     requires inside { cell < length (part_of part.old).cells }
-    requires is_array { IsTrue (is_array (cell_at (part_of part.old).cells cell)) }
-    requires place { place < length (values_of (cell_at (part_of part.old).cells cell)) }
-    ensures ok { OnOk result (part_of part.new ≡ record { cells = with_cell (part_of part.old).cells cell (with_value (cell_at (part_of part.old).cells cell) place value); functions = (part_of part.old).functions }) }
-    ensures err { OnErr result (part_of part.new ≡ part_of part.old) }
-{
-    match Arc::get_mut(part) {
-        Some(part) => {
-            put_in(&mut part.cells[cell], place, value);
-            Ok(())
-        }
-        None => Err(OutOfMemory),
-    }
-}
-
-fn push_to(part: &mut Arc<Part>, cell: usize, value: Value) -> Result<(), OutOfMemory>
-    requires inside { cell < length (part_of part.old).cells }
-    requires is_array { IsTrue (is_array (cell_at (part_of part.old).cells cell)) }
-    ensures ok { OnOk result (part_of part.new ≡ record { cells = with_cell (part_of part.old).cells cell (pushed (cell_at (part_of part.old).cells cell) value); functions = (part_of part.old).functions }) }
-    ensures err { OnErr result (part_of part.new ≡ part_of part.old) }
-{
-    match Arc::get_mut(part) {
-        Some(part) => push_in(&mut part.cells[cell], value),
-        None => Err(OutOfMemory),
-    }
-}
-
-fn set_to(part: &mut Arc<Part>, cell: usize, key: Text, value: Value) -> Result<(), OutOfMemory>
-    requires inside { cell < length (part_of part.old).cells }
-    requires is_dict { IsTrue (is_dict (cell_at (part_of part.old).cells cell)) }
+    requires fits { FitsCell change (cell_at (part_of part.old).cells cell) }
     requires sorted { IsInOrder (cell_at (part_of part.old).cells cell) }
-    ensures ok { OnOk result (part_of part.new ≡ record { cells = with_cell (part_of part.old).cells cell (with_pair (cell_at (part_of part.old).cells cell) key value); functions = (part_of part.old).functions }) }
+    ensures ok { OnOk result (part_of part.new ≡ record { cells = with_cell (part_of part.old).cells cell (changed change.entry (cell_at (part_of part.old).cells cell)); functions = (part_of part.old).functions }) }
     ensures err { OnErr result (part_of part.new ≡ part_of part.old) }
 {
     match Arc::get_mut(part) {
-        Some(part) => set_in(&mut part.cells[cell], key, value),
-        None => Err(OutOfMemory),
-    }
-}
-
-fn remove_to(part: &mut Arc<Part>, cell: usize, key: &str) -> Result<(), OutOfMemory>
-    requires inside { cell < length (part_of part.old).cells }
-    requires is_dict { IsTrue (is_dict (cell_at (part_of part.old).cells cell)) }
-    requires sorted { IsInOrder (cell_at (part_of part.old).cells cell) }
-    ensures ok { OnOk result (part_of part.new ≡ record { cells = with_cell (part_of part.old).cells cell (without_pair (cell_at (part_of part.old).cells cell) key.now); functions = (part_of part.old).functions }) }
-    ensures err { OnErr result (part_of part.new ≡ part_of part.old) }
-{
-    match Arc::get_mut(part) {
-        Some(part) => {
-            remove_in(&mut part.cells[cell], key);
-            Ok(())
-        }
+        Some(part) => change_cell(&mut part.cells[cell], change),
         None => Err(OutOfMemory),
     }
 }

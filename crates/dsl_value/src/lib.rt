@@ -1,14 +1,19 @@
 //! The values of the configuration language, and the stores of cells that arrays and dictionaries lie in.
 //!
-//! In reading order: values (`value`), cells with what changes one (`cell`, `cells`, `pairs`), functions
+//! In reading order: values (`value`), cells with what changes one (`cell`, `change`, `cells`, `pairs`), functions
 //! (`function`), cells and functions that stores share (`part`, `layer`, `frozen`), the store (`store`,
 //! `set_fault`), when values are equal (`equality`), trees that are put in (`loading`), and the trees
-//! of values (`walking`, with `frame`, `frames`, `nest`, `path`, `turn` and `tree_fault`). Laws of stores stand
-//! in `laws`.
+//! of values (`walking`, with `frame`, `frames`, `nest`, `path`, `turn` and `tree_fault`), and what trees cost
+//! (`costs`). What operators and the library make for a store stands in
+//! `making` and `acting` (with `priced` and `refusal`),
+//! and laws of stores in `laws`.
 #![tactic(auto)]
 
+mod acting;
 mod cell;
 mod cells;
+mod change;
+mod costs;
 mod equality;
 mod frame;
 mod frames;
@@ -17,10 +22,13 @@ mod function;
 mod laws;
 mod layer;
 mod loading;
+mod making;
 mod nest;
 mod pairs;
 mod part;
 mod path;
+mod priced;
+mod refusal;
 mod set_fault;
 mod store;
 mod tree_fault;
@@ -28,10 +36,16 @@ mod turn;
 mod value;
 mod walking;
 
+pub use acting::Act;
 pub use cell::Cell;
+pub use change::Change;
+pub use costs::tree_cost;
 pub use equality::equal;
 pub use function::Function;
-pub use laws::{growth_adds_up, stores_are_plain};
+pub use laws::{growth_adds_up, stores_are_plain, trees_cost_what_was_counted};
+pub use making::Made;
+pub use priced::Priced;
+pub use refusal::Refusal;
 pub use set_fault::SetFault;
 pub use store::Store;
 pub use tree_fault::TreeFault;

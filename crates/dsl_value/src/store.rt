@@ -1,9 +1,10 @@
 // The store.
-ghost use Rattle.std.specs.Prelude.{◌≡◌, ◌<◌, ◌≤◌, ◌+◌, false, ◌^◌, ◌++◌, [], ◌∷◌, ◌↔◌, IfOk, IfErr, OnOk, OnErr, IsErrOf, IsTrue, IfSome, IfNone, Some, None, Ok, List, ℕ, length};
+ghost use Rattle.std.specs.Prelude.{◌≡◌, ◌<◌, ◌≤◌, ◌+◌, false, ◌^◌, ◌++◌, [], ◌∷◌, ◌↔◌, IfOk, IfErr, OnOk, OnErr, IsErrOf, IsTrue, IfSome, IfNone, Some, None, Ok, List, ℕ, length, T};
 ghost use Rattle.std.specs.List.{AllByRecursion};
 ghost use Rattle.std.specs.Arc.{arc_value};
+ghost use Rattle.dsl_value.specs.Changes.{changed, FitsCell, NamesIn};
 ghost use Rattle.dsl_value.specs.Contents.{Contents, array, dict, plain, function, function_at, cell_at, with_cell, with_cells, pushed, is_array, is_dict, values_of, pairs_of, with_value, with_pair, without_pair, IsInOrder};
-ghost use Rattle.dsl_value.specs.Pairs.{find, dict_of, last_of};
+ghost use Rattle.dsl_value.specs.Pairs.{find, dict_of, is_sorted, last_of};
 ghost use Rattle.dsl_value.specs.Walks.{Gives, tree_walked};
 ghost use Rattle.dsl_value.specs.Grows.{Grows};
 ghost use Rattle.dsl_value.specs.Loads.{load, grown, given, cost, Fits};
@@ -16,7 +17,7 @@ use crate::layer::{Layer, copy_cell};
 use crate::loading::make_tree;
 use crate::pairs::{sorted_pairs, value_of};
 use crate::walking::walk_value;
-use crate::{Cell, Function, SetFault, TreeFault, Value};
+use crate::{Cell, Change, Function, SetFault, TreeFault, Value};
 use dsl_syntax::Func;
 use site_base::{OutOfMemory, Row, Text, Tree};
 use std::alloc::Global;
@@ -199,6 +200,20 @@ impl Store {
         Ok(Value::Ref(number))
     }
 
+    /// Makes a cell of a dictionary whose keys rise, and gives the value that names it.
+    pub fn sorted_dict(&mut self, pairs: Row<(Text, Value)>) -> Result<Value, OutOfMemory>
+        requires stands { NamesAll (length self.old.cells) (length self.old.functions) pairs }
+        requires sorted { T (is_sorted pairs) }
+        ensures value { IfOk result (λ v. v ≡ Value.Ref (length self.old.cells)) }
+        ensures ok { OnOk result (self.new ≡ with_cells self.old (self.old.cells ++ dict pairs ∷ [])) }
+        ensures grows { OnOk result (Grows 1 self.old self.new) }
+        ensures err { OnErr result (self.new ≡ self.old) }
+    {
+        let number = next_number(self.frozen.len(), self.live.len())?;
+        self.live.add(self.alloc, Cell::Dict(pairs.into_vec()))?;
+        Ok(Value::Ref(number))
+    }
+
     /// The value of a dictionary's key; `None` where the key is absent.
     #[tactic(auto, using(crate::proofs::Found::cell_stands))]
     pub fn get(&self, cell: u32, key: &str) -> Option<&Value>
@@ -245,6 +260,25 @@ impl Store {
         walk_value(self.alloc, self, value)
     }
 
+    /// Changes a cell. `Frozen` exactly where the cell is frozen.
+    pub fn change(&mut self, cell: u32, change: Change) -> Result<(), SetFault>
+        requires inside { cell < length self.old.cells }
+        requires fits { FitsCell change (cell_at self.old.cells cell) }
+        requires stands { NamesIn (length self.old.cells) (length self.old.functions) change }
+        ensures frozen { IsErrOf result (SetFault.Frozen cell) ↔ (cell < self.old.base) }
+        ensures fault { IfErr result (Concerns cell) }
+        ensures ok { OnOk result (self.new ≡ with_cells self.old (with_cell self.old.cells cell (changed change.entry (cell_at self.old.cells cell)))) }
+        ensures grows { OnOk result (Grows 0 self.old self.new) }
+        ensures err { OnErr result (self.new ≡ self.old) }
+    {
+        if is_frozen(cell, self.base) {
+            return Err(SetFault::Frozen { cell });
+        }
+        let at = cell as usize - self.frozen.len();
+        self.live.change(at, change)?;
+        Ok(())
+    }
+
     /// Gives a dictionary's key a value. `Frozen` exactly where the cell is frozen.
     pub fn set(&mut self, cell: u32, key: Text, value: Value) -> Result<(), SetFault>
         requires inside { cell < length self.old.cells }
@@ -256,12 +290,7 @@ impl Store {
         ensures grows { OnOk result (Grows 0 self.old self.new) }
         ensures err { OnErr result (self.new ≡ self.old) }
     {
-        if is_frozen(cell, self.base) {
-            return Err(SetFault::Frozen { cell });
-        }
-        let place = cell as usize - self.frozen.len();
-        self.live.set(place, key, value)?;
-        Ok(())
+        self.change(cell, Change::Set(key, value))
     }
 
     /// Changes one element of an array. `Frozen` exactly where the cell is frozen.
@@ -276,12 +305,7 @@ impl Store {
         ensures grows { OnOk result (Grows 0 self.old self.new) }
         ensures err { OnErr result (self.new ≡ self.old) }
     {
-        if is_frozen(cell, self.base) {
-            return Err(SetFault::Frozen { cell });
-        }
-        let at = cell as usize - self.frozen.len();
-        self.live.put(at, place as usize, value)?;
-        Ok(())
+        self.change(cell, Change::Put(place, value))
     }
 
     /// Adds a value at an array's end. `Frozen` exactly where the cell is frozen.
@@ -295,12 +319,7 @@ impl Store {
         ensures grows { OnOk result (Grows 0 self.old self.new) }
         ensures err { OnErr result (self.new ≡ self.old) }
     {
-        if is_frozen(cell, self.base) {
-            return Err(SetFault::Frozen { cell });
-        }
-        let at = cell as usize - self.frozen.len();
-        self.live.push(at, value)?;
-        Ok(())
+        self.change(cell, Change::Push(value))
     }
 
     /// Takes a key's pair out of a dictionary; nothing changes where the key is absent. `Frozen` exactly
@@ -314,12 +333,7 @@ impl Store {
         ensures grows { OnOk result (Grows 0 self.old self.new) }
         ensures err { OnErr result (self.new ≡ self.old) }
     {
-        if is_frozen(cell, self.base) {
-            return Err(SetFault::Frozen { cell });
-        }
-        let at = cell as usize - self.frozen.len();
-        self.live.remove(at, key)?;
-        Ok(())
+        self.change(cell, Change::Remove(key))
     }
 }
 

@@ -1,4 +1,4 @@
-use Rattle.std.proofs.Common.{◌<◌, ◌≤◌, length, refl, sym, ap, ◌∙◌, arith}
+use Rattle.std.proofs.Common.{refl, ◌∙◌, arith}
 use Rattle.dsl_value.proofs.Layered.{cell_here, cell_later, cells_later, none_beyond}
 use Rattle.dsl_value.proofs.frozen.cell_among.Goals as goal
 

@@ -1,12 +1,11 @@
 use Rattle.std.proofs.Common.{◌≡◌, ◌+◌, ◌*◌, [], IfOk, map, sym, ap, subst, ◌∙◌, arith}
-use Rattle.site_base.specs.Data.{list, dict}
 use Rattle.site_base.specs.View.{view, items_view, pairs_view}
 use Rattle.site_base.specs.Weight.{weight, items_weight, pairs_weight}
 use Rattle.site_base.proofs.Views.{view-List, view-Dict}
 use Rattle.site_base.proofs.Weights.{weight_list, weight_dict}
 use Rattle.dsl_value.specs.Contents.{plain}
 use Rattle.dsl_value.specs.Loading.{loaded, array_of, dict_of_pairs, value_of}
-use Rattle.dsl_value.proofs.Made.{array_begun, dict_begun, less_if}
+use Rattle.dsl_value.proofs.Parted.{array_begun, dict_begun, less_if}
 use Rattle.dsl_value.proofs.loading.enter.Goals as goal
 
 pub returns-in_ok-with_capacity-in-List-clause-value : goal.returns-in_ok-with_capacity-in-List-clause-value

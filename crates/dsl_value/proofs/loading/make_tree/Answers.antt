@@ -1,9 +1,8 @@
 use Rattle.std.proofs.Common.{◌≡◌, ◌+◌, ◌*◌, map, sym, ap, ◌∙◌, arith}
-use Rattle.site_base.specs.View.{view}
 use Rattle.site_base.specs.Weight.{weight}
 use Rattle.dsl_value.specs.Contents.{plain}
 use Rattle.dsl_value.specs.Loading.{among, filled, wrapped, value_of, work_in, work_of, work_outside}
-use Rattle.dsl_value.proofs.Made.{wrapped_end, work_end}
+use Rattle.dsl_value.proofs.Parted.{wrapped_end, work_end}
 use Rattle.dsl_value.proofs.loading.make_tree.Goals as goal
 
 pub loop-step-smaller-in-Inside : goal.loop-step-smaller-in-Inside

@@ -1,7 +1,7 @@
 -- Arrays and dictionaries that are loaded part by part.
 use Rattle.std.proofs.Common.{◌≡◌, ℕ, ◌+◌, ◌*◌, ◌<◌, ◌≤◌, List, [], ◌∷◌, ◌++◌, length, refl, sym, ap, ◌∙◌, arith, length-append, Result, Ok, Err, IfOk}
 use Rattle.std.proofs.lemmas.List.{append_assoc, append-nil}
-use Rattle.site_base.specs.Data.{Data, list, dict, Items, no_items, item, Pairs as TreePairs, no_pairs, pair}
+use Rattle.site_base.specs.Data.{Data, list, dict, Items, item, Pairs as TreePairs, pair}
 use Rattle.site_base.specs.View.{view, items_view, pairs_view}
 use Rattle.site_base.specs.Weight.{weight, items_weight, pairs_weight}
 use Rattle.site_base.specs.declared.memory.OutOfMemory.{OutOfMemory}

@@ -1,0 +1,9 @@
+// Values with what they cost.
+use crate::Value;
+
+/// What a call gave, with the units that it cost.
+#[derive(Debug, Drop)]
+pub struct Priced {
+    pub value: Value,
+    pub units: u64,
+}
