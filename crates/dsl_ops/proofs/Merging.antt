@@ -1,6 +1,6 @@
 -- Pairs that are put into sorted ones.
-use Rattle.std.proofs.Common.{◌≡◌, Bool, true, false, cond, ◌&&◌, T, List, [], ◌∷◌, ◌++◌, Option, Some, None, refl, sym, ap, subst, ◌∙◌, ℕ}
-use Rattle.std.specs.Ordering.{is_lt, is_eq, eq_by_cmp}
+use Rattle.std.proofs.Common.{◌≡◌, Bool, true, false, cond, ◌&&◌, T, List, [], ◌∷◌, ◌++◌, Option, Some, None, length, refl, sym, ap, subst, ◌∙◌, arith, ℕ}
+use Rattle.std.specs.Ordering.{is_lt, is_eq, eq_by_cmp, match_ordering, ordering_reverse}
 use Rattle.std.specs.FinMap.Entries as entries
 use Rattle.std.specs.Option.{option_or}
 use Rattle.std.specs.declared.cmp.Ordering.{Ordering}
@@ -11,11 +11,6 @@ use Rattle.dsl_value.specs.declared.value.Value.{Value}
 use Rattle.dsl_ops.specs.Laws.{IsMerged}
 use Rattle.dsl_ops.specs.Table.{merged}
 use Rattle.dsl_value.proofs.Places.{same_key, put_entry, sorted_put}
-
--- of two parts the first goes in before the second
-pub dict_append : (ps qs sorted : Pairs) → dict_of (ps ++ qs) sorted ≡ dict_of qs (dict_of ps sorted)
-dict_append [] qs sorted = refl
-dict_append (p ∷ ps) qs sorted = dict_append ps qs (put p.0 p.1 sorted)
 
 first : (a b : Bool) → T (a && b) → T a
 first true b p = tt
@@ -68,9 +63,86 @@ or_none (Some v) = refl
 pub dict_of_sorted : (ps : Pairs) → T (is_sorted ps) → dict_of ps [] ≡ ps
 dict_of_sorted ps h = entries.same_entries key_cmp nat_list_cmp_total same_key (dict_of ps []) ps (dict_of-sorted ps [] tt) h (λ q. find_dict_of q ps [] h ∙ or_none (find q ps))
 
--- what is made of the pairs of both
-pub dict_of_both : (left right : Pairs) → T (is_sorted left) → dict_of (left ++ right) [] ≡ dict_of right left
-dict_of_both left right h = dict_append left right [] ∙ ap (dict_of right) (dict_of_sorted left h)
+-- ---- two fronts
+
+both : (a b : Bool) → T a → T b → T (a && b)
+both true b p q = q
+both false b p q = absurd p
+
+is_less : (o : Ordering) → T (is_lt o) → o ≡ Less
+is_less Less p = refl
+is_less Equal p = absurd p
+is_less Greater p = absurd p
+
+below_less : (a b : List ℕ) (ps : Pairs) → key_cmp a b ≡ Less → T (entries.below_all key_cmp b ps) → T (entries.below_all key_cmp a ps)
+below_less a b [] lt h = tt
+below_less a b (p ∷ ps) lt h =
+    both (is_lt (key_cmp a p.0)) (entries.below_all key_cmp a ps)
+    (subst (λ o. T (is_lt o)) (sym (nat_list_cmp_total.trans a b p.0 lt (is_less _ (first _ _ h)))) tt)
+    (below_less a b ps lt (second (is_lt (key_cmp b p.0)) _ h))
+
+turned : (a b : List ℕ) (o : Ordering) → key_cmp a b ≡ o → key_cmp b a ≡ ordering_reverse o
+turned a b o e = nat_list_cmp_total.antisymm b a ∙ ap ordering_reverse e
+
+put_by : (k : List ℕ) (v : Value) (p : List ℕ × Value) (ps : Pairs) (o : Ordering) → key_cmp k p.0 ≡ o → put k v (p ∷ ps) ≡ match_ordering o ((k, v) ∷ p ∷ ps) ((p.0, v) ∷ ps) (p ∷ put k v ps)
+put_by k v p ps o e = ap (λ x. match_ordering x ((k, v) ∷ p ∷ ps) ((p.0, v) ∷ ps) (p ∷ put k v ps)) e
+
+-- a pair stays first where all that are put in go behind it
+stays_first : (p : List ℕ × Value) (ps more : Pairs) → T (entries.below_all key_cmp p.0 more) → dict_of more (p ∷ ps) ≡ p ∷ dict_of more ps
+stays_first p ps [] h = refl
+stays_first p ps (q ∷ more) h =
+    ap (dict_of more) (put_by q.0 q.1 p ps Greater (turned p.0 q.0 Less (is_less _ (first _ _ h))))
+    ∙ stays_first p (put q.0 q.1 ps) more (second (is_lt (key_cmp p.0 q.0)) _ h)
+
+module _ (a b : List ℕ × Value) (left right : Pairs) (sorted : T (is_sorted (b ∷ right))) where
+  pub left_first : key_cmp a.0 b.0 ≡ Less → merged (a ∷ left) (b ∷ right) ≡ a ∷ merged left (b ∷ right)
+  left_first lt = stays_first a left (b ∷ right) (both (is_lt (key_cmp a.0 b.0)) _ (subst (λ o. T (is_lt o)) (sym lt) tt) (below_less a.0 b.0 right lt (first _ _ sorted)))
+
+  pub right_first : key_cmp a.0 b.0 ≡ Greater → merged (a ∷ left) (b ∷ right) ≡ b ∷ merged (a ∷ left) right
+  right_first gt = ap (dict_of right) (put_by b.0 b.1 a left Less (turned a.0 b.0 Greater gt)) ∙ stays_first b (a ∷ left) right (first _ _ sorted)
+
+  pub right_wins : key_cmp a.0 b.0 ≡ Equal → merged (a ∷ left) (b ∷ right) ≡ b ∷ merged left right
+  right_wins eq =
+      ap (dict_of right) (put_by b.0 b.1 a left Equal (turned a.0 b.0 Equal eq) ∙ ap (λ k. (k, b.1) ∷ left) (same_key a.0 b.0 eq))
+      ∙ stays_first b left right (first _ _ sorted)
+
+abbrev Pair : Type 0
+Pair = List ℕ × Value
+
+-- the same of dictionaries that have such fronts
+pub next_less : (left right behind beyond : Pairs) (a b : Pair) → left ≡ a ∷ behind → right ≡ b ∷ beyond → T (is_sorted right) → key_cmp a.0 b.0 ≡ Less → merged left right ≡ a ∷ merged behind right
+next_less left right behind beyond a b e f sorted lt =
+    (λ i. merged (e i) (f i)) ∙ left_first a b behind beyond (subst (λ ps. T (is_sorted ps)) f sorted) lt ∙ ap (λ ps. a ∷ merged behind ps) (sym f)
+
+pub next_equal : (left right behind beyond : Pairs) (a b : Pair) → left ≡ a ∷ behind → right ≡ b ∷ beyond → T (is_sorted right) → key_cmp a.0 b.0 ≡ Equal → merged left right ≡ b ∷ merged behind beyond
+next_equal left right behind beyond a b e f sorted eq =
+    (λ i. merged (e i) (f i)) ∙ right_wins a b behind beyond (subst (λ ps. T (is_sorted ps)) f sorted) eq
+
+pub next_greater : (left right behind beyond : Pairs) (a b : Pair) → left ≡ a ∷ behind → right ≡ b ∷ beyond → T (is_sorted right) → key_cmp a.0 b.0 ≡ Greater → merged left right ≡ b ∷ merged left beyond
+next_greater left right behind beyond a b e f sorted gt =
+    (λ i. merged (e i) (f i)) ∙ right_first a b behind beyond (subst (λ ps. T (is_sorted ps)) f sorted) gt ∙ ap (λ ps. b ∷ merged ps beyond) (sym e)
+
+pub beyond_sorted : (right beyond : Pairs) (b : Pair) → right ≡ b ∷ beyond → T (is_sorted right) → T (is_sorted beyond)
+beyond_sorted right beyond b f sorted = second (entries.below_all key_cmp b.0 beyond) _ (subst (λ ps. T (is_sorted ps)) f sorted)
+
+-- nothing is left of one
+nothing : (ps : Pairs) → length ps ≡ 0 → ps ≡ []
+nothing [] none = refl
+nothing (p ∷ ps) none = absurd (omega (arith, none))
+
+pub next_left : (left right behind : Pairs) (a : Pair) → left ≡ a ∷ behind → length right ≡ 0 → merged left right ≡ a ∷ merged behind right
+next_left left right behind a e none = (λ i. merged (e i) (nothing right none i)) ∙ ap (λ ps. a ∷ merged behind ps) (sym (nothing right none))
+
+pub next_right : (left right beyond : Pairs) (b : Pair) → length left ≡ 0 → right ≡ b ∷ beyond → T (is_sorted right) → merged left right ≡ b ∷ merged left beyond
+next_right left right beyond b none f sorted =
+    ap (λ ps. merged ps right) (nothing left none) ∙ dict_of_sorted right sorted ∙ f
+    ∙ sym (ap (λ ps. b ∷ ps) (ap (λ ps. merged ps beyond) (nothing left none) ∙ dict_of_sorted beyond (beyond_sorted right beyond b f sorted)))
+
+pub next_none : (left right : Pairs) → length left ≡ 0 → length right ≡ 0 → merged left right ≡ []
+next_none left right none too = (λ i. merged (nothing left none i) (nothing right too i))
+
+pub merges_in_order : (left right : Pairs) → T (is_sorted left) → T (is_sorted (merged left right))
+merges_in_order left right h = dict_of-sorted right left h
 
 pub merges : (left right : Pairs) → T (is_sorted left) → T (is_sorted right) → IsMerged left right (merged left right)
 merges left right h k = record { values = λ key. find_dict_of key right left k; sorted = dict_of-sorted right left h }

@@ -1,4 +1,6 @@
 pub mod Laws
+pub mod Members
 pub mod Operands
 pub mod Outcomes
 pub mod Table
+pub mod Units

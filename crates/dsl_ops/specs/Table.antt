@@ -19,7 +19,7 @@ use Rattle.dsl_value.specs.declared.value.Value.{Value}
 use Rattle.dsl_value.specs.declared.value.Value.TheVariants as value
 use Rattle.dsl_ops.specs.declared.op_fault.OpFault.TheVariants.{WrongType, Overflow, DivZero}
 use Rattle.dsl_ops.specs.Operands.{PlainOperand, null, boolean, number, string, array, dictionary, function, operand, is_true}
-use Rattle.dsl_ops.specs.Outcomes.{Outcome, gives, makes, faults, or_overflow, or_wrong_type}
+use Rattle.dsl_ops.specs.Outcomes.{Outcome, gives, makes, refuses, or_overflow, or_wrong_type}
 
 -- ---- texts
 
@@ -49,7 +49,7 @@ abbrev pub are_joined : PlainOperand → PlainOperand → Bool
 are_joined a b = (is_string a || is_string b) && (has_text a && has_text b)
 
 abbrev pub joined : PlainOperand → PlainOperand → Outcome
-joined a b = if are_joined a b then gives (value.Str (text_of a ++ text_of b)) else faults WrongType
+joined a b = if are_joined a b then gives (value.Str (text_of a ++ text_of b)) else refuses WrongType
 
 -- ---- `+`
 
@@ -61,7 +61,7 @@ kept (number n) = gives (value.Number n)
 kept (string t) = gives (value.Str t)
 kept (array vs) = makes (cell.array vs)
 kept (dictionary ps) = makes (cell.dict ps)
-kept (function k) = faults WrongType
+kept (function k) = refuses WrongType
 
 -- the pairs of both, the right one's at the keys that both have
 abbrev pub merged : Pairs → Pairs → Pairs
@@ -86,7 +86,7 @@ numbers a b = None
 
 abbrev pub of_both : (ℤ → ℤ → Outcome) → Option (ℤ × ℤ) → Outcome
 of_both f (Some p) = f p.0 p.1
-of_both f None = faults WrongType
+of_both f None = refuses WrongType
 
 -- the left elements that equal none of the right
 abbrev pub without : (Value → Value → Bool) → List Value → List Value → List Value
@@ -103,10 +103,10 @@ abbrev pub product : PlainOperand → PlainOperand → Outcome
 product a b = of_both (λ x y. or_overflow (product_of x y)) (numbers a b)
 
 abbrev pub quotient : PlainOperand → PlainOperand → Outcome
-quotient a b = of_both (λ x y. if is_zero y then faults DivZero else or_overflow (quotient_of x y)) (numbers a b)
+quotient a b = of_both (λ x y. if is_zero y then refuses DivZero else or_overflow (quotient_of x y)) (numbers a b)
 
 abbrev pub rest : PlainOperand → PlainOperand → Outcome
-rest a b = of_both (λ x y. if is_zero y then faults DivZero else or_overflow (rest_of x y)) (numbers a b)
+rest a b = of_both (λ x y. if is_zero y then refuses DivZero else or_overflow (rest_of x y)) (numbers a b)
 
 -- ---- `<<`, `>>`, `&`, `^`, `|`
 
@@ -132,7 +132,7 @@ places (negsuc n) = None
 
 abbrev pub shifted : (ℕ → Outcome) → Option ℕ → Outcome
 shifted f (Some n) = f n
-shifted f None = faults Overflow
+shifted f None = refuses Overflow
 
 abbrev pub left_shift : PlainOperand → PlainOperand → Outcome
 left_shift a b = of_both (λ x y. shifted (λ n. or_overflow (thousandths_of (x *ℤ pos (2 ^ n)))) (places y)) (wholes a b)
@@ -195,15 +195,15 @@ binary_outcome cells bin.Or l r = gives (if is_true (operand cells l) then l els
 -- a number as it is
 abbrev pub itself : PlainOperand → Outcome
 itself (number n) = gives (value.Number n)
-itself o = faults WrongType
+itself o = refuses WrongType
 
 abbrev pub negation : PlainOperand → Outcome
 negation (number n) = or_overflow (difference_of (pos 0) n)
-negation o = faults WrongType
+negation o = refuses WrongType
 
 abbrev pub of_whole : (ℤ → Outcome) → Option ℤ → Outcome
 of_whole f (Some n) = f n
-of_whole f None = faults WrongType
+of_whole f None = refuses WrongType
 
 abbrev pub complement : PlainOperand → Outcome
 complement o = of_whole (λ n. or_overflow (thousandths_of (int_bit_not w64 n))) (whole o)

@@ -1,25 +1,24 @@
 // The operators between two operands.
-ghost use Rattle.std.specs.Prelude.{◌≡◌, ◌<◌, ◌^◌, length, IfOk, OnOk, OnErr, ℕ, ℤ, Bool, List, T, if◌then◌else◌};
+ghost use Rattle.std.specs.Prelude.{◌≡◌, ◌<◌, length, IfOk, OnOk, OnErr, ℕ, if◌then◌else◌};
+ghost use Rattle.dsl_value.specs.Grows.{Grows};
+ghost use Rattle.dsl_value.specs.Outcomes.{Answered, StandsMade};
 ghost use Rattle.dsl_value.specs.Whole.{Names};
 ghost use Rattle.dsl_ops.specs.Operands.{operand};
-ghost use Rattle.dsl_ops.specs.Outcomes.{Gives, StandsMade, gives, after, answer, IsUnlessMemory};
-ghost use Rattle.dsl_ops.specs.Table.{binary_outcome, merged, without};
-ghost use Rattle.dsl_ops.specs.Laws.{IsMerged, IsWithout, IsRoundedDown};
-ghost use Rattle.std.specs.Int.{int_shr};
-ghost use Rattle.dsl_value.specs.Pairs.{Pairs, is_sorted};
-ghost use Rattle.dsl_value.specs.declared.value.Value.{Value};
+ghost use Rattle.dsl_ops.specs.Outcomes.{Gives, Refused, gives, after, answer, IsUnlessMemory};
+ghost use Rattle.dsl_ops.specs.Table.{binary_outcome};
+ghost use Rattle.dsl_ops.specs.Units.{binary_units};
 
 use crate::OpFault;
 use crate::arithmetic::{over, rest_of, times};
 use crate::bits::{bits_and, bits_or, bits_xor, shift_left, shift_right};
 use crate::comparison::{greater, greater_equal, less, less_equal};
 use crate::joining::plus;
-use crate::made::{Made, made_number, made_truth, put_in};
+use crate::made::{made_number, made_truth};
 use crate::membership::{is_in, is_not_in, minus_or_without};
 use crate::operand::operand_of;
 use crate::truths::truth;
 use dsl_syntax::BinOp;
-use dsl_value::{Store, Value, equal};
+use dsl_value::{Made, Priced, Refusal, Store, Value, equal};
 use std::alloc::Global;
 
 /// What an operator between two operands gives (Icinga 2 documentation, Language Reference, Operators). A
@@ -29,6 +28,7 @@ use std::alloc::Global;
 /// `WrongType` where the operator isn't for operands of these types, `Overflow` where a number is out of
 /// range or a shift isn't by 0 to 62 places, `DivZero` where the divisor is 0, and `OutOfMemory`. The
 /// types are looked at first.
+#[tactic(auto, using(crate::proofs::Answering::answer_gives, crate::proofs::Answering::after_gives))]
 pub fn binary(
     alloc: Global,
     op: BinOp,
@@ -41,13 +41,44 @@ pub fn binary(
     ensures answer { IsUnlessMemory result (answer (length store.old.cells) (binary_outcome store.old.cells op left.now right.now)) }
     ensures names { IfOk result (Names (length store.new.cells) (length store.new.functions)) }
     ensures ok { OnOk result (store.new ≡ after store.old (binary_outcome store.old.cells op left.now right.now)) }
+    ensures grows { OnOk result (Grows 1 store.old store.new) }
     ensures err { OnErr result (store.new ≡ store.old) }
-    ensures merges { (left right : Pairs) → T (is_sorted left) → T (is_sorted right) → IsMerged left right (merged left right) }
-    ensures differs { (same : Value → Value → Bool) (left right : List Value) → IsWithout same right left (without same right left) }
-    ensures rounds_down { (whole : ℤ) (places : ℕ) → IsRoundedDown whole (2 ^ places) (int_shr whole places) }
 {
     let made = made_by(alloc, op, left, right, store)?;
-    Ok(put_in(made, store)?)
+    Ok(made.put_in(store)?)
+}
+
+/// What [`binary`] gives, with what it costs. A text that is made costs its bytes, a new array or dictionary
+/// one unit and one for each element or pair, and all else nothing. `SpaceLimit` where that is more
+/// than the units that are left; the faults of [`binary`] come first.
+#[tactic(auto, using(crate::proofs::Answering::answer_gives, crate::proofs::Answering::after_gives))]
+pub fn binary_within(
+    alloc: Global,
+    op: BinOp,
+    left: &Value,
+    right: &Value,
+    units: u64,
+    store: &mut Store,
+) -> Result<Priced, Refusal<OpFault>>
+    requires left { Names (length store.old.cells) (length store.old.functions) left.now }
+    requires right { Names (length store.old.cells) (length store.old.functions) right.now }
+    ensures answer { Answered Refused units (length store.old.cells) (binary_outcome store.old.cells op left.now right.now) (binary_units store.old.cells op left.now right.now) result }
+    ensures names { IfOk result (λ p. Names (length store.new.cells) (length store.new.functions) p.value) }
+    ensures ok { OnOk result (store.new ≡ after store.old (binary_outcome store.old.cells op left.now right.now)) }
+    ensures grows { OnOk result (Grows 1 store.old store.new) }
+    ensures err { OnErr result (store.new ≡ store.old) }
+{
+    let made = match made_by(alloc, op, left, right, store) {
+        Ok(made) => made,
+        Err(fault) => return Err(Refusal::Fault(fault)),
+    };
+    let Some(cost) = made.units_within(units) else {
+        return Err(Refusal::SpaceLimit);
+    };
+    match made.put_in(store) {
+        Ok(value) => Ok(Priced { value, units: cost }),
+        Err(_) => Err(Refusal::Fault(OpFault::OutOfMemory)),
+    }
 }
 
 /// What an operator makes.
@@ -60,7 +91,7 @@ fn made_by(
 ) -> Result<Made, OpFault>
     requires left { Names (length store.now.cells) (length store.now.functions) left.now }
     requires right { Names (length store.now.cells) (length store.now.functions) right.now }
-    ensures gives { Gives result (binary_outcome store.now.cells op left.now right.now) }
+    ensures gives { Gives result (binary_outcome store.now.cells op left.now right.now) (binary_units store.now.cells op left.now right.now) }
     ensures stands { IfOk result (StandsMade (length store.now.cells) (length store.now.functions)) }
 {
     let a = operand_of(left, store);
@@ -91,7 +122,7 @@ fn made_by(
 
 /// A copy of the first value where the test holds, else of the second.
 fn chosen(test: bool, first: &Value, second: &Value) -> Result<Made, OpFault>
-    ensures gives { Gives result (gives (if test then first.now else second.now)) }
+    ensures gives { Gives result (gives (if test then first.now else second.now)) 0 }
     ensures stands { (cells functions : ℕ) → Names cells functions first.now → Names cells functions second.now → IfOk result (StandsMade cells functions) }
 {
     let value = if test { first } else { second };

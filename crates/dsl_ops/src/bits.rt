@@ -11,7 +11,7 @@ use crate::operand::Operand;
 use site_base::Num;
 
 /// The whole number that so many thousandths are.
-fn part_of(thousandths: i64) -> Option<i64>
+pub(crate) fn part_of(thousandths: i64) -> Option<i64>
     ensures { result ≡ whole_part thousandths }
 {
     if thousandths % 1000 == 0 {

@@ -1,15 +1,17 @@
 // What `+` joins.
-ghost use Rattle.std.specs.Prelude.{◌≡◌, ◌<◌, ◌++◌, IfOk, OnOk, ℕ, T, []};
-ghost use Rattle.dsl_value.specs.Pairs.{dict_of, is_sorted};
+ghost use Rattle.std.specs.Prelude.{◌≡◌, ◌<◌, ◌++◌, IfOk, OnOk, ℕ};
 ghost use Rattle.dsl_ops.specs.Operands.{plain, Stands, IsInOrder};
-ghost use Rattle.dsl_ops.specs.Outcomes.{Gives, StandsMade};
-ghost use Rattle.dsl_ops.specs.Table.{has_text, text_of, is_string, are_joined, joined, kept, merged, sum};
+ghost use Rattle.dsl_value.specs.Outcomes.{StandsMade};
+ghost use Rattle.dsl_ops.specs.Outcomes.{Gives};
+ghost use Rattle.dsl_ops.specs.Table.{has_text, text_of, is_string, are_joined, joined, kept, sum};
+ghost use Rattle.dsl_ops.specs.Units.{copy_units, text_units, sum_units};
 
 use crate::OpFault;
 use crate::arithmetic::number_or_overflow;
-use crate::made::{Made, made_number};
+use crate::made::made_number;
+use crate::merge::{copied_pairs, merged_pairs};
 use crate::operand::Operand;
-use dsl_value::Value;
+use dsl_value::{Made, Value};
 use site_base::{OutOfMemory, Row, Text};
 use std::alloc::Global;
 
@@ -17,7 +19,7 @@ use std::alloc::Global;
 pub(crate) fn plus(alloc: Global, left: &Operand, right: &Operand) -> Result<Made, OpFault>
     requires left { IsInOrder (plain left.now) }
     requires right { IsInOrder (plain right.now) }
-    ensures gives { Gives result (sum (plain left.now) (plain right.now)) }
+    ensures gives { Gives result (sum (plain left.now) (plain right.now)) (sum_units (plain left.now) (plain right.now)) }
     ensures stands { (cells functions : ℕ) → Stands cells functions (plain left.now) → Stands cells functions (plain right.now) → IfOk result (StandsMade cells functions) }
 {
     match (left, right) {
@@ -30,7 +32,7 @@ pub(crate) fn plus(alloc: Global, left: &Operand, right: &Operand) -> Result<Mad
             Ok(Made::Array(array_of_both(alloc, left, right)?))
         }
         (Operand::Dict(left), Operand::Dict(right)) => {
-            Ok(Made::Dict(pairs_of_both(alloc, left, right)?))
+            Ok(Made::Dict(merged_pairs(alloc, left, right)?))
         }
         _ => text_of_both(alloc, left, right),
     }
@@ -39,7 +41,7 @@ pub(crate) fn plus(alloc: Global, left: &Operand, right: &Operand) -> Result<Mad
 /// What null leaves of the other operand: that operand, or a copy of an array or a dictionary.
 fn kept_of(alloc: Global, operand: &Operand) -> Result<Made, OpFault>
     requires { IsInOrder (plain operand.now) }
-    ensures gives { Gives result (kept (plain operand.now)) }
+    ensures gives { Gives result (kept (plain operand.now)) (copy_units (plain operand.now)) }
     ensures stands { (cells functions : ℕ) → Stands cells functions (plain operand.now) → IfOk result (StandsMade cells functions) }
 {
     match operand {
@@ -48,7 +50,7 @@ fn kept_of(alloc: Global, operand: &Operand) -> Result<Made, OpFault>
         Operand::Number(number) => Ok(Made::Value(Value::Number(*number))),
         Operand::Str(text) => Ok(Made::Value(Value::Str((*text).clone()?))),
         Operand::Array(items) => Ok(Made::Array(array_of_both(alloc, items, &[])?)),
-        Operand::Dict(pairs) => Ok(Made::Dict(pairs_of_both(alloc, pairs, &[])?)),
+        Operand::Dict(pairs) => Ok(Made::Dict(copied_pairs(alloc, pairs)?)),
         Operand::Func(_) => Err(OpFault::WrongType),
     }
 }
@@ -72,35 +74,9 @@ fn add_values(items: &mut Row<Value>, more: &[Value]) -> Result<(), OutOfMemory>
     Ok(())
 }
 
-/// The pairs of both, the right one's last, so that these win.
-#[tactic(auto, using(crate::proofs::Merging::dict_of_both))]
-fn pairs_of_both(
-    alloc: Global,
-    left: &[(Text, Value)],
-    right: &[(Text, Value)],
-) -> Result<Row<(Text, Value)>, OutOfMemory>
-    requires { T (is_sorted left.now) }
-    ensures pairs { IfOk result (λ r. r ≡ left.now ++ right.now) }
-    ensures merged { IfOk result (λ r. dict_of r [] ≡ merged left.now right.now) }
-{
-    let mut pairs = Row::new(alloc);
-    add_pairs(&mut pairs, left)?;
-    add_pairs(&mut pairs, right)?;
-    Ok(pairs)
-}
-
-fn add_pairs(pairs: &mut Row<(Text, Value)>, more: &[(Text, Value)]) -> Result<(), OutOfMemory>
-    ensures { OnOk result (pairs.new ≡ pairs.old ++ more.now) }
-{
-    for pair in more {
-        pairs.push((pair.0.clone()?, pair.1.clone()?))?;
-    }
-    Ok(())
-}
-
 /// The texts of two operands, one of them at least a string, joined.
 fn text_of_both(alloc: Global, left: &Operand, right: &Operand) -> Result<Made, OpFault>
-    ensures gives { Gives result (joined (plain left.now) (plain right.now)) }
+    ensures gives { Gives result (joined (plain left.now) (plain right.now)) (text_units (plain left.now) (plain right.now)) }
     ensures stands { (cells functions : ℕ) → IfOk result (StandsMade cells functions) }
 {
     if !joins(left, right) {
@@ -109,7 +85,7 @@ fn text_of_both(alloc: Global, left: &Operand, right: &Operand) -> Result<Made, 
     let mut text = Text::new(alloc);
     push_text(&mut text, left)?;
     push_text(&mut text, right)?;
-    Ok(Made::Value(Value::Str(text)))
+    Ok(Made::Text(text))
 }
 
 fn joins(left: &Operand, right: &Operand) -> bool

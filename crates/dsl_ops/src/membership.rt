@@ -3,14 +3,16 @@ ghost use Rattle.std.specs.Prelude.{◌≡◌, IfOk, length, not, option_map};
 ghost use Rattle.std.specs.List.{AllByRecursion, list_any};
 ghost use Rattle.dsl_value.specs.Whole.{Names};
 ghost use Rattle.dsl_ops.specs.Operands.{plain, Stands};
-ghost use Rattle.dsl_ops.specs.Outcomes.{Gives, StandsMade, or_wrong_type, truth_returned};
+ghost use Rattle.dsl_value.specs.Outcomes.{StandsMade};
+ghost use Rattle.dsl_ops.specs.Outcomes.{Gives, or_wrong_type, truth_returned};
 ghost use Rattle.dsl_ops.specs.Table.{same_in, has, without, difference};
+ghost use Rattle.dsl_ops.specs.Units.{difference_units};
 
 use crate::OpFault;
 use crate::arithmetic::minus;
-use crate::made::{Made, made_number};
+use crate::made::made_number;
 use crate::operand::Operand;
-use dsl_value::{Store, Value, equal};
+use dsl_value::{Made, Store, Value, equal};
 use site_base::{OutOfMemory, Row};
 use std::alloc::Global;
 
@@ -74,7 +76,7 @@ pub(crate) fn minus_or_without(
 ) -> Result<Made, OpFault>
     requires left { Stands (length store.now.cells) (length store.now.functions) (plain left.now) }
     requires right { Stands (length store.now.cells) (length store.now.functions) (plain right.now) }
-    ensures gives { Gives result (difference (same_in store.now.cells) (plain left.now) (plain right.now)) }
+    ensures gives { Gives result (difference (same_in store.now.cells) (plain left.now) (plain right.now)) (difference_units (same_in store.now.cells) (plain left.now) (plain right.now)) }
     ensures stands { IfOk result (StandsMade (length store.now.cells) (length store.now.functions)) }
 {
     match (left, right) {
