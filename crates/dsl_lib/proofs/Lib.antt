@@ -3,6 +3,7 @@ pub mod Apart
 pub mod Calls
 pub mod Chars
 pub mod Joins
+pub mod Limits
 pub mod Matched
 pub mod Parts
 pub mod PieceLaws

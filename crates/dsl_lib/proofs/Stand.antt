@@ -1,13 +1,14 @@
 -- Values that name cells and functions of a store.
-use Rattle.std.proofs.Common.{◌≡◌, ℕ, zero, suc, ℤ, ◌+ℤ◌, Bool, true, false, cond, List, ◌++◌, [], ◌∷◌, map, Option, Some, None, ap, subst}
+use Rattle.std.proofs.Common.{◌≡◌, ℕ, zero, suc, ℤ, ◌+ℤ◌, Bool, true, false, cond, List, ◌++◌, [], ◌∷◌, map, Option, Some, None, refl, sym, ap, subst, ◌∙◌}
 use Rattle.std.specs.List.{AllByRecursion}
+use Rattle.dsl_value.specs.Contents.{PlainCell, array, dict, cell_at, is_dict}
 use Rattle.dsl_value.specs.Pairs.{Pairs, find}
 use Rattle.dsl_value.specs.Whole.{Names, NamesAll}
 use Rattle.dsl_value.specs.declared.value.Value.{Value}
 use Rattle.dsl_value.specs.declared.value.Value.TheVariants as value
 use Rattle.std.specs.Ordering.{int_cmp, is_eq}
 use Rattle.dsl_value.specs.Pairs.{key_cmp}
-use Rattle.dsl_lib.specs.Arguments.{three, text_in, number_in}
+use Rattle.dsl_lib.specs.Arguments.{three, text_in, number_in, dict_in, if_dict}
 use Rattle.dsl_lib.specs.Arrays.{all_in, sorted, sorted_values, numbers_sorted, texts_sorted}
 use Rattle.dsl_lib.specs.Sets.{numbers_from}
 use Rattle.dsl_lib.specs.Dicts.{key_of, value_of}
@@ -72,3 +73,20 @@ find_stands c f (p ∷ ps) k v h e = by (is_eq (key_cmp k p.0)) e (λ w. find_st
     by : (b : Bool) → cond b (Some p.1) (find k ps) ≡ Some v → (find k ps ≡ Some v → Names c f v) → Names c f v
     by true w later = subst (Names c f) (ap (one_value p.1) w) h.0
     by false w later = later w
+
+abbrev or_zero : Option ℕ → ℕ
+or_zero None = 0
+or_zero (Some k) = k
+
+-- a dictionary that is named
+pub dict_is : (cells : List PlainCell) (v : Value) (k : ℕ) → dict_in cells v ≡ Some k → is_dict (cell_at cells k) ≡ true
+dict_is cells value.Null k e = cc
+dict_is cells (value.Bool b) k e = cc
+dict_is cells (value.Number n) k e = cc
+dict_is cells (value.Str t) k e = cc
+dict_is cells (value.Func f) k e = cc
+dict_is cells (value.Ref j) k e = by (cell_at cells j) refl e
+  where
+    by : (c : PlainCell) → cell_at cells j ≡ c → if_dict c j ≡ Some k → is_dict (cell_at cells k) ≡ true
+    by (array vs) f h = cc
+    by (dict ps) f h = ap (λ i. is_dict (cell_at cells i)) (sym (ap or_zero h)) ∙ ap is_dict f

@@ -1,19 +1,18 @@
 -- What a call of the library answers, and what it does to the store.
-use Rattle.std.specs.Prelude.{◌≡◌, ◌≤◌, ◌==◌, ℕ, nat_lt, [], ◌∷◌, ◌++◌, length, Option, Some, None, Result, Ok, Err, if◌then◌else◌}
-use Rattle.dsl_value.specs.Contents.{Contents, PlainCell, with_cells, with_cell}
+use Rattle.std.specs.Prelude.{◌≡◌, ◌≤◌, ℕ, List, [], ◌∷◌, ◌++◌, length, Option, Some, None, Result, Ok, Err}
+use Rattle.dsl_value.specs.Contents.{Contents, PlainCell, array, with_cells, with_cell}
+use Rattle.dsl_value.specs.Outcomes.{Outcome, written as frozen_or_written, act_outcome, act_units}
+pub use Rattle.dsl_value.specs.Outcomes.{gives, makes, writes, refuses}
+use Rattle.dsl_value.specs.declared.acting.Act.{Act}
+use Rattle.dsl_value.specs.declared.acting.Act.TheVariants as act
+use Rattle.dsl_value.specs.declared.making.Made.TheVariants as made
 use Rattle.dsl_value.specs.declared.value.Value.{Value}
 use Rattle.dsl_value.specs.declared.value.Value.TheVariants as value
-use Rattle.dsl_value.specs.declared.set_fault.SetFault.{SetFault}
-use Rattle.dsl_value.specs.declared.set_fault.SetFault.TheVariants as set_fault
 use Rattle.dsl_lib.specs.declared.lib_fault.LibFault.{LibFault}
 use Rattle.dsl_lib.specs.declared.lib_fault.LibFault.TheVariants.{Arity, WrongType, Overflow, Frozen, OutOfMemory}
 
--- a value; a new cell, and the value that names it; another content of a cell, and null; or a fault
-pub data Answer : Type 0 where
-  gives : Value → Answer
-  makes : PlainCell → Answer
-  writes : ℕ → PlainCell → Answer
-  refuses : LibFault → Answer
+abbrev pub Answer : Type 0
+Answer = Outcome LibFault
 
 -- the arguments are so many, or the number of them is wrong
 abbrev pub counted : {A : Type 0} → Option A → (A → Answer) → Answer
@@ -27,7 +26,7 @@ typed (Some a) f = f a
 
 -- a cell below the base is frozen
 abbrev pub written : Contents → ℕ → PlainCell → Answer
-written s k c = if nat_lt k s.base then refuses Frozen else writes k c
+written = frozen_or_written Frozen
 
 -- what a call gave, and the store behind it
 abbrev pub Gave : Contents → Answer → Value → Contents → Type 0
@@ -66,8 +65,32 @@ IsWrong o Arity = ⊥
 IsWrong o Overflow = ⊥
 IsWrong o Frozen = ⊥
 
--- what a call gives that has changed a cell, or couldn't
-abbrev pub change_gives : {A : Type 0} → ℕ → Result A SetFault → Result Value LibFault
-change_gives k (Ok u) = Ok value.Null
-change_gives k (Err (set_fault.Frozen j)) = if j == k then Err Frozen else Err OutOfMemory
-change_gives k (Err set_fault.OutOfMemory) = Err OutOfMemory
+-- the same of a call that makes an array
+abbrev pub ReturnsArray : Answer → Result (List Value) LibFault → Type 0
+ReturnsArray a (Ok vs) = a ≡ makes (array vs)
+ReturnsArray a (Err e) = Refused a e
+
+-- what is made or written comes to this and costs so many units, or the fault is this
+abbrev pub Acts : Contents → Answer → ℕ → Result Act LibFault → Type 0
+Acts s a units (Ok x) = (a ≡ act_outcome s x) × (act_units x ≡ units)
+Acts s a units (Err e) = Refused a e
+
+-- a text that a call gives was made by it
+abbrev pub made_by : Result Value LibFault → Result Act LibFault
+made_by (Ok (value.Str t)) = Ok (act.Make (made.Text t))
+made_by (Ok v) = Ok (act.Make (made.Value v))
+made_by (Err e) = Err e
+
+-- or was there before
+abbrev pub kept_by : Result Value LibFault → Result Act LibFault
+kept_by (Ok v) = Ok (act.Make (made.Value v))
+kept_by (Err e) = Err e
+
+-- a new array, of values that were there or of texts that were made
+abbrev pub array_by : Result (List Value) LibFault → Result Act LibFault
+array_by (Ok vs) = Ok (act.Make (made.Array vs))
+array_by (Err e) = Err e
+
+abbrev pub texts_by : Result (List Value) LibFault → Result Act LibFault
+texts_by (Ok vs) = Ok (act.Make (made.Texts vs))
+texts_by (Err e) = Err e

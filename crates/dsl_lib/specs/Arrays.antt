@@ -11,7 +11,7 @@ use Rattle.dsl_value.specs.declared.value.Value.TheVariants as value
 use Rattle.dsl_lib.specs.Answers.{Answer, gives, makes, counted, typed, written}
 use Rattle.dsl_lib.specs.Arguments.{one, two, text_in, number_in, items_in, array_in}
 use Rattle.dsl_lib.specs.Scalars.{whole, scalar_text}
-use Rattle.dsl_lib.specs.Dicts.{or_null}
+pub use Rattle.dsl_ops.specs.Members.{element}
 use Rattle.dsl_ops.specs.Table.{whole_part}
 
 abbrev pub len : Contents → List Value → Answer
@@ -23,11 +23,6 @@ has_equal cells vs v = list_any (λ x. equal_within 100 cells x v) vs
 
 abbrev pub contains : Contents → List Value → Answer
 contains s args = counted (two args) (λ a. typed (items_in s.cells a.0) (λ vs. gives (value.Bool (has_equal s.cells vs a.1))))
-
--- the element of an index, or null out of range
-abbrev pub element : List Value → ℤ → Value
-element vs (pos n) = or_null (slice_get vs n)
-element vs (negsuc n) = value.Null
 
 abbrev pub get : Contents → List Value → Answer
 get s args = counted (two args) (λ a. typed (items_in s.cells a.0) (λ vs. typed (number_in a.1) (λ n. typed (whole_part n) (λ i. gives (element vs i)))))

@@ -4,6 +4,7 @@ use Rattle.dsl_value.specs.Pairs.{find}
 use Rattle.dsl_value.specs.Contents.{Contents, array, cell_at, with_pair, without_pair}
 use Rattle.dsl_value.specs.declared.value.Value.{Value}
 use Rattle.dsl_value.specs.declared.value.Value.TheVariants as value
+pub use Rattle.dsl_ops.specs.Members.{or_null}
 use Rattle.dsl_lib.specs.Answers.{Answer, gives, makes, counted, typed, written}
 use Rattle.dsl_lib.specs.Arguments.{one, two, three, text_in, pairs_in, dict_in}
 use Rattle.dsl_lib.specs.Scalars.{whole}
@@ -13,10 +14,6 @@ key_of p = value.Str p.0
 
 abbrev pub value_of : List ℕ × Value → Value
 value_of p = p.1
-
-abbrev pub or_null : Option Value → Value
-or_null None = value.Null
-or_null (Some v) = v
 
 -- the function `keys` and the method `keys` are one
 abbrev pub keys : Contents → List Value → Answer

@@ -4,7 +4,10 @@ pub mod Arrays
 pub mod Dicts
 pub mod Laws
 pub mod Library
+pub mod Limits
 pub mod Matching
+pub mod Names
 pub mod Scalars
 pub mod Sets
 pub mod Texts
+pub mod Units

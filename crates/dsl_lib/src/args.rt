@@ -1,5 +1,5 @@
 // Arguments: how many there are, and of which type.
-ghost use Rattle.std.specs.Prelude.{◌≡◌, ◌<◌, Some, None, length, IfOk, MatchResult};
+ghost use Rattle.std.specs.Prelude.{◌≡◌, ◌<◌, nat_lt, Some, None, length, IfOk, MatchResult};
 ghost use Rattle.std.specs.List.{AllByRecursion};
 ghost use Rattle.dsl_value.specs.Contents.{cell_at, pairs_of};
 ghost use Rattle.dsl_value.specs.Whole.{Names, NamesAll};
@@ -116,4 +116,11 @@ pub(crate) fn dict(value: &Value, store: &Store) -> Result<u32, LibFault>
         },
         _ => Err(LibFault::WrongType),
     }
+}
+
+/// Whether a cell lies below the base, where nothing is changed.
+pub(crate) fn is_frozen(cell: u32, store: &Store) -> bool
+    ensures { result ≡ nat_lt cell store.now.base }
+{
+    cell < store.base()
 }

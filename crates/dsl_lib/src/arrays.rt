@@ -2,14 +2,15 @@
 ghost use Rattle.std.specs.Prelude.{◌≡◌, ◌<◌, length, MatchResult, IfOk};
 ghost use Rattle.std.specs.List.{AllByRecursion};
 ghost use Rattle.dsl_value.specs.Whole.{Names};
-ghost use Rattle.dsl_lib.specs.Answers.{Returns, Answers};
+ghost use Rattle.dsl_value.specs.Outcomes.{made_units, StandsAct};
+ghost use Rattle.dsl_lib.specs.Answers.{Returns, Acts};
 ghost use Rattle.dsl_lib.specs.Arrays.{len as len_answer, has_equal, contains as contains_answer, element as element_of, get as get_answer, add as add_answer};
 
-use crate::answers::{changed, copied};
-use crate::args::{array, items, number, one, two};
+use crate::answers::copied;
+use crate::args::{array, is_frozen, items, number, one, two};
 use crate::scalars::whole;
 use crate::{LibFault, cutting};
-use dsl_value::{Store, Value, equal};
+use dsl_value::{Act, Change, Store, Value, equal};
 
 /// `array.len()`
 pub(crate) fn len(args: &[Value], store: &Store) -> Result<Value, LibFault>
@@ -69,13 +70,15 @@ fn element(items: &[Value], index: i64) -> Result<Value, LibFault>
 }
 
 /// `array.add(value)`
-pub(crate) fn add(args: &[Value], store: &mut Store) -> Result<Value, LibFault>
-    requires { AllByRecursion (Names (length store.old.cells) (length store.old.functions)) args.now }
-    ensures answer { Answers store.old (add_answer store.old args.now) result store.new }
-    ensures stands { IfOk result (Names (length store.new.cells) (length store.new.functions)) }
+pub(crate) fn add(args: &[Value], store: &Store) -> Result<Act<'static>, LibFault>
+    requires { AllByRecursion (Names (length store.now.cells) (length store.now.functions)) args.now }
+    ensures acts { Acts store.now (add_answer store.now args.now) (made_units (add_answer store.now args.now)) result }
+    ensures stands { IfOk result (StandsAct store.now) }
 {
     let (of, value) = two(args)?;
     let cell = array(of, store)?;
-    let value = copied(value)?;
-    changed(cell, store.push(cell, value))
+    if is_frozen(cell, store) {
+        return Err(LibFault::Frozen);
+    }
+    Ok(Act::Write(cell, Change::Push(copied(value)?)))
 }

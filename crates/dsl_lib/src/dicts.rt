@@ -2,25 +2,25 @@
 ghost use Rattle.std.specs.Prelude.{◌≡◌, ◌<◌, IfOk, map, length};
 ghost use Rattle.std.specs.List.{AllByRecursion};
 ghost use Rattle.dsl_value.specs.Whole.{Names};
-ghost use Rattle.dsl_lib.specs.Answers.{Returns, Answers};
+ghost use Rattle.dsl_value.specs.Outcomes.{made_units, StandsAct};
+ghost use Rattle.dsl_lib.specs.Answers.{Returns, ReturnsArray, Acts};
 ghost use Rattle.dsl_lib.specs.Dicts.{key_of, value_of, keys as keys_answer, values as values_answer, len as len_answer, contains as contains_answer, get as get_answer, set as set_answer, remove as remove_answer};
 
 use crate::LibFault;
-use crate::answers::{changed, copied};
-use crate::args::{dict, one, pairs, text, three, two};
+use crate::answers::copied;
+use crate::args::{dict, is_frozen, one, pairs, text, three, two};
 use crate::scalars::whole;
-use dsl_value::{Store, Value};
+use dsl_value::{Act, Change, Store, Value};
 use site_base::{OutOfMemory, Row, Text};
 use std::alloc::Global;
 
 /// `keys(dictionary)` and `dictionary.keys()`: a new array of the keys.
-pub(crate) fn keys(alloc: Global, args: &[Value], store: &mut Store) -> Result<Value, LibFault>
-    requires stands { AllByRecursion (Names (length store.old.cells) (length store.old.functions)) args.now }
-    ensures answer { Answers store.old (keys_answer store.old args.now) result store.new }
-    ensures stands { IfOk result (Names (length store.new.cells) (length store.new.functions)) }
+pub(crate) fn keys(alloc: Global, args: &[Value], store: &Store) -> Result<Row<Value>, LibFault>
+    requires stands { AllByRecursion (Names (length store.now.cells) (length store.now.functions)) args.now }
+    ensures answer { ReturnsArray (keys_answer store.now args.now) result }
+    ensures stands { IfOk result (AllByRecursion (Names (length store.now.cells) (length store.now.functions))) }
 {
-    let keys = key_values(alloc, pairs(one(args)?, store)?)?;
-    Ok(store.array(keys)?)
+    Ok(key_values(alloc, pairs(one(args)?, store)?)?)
 }
 
 fn key_values(alloc: Global, pairs: &[(Text, Value)]) -> Result<Row<Value>, OutOfMemory>
@@ -34,13 +34,12 @@ fn key_values(alloc: Global, pairs: &[(Text, Value)]) -> Result<Row<Value>, OutO
 }
 
 /// `dictionary.values()`: a new array of the values, in the order of their keys.
-pub(crate) fn values(alloc: Global, args: &[Value], store: &mut Store) -> Result<Value, LibFault>
-    requires stands { AllByRecursion (Names (length store.old.cells) (length store.old.functions)) args.now }
-    ensures answer { Answers store.old (values_answer store.old args.now) result store.new }
-    ensures stands { IfOk result (Names (length store.new.cells) (length store.new.functions)) }
+pub(crate) fn values(alloc: Global, args: &[Value], store: &Store) -> Result<Row<Value>, LibFault>
+    requires stands { AllByRecursion (Names (length store.now.cells) (length store.now.functions)) args.now }
+    ensures answer { ReturnsArray (values_answer store.now args.now) result }
+    ensures stands { IfOk result (AllByRecursion (Names (length store.now.cells) (length store.now.functions))) }
 {
-    let values = copied_values(alloc, pairs(one(args)?, store)?)?;
-    Ok(store.array(values)?)
+    Ok(copied_values(alloc, pairs(one(args)?, store)?)?)
 }
 
 fn copied_values(alloc: Global, pairs: &[(Text, Value)]) -> Result<Row<Value>, OutOfMemory>
@@ -88,25 +87,32 @@ pub(crate) fn get(args: &[Value], store: &Store) -> Result<Value, LibFault>
 }
 
 /// `dictionary.set(key, value)`
-pub(crate) fn set(alloc: Global, args: &[Value], store: &mut Store) -> Result<Value, LibFault>
-    requires { AllByRecursion (Names (length store.old.cells) (length store.old.functions)) args.now }
-    ensures answer { Answers store.old (set_answer store.old args.now) result store.new }
-    ensures stands { IfOk result (Names (length store.new.cells) (length store.new.functions)) }
+pub(crate) fn set(alloc: Global, args: &[Value], store: &Store) -> Result<Act<'static>, LibFault>
+    requires { AllByRecursion (Names (length store.now.cells) (length store.now.functions)) args.now }
+    ensures acts { Acts store.now (set_answer store.now args.now) (made_units (set_answer store.now args.now)) result }
+    ensures stands { IfOk result (StandsAct store.now) }
 {
     let (of, key, value) = three(args)?;
     let cell = dict(of, store)?;
-    let key = Text::copy_of(alloc, text(key)?)?;
-    let value = copied(value)?;
-    changed(cell, store.set(cell, key, value))
+    let key = text(key)?;
+    if is_frozen(cell, store) {
+        return Err(LibFault::Frozen);
+    }
+    let key = Text::copy_of(alloc, key)?;
+    Ok(Act::Write(cell, Change::Set(key, copied(value)?)))
 }
 
 /// `dictionary.remove(key)`
-pub(crate) fn remove(args: &[Value], store: &mut Store) -> Result<Value, LibFault>
-    requires { AllByRecursion (Names (length store.old.cells) (length store.old.functions)) args.now }
-    ensures answer { Answers store.old (remove_answer store.old args.now) result store.new }
-    ensures stands { IfOk result (Names (length store.new.cells) (length store.new.functions)) }
+pub(crate) fn remove<'a>(args: &'a [Value], store: &Store) -> Result<Act<'a>, LibFault>
+    requires { AllByRecursion (Names (length store.now.cells) (length store.now.functions)) args.now }
+    ensures acts { Acts store.now (remove_answer store.now args.now) 0 result }
+    ensures stands { IfOk result (StandsAct store.now) }
 {
     let (of, key) = two(args)?;
     let cell = dict(of, store)?;
-    changed(cell, store.remove(cell, text(key)?))
+    let key = text(key)?;
+    if is_frozen(cell, store) {
+        return Err(LibFault::Frozen);
+    }
+    Ok(Act::Write(cell, Change::Remove(key)))
 }

@@ -2,6 +2,7 @@
 //! dictionaries.
 #![tactic(auto)]
 
+mod acts;
 mod answers;
 mod args;
 mod arrays;
@@ -13,6 +14,8 @@ mod joining;
 mod laws;
 mod lib_fault;
 mod matching;
+mod names;
+mod over;
 mod plain;
 mod ranges;
 mod replacing;
@@ -23,10 +26,11 @@ mod splitting;
 mod texts;
 mod trimming;
 
-pub use call::call_plain;
+pub use call::{call_plain, call_within};
 pub use laws::{
     distinct_elements_are_apart, parts_are_replaced_from_left_to_right, pieces_join_to_the_text,
     sorted_elements_rise,
 };
 pub use lib_fault::LibFault;
+pub use names::LibraryCall;
 pub use plain::Plain;

@@ -1,4 +1,6 @@
-// The names of the library's calls.
+// The library's calls that call no function value.
+ghost use Rattle.std.specs.Prelude.{◌≡◌};
+ghost use Rattle.dsl_lib.specs.Names.{plain_spelling};
 
 /// A function or a method of the library that calls no function value. A method's first argument is
 /// the value that it is called on.
@@ -66,4 +68,38 @@ pub enum Plain {
     DictKeys,
     /// `dictionary.values()`
     DictValues,
+}
+
+impl Plain {
+    /// How it is written. A function and a method may be written alike.
+    pub fn spelling(self) -> &'static str
+        ensures { result.now ≡ plain_spelling self }
+    {
+        match self {
+            Plain::Match => "match",
+            Plain::Len | Plain::TextLen | Plain::ArrayLen | Plain::DictLen => "len",
+            Plain::String => "string",
+            Plain::Number => "number",
+            Plain::Bool => "bool",
+            Plain::Range => "range",
+            Plain::Union => "union",
+            Plain::Intersection => "intersection",
+            Plain::Keys | Plain::DictKeys => "keys",
+            Plain::Log => "log",
+            Plain::TextContains | Plain::ArrayContains | Plain::DictContains => "contains",
+            Plain::TextLower => "lower",
+            Plain::TextUpper => "upper",
+            Plain::TextTrim => "trim",
+            Plain::TextReplace => "replace",
+            Plain::TextSplit => "split",
+            Plain::TextSubstr => "substr",
+            Plain::ArrayGet | Plain::DictGet => "get",
+            Plain::ArrayAdd => "add",
+            Plain::ArrayJoin => "join",
+            Plain::ArraySort => "sort",
+            Plain::DictSet => "set",
+            Plain::DictRemove => "remove",
+            Plain::DictValues => "values",
+        }
+    }
 }

@@ -3,7 +3,7 @@ ghost use Rattle.std.specs.Prelude.{◌≡◌, ◌<◌, List, [], filter, length
 ghost use Rattle.std.specs.List.{AllByRecursion, flat_map};
 ghost use Rattle.dsl_value.specs.Whole.{Names};
 ghost use Rattle.dsl_value.specs.declared.value.Value.{Value};
-ghost use Rattle.dsl_lib.specs.Answers.{Answers, IsWrong};
+ghost use Rattle.dsl_lib.specs.Answers.{ReturnsArray, IsWrong};
 ghost use Rattle.dsl_lib.specs.Arguments.{items_in};
 ghost use Rattle.dsl_lib.specs.Arrays.{all_in};
 ghost use Rattle.dsl_lib.specs.Sets.{with_distinct, distinct, union as union_answer, is_common, intersection as intersection_answer};
@@ -16,17 +16,17 @@ use site_base::{OutOfMemory, Row};
 use std::alloc::Global;
 
 /// `union(array, ..)`: a new array of the distinct elements, in the order in which each first comes.
-pub(crate) fn union(alloc: Global, args: &[Value], store: &mut Store) -> Result<Value, LibFault>
-    requires stands { AllByRecursion (Names (length store.old.cells) (length store.old.functions)) args.now }
-    ensures answer { Answers store.old (union_answer store.old args.now) result store.new }
-    ensures stands { IfOk result (Names (length store.new.cells) (length store.new.functions)) }
+pub(crate) fn union(alloc: Global, args: &[Value], store: &Store) -> Result<Row<Value>, LibFault>
+    requires stands { AllByRecursion (Names (length store.now.cells) (length store.now.functions)) args.now }
+    ensures answer { ReturnsArray (union_answer store.now args.now) result }
+    ensures stands { IfOk result (AllByRecursion (Names (length store.now.cells) (length store.now.functions))) }
 {
     if args.is_empty() {
         return Err(LibFault::Arity);
     }
     let mut taken = Row::new(alloc);
     take_arrays(&mut taken, args, store)?;
-    Ok(store.array(taken)?)
+    Ok(taken)
 }
 
 /// Takes the distinct elements of arrays.
@@ -72,18 +72,17 @@ fn take(taken: &mut Row<Value>, value: &Value, store: &Store) -> Result<(), OutO
 pub(crate) fn intersection(
     alloc: Global,
     args: &[Value],
-    store: &mut Store,
-) -> Result<Value, LibFault>
-    requires stands { AllByRecursion (Names (length store.old.cells) (length store.old.functions)) args.now }
-    ensures answer { Answers store.old (intersection_answer store.old args.now) result store.new }
-    ensures stands { IfOk result (Names (length store.new.cells) (length store.new.functions)) }
+    store: &Store,
+) -> Result<Row<Value>, LibFault>
+    requires stands { AllByRecursion (Names (length store.now.cells) (length store.now.functions)) args.now }
+    ensures answer { ReturnsArray (intersection_answer store.now args.now) result }
+    ensures stands { IfOk result (AllByRecursion (Names (length store.now.cells) (length store.now.functions))) }
 {
     let [first, others @ ..] = args else {
         return Err(LibFault::Arity);
     };
     check_arrays(others, store)?;
-    let common = common(alloc, items(first, store)?, others, store)?;
-    Ok(store.array(common)?)
+    common(alloc, items(first, store)?, others, store)
 }
 
 /// Each of some values has to be an array.

@@ -1,11 +1,11 @@
 // Arrays in order.
-ghost use Rattle.std.specs.Prelude.{◌≡◌, ◌<◌, ℤ, ℕ, List, length, map, Some, MatchResult, IfOk};
+ghost use Rattle.std.specs.Prelude.{◌≡◌, ℤ, ℕ, List, length, map, Some, MatchResult, IfOk};
 ghost use Rattle.std.specs.List.{AllByRecursion};
 ghost use Rattle.std.specs.Ordering.{int_cmp};
 ghost use Rattle.dsl_value.specs.Pairs.{key_cmp};
 ghost use Rattle.dsl_value.specs.Whole.{Names};
 ghost use Rattle.dsl_value.specs.declared.value.Value.TheVariants as value;
-ghost use Rattle.dsl_lib.specs.Answers.{Answers, IsWrong};
+ghost use Rattle.dsl_lib.specs.Answers.{ReturnsArray, IsWrong};
 ghost use Rattle.dsl_lib.specs.Arguments.{text_in, number_in};
 ghost use Rattle.dsl_lib.specs.Arrays.{all_in, sorted as sorted_list, sorted_values, sort as sort_answer};
 
@@ -16,13 +16,14 @@ use site_base::{Num, OutOfMemory, Row, Text};
 use std::alloc::Global;
 
 /// `array.sort()`: a new array of all texts by their bytes, or of all numbers.
-pub(crate) fn sort(alloc: Global, args: &[Value], store: &mut Store) -> Result<Value, LibFault>
-    requires stands { AllByRecursion (Names (length store.old.cells) (length store.old.functions)) args.now }
-    ensures answer { Answers store.old (sort_answer store.old args.now) result store.new }
-    ensures stands { IfOk result (Names (length store.new.cells) (length store.new.functions)) }
+pub(crate) fn sort(alloc: Global, args: &[Value], store: &Store) -> Result<Row<Value>, LibFault>
+    requires stands { AllByRecursion (Names (length store.now.cells) (length store.now.functions)) args.now }
+    ensures answer { ReturnsArray (sort_answer store.now args.now) result }
+    ensures stands { IfOk result (AllByRecursion (Names (length store.now.cells) (length store.now.functions))) }
 {
-    let sorted = sorted(alloc, items(one(args)?, store)?)?;
-    Ok(store.array(sorted)?)
+    let items = items(one(args)?, store)?;
+    let sorted = sorted(alloc, items)?;
+    Ok(sorted)
 }
 
 fn sorted(alloc: Global, items: &[Value]) -> Result<Row<Value>, LibFault>

@@ -1,27 +1,27 @@
 // Texts that are cut at separators.
-ghost use Rattle.std.specs.Prelude.{◌≡◌, ◌<◌, length, map, IfOk};
+ghost use Rattle.std.specs.Prelude.{◌≡◌, map, IfOk, ℕ};
+ghost use Rattle.std.specs.List.{AllByRecursion};
 ghost use Rattle.dsl_value.specs.declared.value.Value.TheVariants as value;
 ghost use Rattle.dsl_value.specs.Whole.{Names};
-ghost use Rattle.dsl_lib.specs.Answers.{Answers};
+ghost use Rattle.dsl_lib.specs.Answers.{ReturnsArray};
 ghost use Rattle.dsl_lib.specs.Texts.{pieces as pieces_of, split as split_answer};
 
 use crate::LibFault;
 use crate::args::{text, two};
 use crate::characters::has_char;
-use dsl_value::{Store, Value};
+use dsl_value::Value;
 use site_base::{OutOfMemory, Row, Text, first_character};
 use std::alloc::Global;
 use std::mem;
 
 /// `text.split(separators)`: a new array of the pieces between the separators, each of which is one
 /// character.
-pub(crate) fn split(alloc: Global, args: &[Value], store: &mut Store) -> Result<Value, LibFault>
-    ensures answer { Answers store.old (split_answer args.now) result store.new }
-    ensures stands { IfOk result (Names (length store.new.cells) (length store.new.functions)) }
+pub(crate) fn split(alloc: Global, args: &[Value]) -> Result<Row<Value>, LibFault>
+    ensures answer { ReturnsArray (split_answer args.now) result }
+    ensures stands { (cells functions : ℕ) → IfOk result (AllByRecursion (Names cells functions)) }
 {
     let (of, separators) = two(args)?;
-    let pieces = pieces(alloc, text(of)?, text(separators)?)?;
-    Ok(store.array(pieces)?)
+    Ok(pieces(alloc, text(of)?, text(separators)?)?)
 }
 
 fn pieces(alloc: Global, text: &str, separators: &str) -> Result<Row<Value>, OutOfMemory>

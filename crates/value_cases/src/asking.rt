@@ -2,6 +2,7 @@
 use crate::calls::{push_about, push_before, push_between, push_call};
 use crate::names::plain_of;
 use crate::reading::{Reading, read};
+use crate::within::{called, push_within};
 use dsl_lexer::{LexError, lex};
 use dsl_syntax::UnOp;
 use site_base::{OutOfMemory, Text};
@@ -14,6 +15,9 @@ pub(crate) fn push_answer(
     word: &str,
     text: &str,
 ) -> Result<(), OutOfMemory> {
+    if word == "within" {
+        return push_limited(alloc, out, text);
+    }
     if word != "call" && word != "frozen" {
         return match reading_of(alloc, text)? {
             Some(reading) => push_plain(alloc, out, word, reading),
@@ -37,6 +41,29 @@ pub(crate) fn push_answer(
             )
         }
         _ => out.push_str("no such call"),
+    }
+}
+
+/// Adds the answer to a row with the units that are left.
+fn push_limited(alloc: Global, out: &mut Text, text: &str) -> Result<(), OutOfMemory> {
+    let mut words = text.splitn(3, ' ');
+    let (Some(units), Some(word), Some(text)) = (words.next(), words.next(), words.next()) else {
+        return out.push_str("no such row");
+    };
+    let (name, text) = match (word, text.split_once(' ')) {
+        ("call" | "frozen", Some((name, text))) => (name, text),
+        ("call" | "frozen", None) => (text, ""),
+        _ => ("", text),
+    };
+    let (Ok(units), Some(reading)) = (units.parse::<u64>(), reading_of(alloc, text)?) else {
+        return out.push_str("no values");
+    };
+    match called(word, name, &reading) {
+        Some(called) => {
+            let is_frozen = word == "frozen" || word == "set-frozen";
+            push_within(alloc, out, called, units, is_frozen, reading)
+        }
+        None => out.push_str("no such call"),
     }
 }
 

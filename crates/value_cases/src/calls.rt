@@ -1,8 +1,9 @@
 // Calls of the operators and of the library.
+use crate::names::name_of;
 use crate::shown::{push_lib_fault, push_op_fault, push_value};
 use crate::stores::{arguments, load, new_store};
-use dsl_lib::{Plain, call_plain};
-use dsl_ops::{binary, truth, unary};
+use dsl_lib::{LibraryCall, Plain, call_plain};
+use dsl_ops::{MemberFault, binary, member, truth, unary};
 use dsl_syntax::{BinOp, UnOp};
 use dsl_value::{Store, Value, equal};
 use site_base::{OutOfMemory, Row, Text, Tree};
@@ -71,7 +72,36 @@ pub(crate) fn push_about(
         ("match", [Value::Str(pattern), Value::Str(text)]) => {
             push_bool(out, matches(pattern.as_str(), text.as_str()))
         }
+        ("member", [value, key]) => match member(value, key, &store) {
+            Ok(found) => push_value(out, &store, &found),
+            Err(fault) => push_member_fault(out, fault),
+        },
+        ("function", [Value::Str(name)]) => push_name(out, LibraryCall::function(name.as_str())),
+        ("method", [value, Value::Str(name)]) => {
+            push_name(out, LibraryCall::method(value, name.as_str(), &store))
+        }
         _ => out.push_str("no such row"),
+    }
+}
+
+/// Adds the name of a call, where there is one.
+fn push_name(out: &mut Text, call: Option<LibraryCall>) -> Result<(), OutOfMemory> {
+    match call {
+        Some(call) => {
+            out.push_str(name_of(call))?;
+            out.push_str(", written ")?;
+            out.push_str(call.spelling())
+        }
+        None => out.push_str("none"),
+    }
+}
+
+/// Adds the name of a fault of a member.
+pub(crate) fn push_member_fault(out: &mut Text, fault: MemberFault) -> Result<(), OutOfMemory> {
+    match fault {
+        MemberFault::WrongType => out.push_str("WrongType"),
+        MemberFault::Frozen => out.push_str("Frozen"),
+        MemberFault::OutOfMemory => Err(OutOfMemory),
     }
 }
 

@@ -4,5 +4,5 @@ use Rattle.dsl_value.specs.Whole.{Names}
 use Rattle.dsl_lib.proofs.Stand.{values_stand}
 use Rattle.dsl_lib.proofs.dicts.values.Goals as goal
 
-pub array-requires : goal.array-requires
-array-requires c = record { stands = subst (AllByRecursion (Names (length c.args.store.now.cells) (length c.args.store.now.functions))) (sym c.in_ok-values.ensures) (values_stand _ _ _ c.in_ok-pairs.ensures.stands) }
+pub returns-clause-stands : goal.returns-clause-stands
+returns-clause-stands c = subst (AllByRecursion (Names (length c.args.store.now.cells) (length c.args.store.now.functions))) (sym c.in_ok-copied_values.ensures) (values_stand _ _ _ c.in_ok-pairs.ensures.stands)
