@@ -5,8 +5,6 @@
 #![tactic(auto)]
 
 mod setup;
-mod tokens;
-mod trees;
 mod words;
 
 use crate::setup::Setup;

@@ -1,10 +1,10 @@
 // The objects that rows set up.
-use crate::trees::tree_of;
+use case_trees::tree_of;
 use site_base::{OutOfMemory, Row, Text, Tree};
 use site_model::{CheckSpec, CommandSpec, Names, Site};
 use std::alloc::Global;
 
-/// The attributes of the objects, as rows spell them, and the global `Vars`.
+/// The attributes of the objects, as rows write them, and the global `Vars`.
 #[derive(Drop)]
 pub(crate) struct Setup {
     pub(crate) command: Text,
@@ -26,27 +26,39 @@ impl Setup {
         }
     }
 
-    /// The site: the host at 0 and its service at 1, with one command.
-    pub(crate) fn site(&self, alloc: Global) -> Result<Site, OutOfMemory> {
+    /// The site: the host at 0 and its service at 1, with one command. `None` where something isn't written as values are.
+    pub(crate) fn site(&self, alloc: Global) -> Result<Option<Site>, OutOfMemory> {
+        let Some(command) = self.command_tree(alloc)? else {
+            return Ok(None);
+        };
+        let Some(host) = dictionary(alloc, self.host.as_str())? else {
+            return Ok(None);
+        };
+        let Some(service) = dictionary(alloc, self.service.as_str())? else {
+            return Ok(None);
+        };
+        let Some(globals) = dictionary(alloc, self.globals.as_str())? else {
+            return Ok(None);
+        };
         let mut checkables = Row::new(alloc);
-        checkables.push(checkable(alloc, "h", None, self.host.as_str())?)?;
-        checkables.push(checkable(alloc, "h!s", Some(0), self.service.as_str())?)?;
+        checkables.push(checkable(alloc, "h", None, host)?)?;
+        checkables.push(checkable(alloc, "h!s", Some(0), service)?)?;
         let mut site = Site::plain(alloc, checkables, Names::new(alloc));
-        site.commands.push(self.check_command(alloc)?)?;
-        site.vars = dictionary(alloc, self.globals.as_str())?;
-        Ok(site)
+        site.commands.push(CommandSpec {
+            name: Text::copy_of(alloc, "c")?,
+            tree: command,
+        })?;
+        site.vars = globals;
+        Ok(Some(site))
     }
 
-    fn check_command(&self, alloc: Global) -> Result<CommandSpec, OutOfMemory> {
-        let mut attributes = Text::copy_of(alloc, "{ ")?;
-        attributes.push_str(self.command.as_str())?;
-        attributes.push_str(" arguments = { ")?;
-        attributes.push_str(self.arguments.as_str())?;
-        attributes.push_str(" } }")?;
-        Ok(CommandSpec {
-            name: Text::copy_of(alloc, "c")?,
-            tree: tree_of(alloc, attributes.as_str())?,
-        })
+    /// The attributes of the command, its arguments first.
+    fn command_tree(&self, alloc: Global) -> Result<Option<Tree>, OutOfMemory> {
+        let mut pairs = Text::copy_of(alloc, "arguments = { ")?;
+        pairs.push_str(self.arguments.as_str())?;
+        pairs.push_str(" }, ")?;
+        pairs.push_str(self.command.as_str())?;
+        dictionary(alloc, pairs.as_str())
     }
 }
 
@@ -54,15 +66,15 @@ fn checkable(
     alloc: Global,
     name: &str,
     host: Option<u32>,
-    attributes: &str,
+    attributes: Tree,
 ) -> Result<CheckSpec, OutOfMemory> {
     let mut spec = CheckSpec::plain(Text::copy_of(alloc, name)?, host);
-    spec.tree = dictionary(alloc, attributes)?;
+    spec.tree = attributes;
     Ok(spec)
 }
 
 /// A dictionary with these pairs.
-fn dictionary(alloc: Global, pairs: &str) -> Result<Tree, OutOfMemory> {
+fn dictionary(alloc: Global, pairs: &str) -> Result<Option<Tree>, OutOfMemory> {
     let mut value = Text::copy_of(alloc, "{ ")?;
     value.push_str(pairs)?;
     value.push_str(" }")?;

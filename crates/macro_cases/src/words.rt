@@ -12,7 +12,9 @@ pub(crate) fn push_answer(
     which: &str,
 ) -> Result<(), OutOfMemory> {
     out.push_str("  →")?;
-    let site = setup.site(alloc)?;
+    let Some(site) = setup.site(alloc)? else {
+        return out.push_str(" not written as values are");
+    };
     match resolve(alloc, &site, if which == "host" { 0 } else { 1 }) {
         Ok(words) => {
             for word in words.as_slice() {
