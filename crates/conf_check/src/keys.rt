@@ -1,5 +1,5 @@
 // Which objects there are, by type and full name.
-ghost use Rattle.std.specs.Prelude.{◌≡◌, [], map, IfOk, OnOk, Some};
+ghost use Rattle.std.specs.Prelude.{◌≡◌, [], map, IfOk, OnOk, Some, string_bytes};
 ghost use Rattle.site_model.specs.Names.{place_of, with_name};
 ghost use Rattle.site_model.specs.PlainSite.{object_view};
 ghost use Rattle.conf_check.specs.Keys.{key_of, in_keys, keys_from};
@@ -43,16 +43,27 @@ pub(crate) fn has_key(
 ) -> Result<bool, OutOfMemory>
     ensures { IfOk result (λ has. has ≡ in_keys keys.now kind name.now) }
 {
-    let key = key_of(alloc, kind, name)?;
+    let key = key_string(alloc, kind, name)?;
     Ok(keys.find(key.as_str()).is_some())
 }
 
-/// The key of an object: the type's name and the full name, which no type's name can be mistaken for part of, since `!`
-/// stands between.
+/// The key of an object.
 pub(crate) fn key_of(alloc: Global, kind: ObjectType, name: &str) -> Result<Text, OutOfMemory>
     ensures { IfOk result (λ key. key ≡ key_of kind name.now) }
 {
-    let mut key = Text::copy_of(alloc, kind.name())?;
+    let key = key_string(alloc, kind, name)?;
+    Text::copy_of(alloc, key.as_str())
+}
+
+/// The same as a string for one look-up: the type's name and the full name, which no type's name can be mistaken for part of,
+/// since `!` stands between.
+fn key_string(alloc: Global, kind: ObjectType, name: &str) -> Result<String, OutOfMemory>
+    ensures { IfOk result (λ key. string_bytes key ≡ key_of kind name.now) }
+{
+    let kind = kind.name();
+    let length = kind.len().saturating_add(1).saturating_add(name.len());
+    let mut key = String::with_capacity(alloc, length)?;
+    key.push_str(kind)?;
     key.push('!')?;
     key.push_str(name)?;
     Ok(key)
