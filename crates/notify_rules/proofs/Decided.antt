@@ -1,22 +1,25 @@
 -- Decisions, by what a book keeps.
-use Rattle.std.proofs.Common.{rules, ◌≡◌, ◌≤◌, ◌&&◌, ◌++◌, ◌+◌, ℕ, zero, suc, nat_eq, nat_lt, not, Bool, true, false, cond, List, [], ◌∷◌, map, slice_get, get_or, filter, Option, Some, None, All, refl, sym, ap, ◌∙◌, arith, append_assoc, ltb-true, length, ◌==◌, eqb-true, Result, Ok, Err, IfOk}
+use Rattle.std.proofs.Common.{rules, ◌≡◌, ◌≤◌, ◌&&◌, ◌||◌, ◌++◌, ◌+◌, ℕ, zero, suc, nat_eq, nat_lt, not, Bool, true, false, cond, List, [], ◌∷◌, map, slice_get, get_or, filter, Option, Some, None, All, IsSomeAnd, refl, sym, ap, ◌∙◌, arith, append_assoc, ltb-true, length, ◌==◌, eqb-true, Result, Ok, Err, IfOk}
 use Rattle.std.specs.Prelude.{is_some}
 use Rattle.std.proofs.lemmas.List.Elements.{All-head, All-tail}
 use Rattle.jiff_tz.specs.declared.tzif.Tzif.{Tzif}
 use Rattle.site_model.specs.PlainSite.{PlainCheck, PlainSite, check_view}
 use Rattle.site_model.specs.declared.check_spec.CheckSpec.{CheckSpec}
+use Rattle.site_model.specs.declared.decision.Decision.{Decision}
 use Rattle.site_model.specs.declared.entry.Entry.{Entry}
 use Rattle.site_model.specs.declared.note_kind.NoteKind.{NoteKind}
 use Rattle.site_model.specs.declared.notify_spec.NotifySpec.{NotifySpec}
 use Rattle.site_model.specs.declared.outcome.Outcome.{Outcome}
+use Rattle.site_model.specs.declared.view.View.{View}
 use Rattle.run_meaning.specs.Acts.{Seen}
-use Rattle.run_meaning.specs.Decisions.{Case, decided_from, first_or, kinds_of, problem_sent, sent_since}
+use Rattle.run_meaning.specs.Decisions.{Case, decided_from, first_or, is_hard, is_result, is_tick, kind_where, kinds_of, problem_sent, sent_since, tells_ack}
 use Rattle.run_meaning.specs.Downtimes.{in_effect}
 use Rattle.run_meaning.specs.Reachability.{for_notes, reach_of}
 use Rattle.run_meaning.specs.View.{view_of}
-use Rattle.notify_rules.specs.Case.{decided_for, decided_where, decided_on, first_in, sent_from}
+use Rattle.notify_rules.specs.Case.{decided_for, decided_where, decided_on, first_in, gives_kinds, has_any, sent_from}
 use Rattle.depend_graph.specs.Outlooks.{holds_in}
-use Rattle.notify_rules.specs.Sent.{last_sent, notes_from, NeverFall}
+use Rattle.notify_rules.specs.Sent.{last_sent, notes_from, number_of, user_of, HasUsers, NeverFall}
+use Rattle.notify_rules.specs.declared.sent_note.SentNote.{SentNote}
 
 -- When a problem was sent.
 
@@ -120,11 +123,52 @@ nothing_decided s holds x c kinds none by_kinds =
     sym (ap (λ ks. decided_on s holds x ks (notes_from c 0 s.notifies)) none ∙ decided_on_nothing s holds x (notes_from c 0 s.notifies))
     ∙ all_decided s holds x c kinds (notes_from c 0 s.notifies) by_kinds refl
 
--- Answers of calls.
+-- Whether anything is decided.
 
 pub empty : {X : Type 0} (xs : List X) → (length xs == 0) ≡ true → xs ≡ []
 empty [] h = refl
 empty (x ∷ xs) h = let e : length (x ∷ xs) ≡ 0 = eqb-true (length (x ∷ xs)) 0 h in absurd (omega (arith, e))
+
+pub none_there : {X : Type 0} (xs : List X) → (length xs == 0) ≡ true → has_any xs ≡ false
+none_there xs h = ap has_any (empty xs h)
+
+pub some_there : {X : Type 0} (xs : List X) → (length xs == 0) ≡ false → has_any xs ≡ true
+some_there [] h = absurd cc
+some_there (x ∷ xs) h = refl
+
+any_kind : (a b c d e : Bool) (k l m n o : NoteKind) →
+    ((((a || b) || c) || d) || e) ≡ has_any (kind_where a k ++ (kind_where b l ++ (kind_where c m ++ (kind_where d n ++ kind_where e o))))
+any_kind true b c d e k l m n o = refl
+any_kind false true c d e k l m n o = refl
+any_kind false false true d e k l m n o = refl
+any_kind false false false true e k l m n o = refl
+any_kind false false false false true k l m n o = refl
+any_kind false false false false false k l m n o = refl
+
+pub given : (before after : View) (e : Entry) → gives_kinds before after e.event e.taken ≡ has_any (kinds_of before after e)
+given before after e =
+    any_kind ((is_result e.event || is_tick e.event) && is_hard after) (is_result e.event && (is_hard before && not (is_hard after))) (e.taken && tells_ack e.event)
+    (is_result e.event && (after.flapping && not before.flapping)) (is_result e.event && (before.flapping && not after.flapping)) _ _ _ _ _
+
+no_kinds : {X : Type 0} (xs : List X) → false ≡ has_any xs && false
+no_kinds [] = refl
+no_kinds (x ∷ xs) = refl
+
+pub any_decided : (s : PlainSite) (holds : ℕ → ℕ → Bool) (x : Case) (kinds : List NoteKind) (rs : List SentNote) → All (HasUsers s.notifies) rs →
+    has_any (decided_on s holds x kinds (map number_of rs)) ≡ has_any rs && has_any kinds
+any_decided s holds x [] rs have = ap has_any (decided_on_nothing s holds x (map number_of rs)) ∙ no_kinds rs
+any_decided s holds x (k ∷ ks) [] have = refl
+any_decided s holds x (k ∷ ks) (r ∷ rs) have = by (slice_get s.notifies r.notification) refl (All-head (HasUsers s.notifies) r rs have)
+  where
+    rest : List Decision
+    rest = decided_on s holds x (k ∷ ks) (map number_of rs)
+
+    by : (o : Option NotifySpec) → slice_get s.notifies r.notification ≡ o → IsSomeAnd o (λ note. map user_of r.listeners ≡ note.users) →
+        has_any (decided_where s holds x (k ∷ ks) r.notification (slice_get s.notifies r.notification) ++ rest) ≡ true
+    by None e h = absurd h
+    by (Some note) e h = ap (λ o. has_any (decided_where s holds x (k ∷ ks) r.notification o ++ rest)) e
+
+-- Answers of calls.
 
 pub if_ok : {X E : Type 0} (P Q : X → Type 0) → ((x : X) → P x → Q x) → (r : Result X E) → IfOk r P → IfOk r Q
 if_ok P Q step (Ok x) h = step x h

@@ -1,5 +1,5 @@
 -- What the code asks, as a case of the definition.
-use Rattle.std.specs.Prelude.{◌≡◌, ℕ, ◌&&◌, not, nat_lt, ◌++◌, Bool, List, [], ◌∷◌, map, slice_get, Option, Some, None, if◌then◌else◌}
+use Rattle.std.specs.Prelude.{◌≡◌, ℕ, ◌&&◌, ◌||◌, not, nat_lt, ◌++◌, Bool, true, false, List, [], ◌∷◌, map, slice_get, Option, Some, None, if◌then◌else◌}
 use Rattle.jiff_tz.specs.declared.tzif.Tzif.{Tzif}
 use Rattle.site_model.specs.PlainSite.{PlainCheck, PlainSite}
 use Rattle.site_model.specs.declared.decision.Decision.{Decision}
@@ -11,7 +11,7 @@ use Rattle.site_model.specs.declared.outcome.Outcome.{Outcome}
 use Rattle.site_model.specs.declared.outcome.Outcome.TheVariants as outcome
 use Rattle.site_model.specs.declared.view.View.{View}
 use Rattle.run_meaning.specs.Acts.{Seen}
-use Rattle.run_meaning.specs.Decisions.{Case, is_fresh, is_for_problem, is_early, is_late, is_repeat, tells_state, takes_kind, takes_state, where_so, held_so, downtime_so, outcome_of}
+use Rattle.run_meaning.specs.Decisions.{Case, is_fresh, is_hard, is_result, is_tick, tells_ack, is_for_problem, is_early, is_late, is_repeat, tells_state, takes_kind, takes_state, where_so, held_so, downtime_so, outcome_of}
 use Rattle.run_meaning.specs.Downtimes.{in_effect}
 use Rattle.run_meaning.specs.Reachability.{for_notes, period_holds, reach_of}
 use Rattle.run_meaning.specs.View.{is_on, view_of}
@@ -19,6 +19,19 @@ use Rattle.depend_graph.specs.Outlooks.{holds_in}
 use Rattle.depend_graph.specs.Reaching.{reach_as}
 use Rattle.notify_rules.specs.declared.asked.Asked.{Asked}
 use Rattle.depend_graph.specs.declared.reach.Reach.{Reach}
+
+abbrev pub has_any : {X : Type 0} → List X → Bool
+has_any [] = false
+has_any (x ∷ xs) = true
+
+-- whether an event gives any kind, by the views before and after it
+abbrev pub gives_kinds : View → View → Event → Bool → Bool
+gives_kinds before after v taken =
+    ((((((is_result v || is_tick v) && is_hard after)
+    || (is_result v && (is_hard before && not (is_hard after))))
+    || (taken && tells_ack v))
+    || (is_result v && (after.flapping && not before.flapping)))
+    || (is_result v && (before.flapping && not after.flapping)))
 
 -- what is asked is this case
 pub record IsCase (a : Asked) (x : Case) : Type 0 where

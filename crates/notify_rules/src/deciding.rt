@@ -1,16 +1,18 @@
 // What is decided on the notifications of a checkable at an entry.
-ghost use Rattle.std.specs.Prelude.{◌≡◌, ◌<◌, ◌++◌, List, Some, All, IfOk, OnOk, length, map, reverse, slice_get};
-ghost use Rattle.site_model.specs.PlainSite.{PlainCheck, site_view};
+ghost use Rattle.std.specs.Prelude.{◌≡◌, ◌<◌, ◌++◌, ◌∷◌, [], ℕ, List, Option, Some, All, IfOk, OnOk, length, map, reverse, slice_get};
+ghost use Rattle.jiff_tz.specs.declared.tzif.Tzif.{Tzif};
+ghost use Rattle.site_model.specs.PlainSite.{PlainCheck, PlainSite, site_view};
 ghost use Rattle.site_model.specs.declared.entry.Entry.{Entry};
 ghost use Rattle.run_meaning.specs.Acts.{Seen};
 ghost use Rattle.run_meaning.specs.Decisions.{Case, decisions_of};
-ghost use Rattle.notify_rules.specs.Case.{Asks, IsCase, decided_for, decided_on, decided_where};
+ghost use Rattle.run_meaning.specs.View.{view_of};
+ghost use Rattle.notify_rules.specs.Case.{Asks, IsCase, decided_for, decided_on, decided_where, has_any};
 ghost use Rattle.depend_graph.specs.Outlooks.{holds_in};
 ghost use Rattle.notify_rules.specs.Sent.{HasUsers, NeverFall, Remembers, StandsFor, number_of, user_of};
 
 use crate::SentBook;
 use crate::asked::{Asked, is_fresh};
-use crate::kinds::kinds_of;
+use crate::kinds::{gives_kinds, kinds_of};
 use crate::outcomes::outcome_of;
 use crate::sent_note::SentNote;
 use depend_graph::Reach;
@@ -62,6 +64,25 @@ pub fn decide(
         moment,
     };
     decide_all(alloc, site, zone, &asked, sent.notes(), kinds.as_slice())
+}
+
+/// Whether anything is decided at an entry. What holds notifications back needs to be known only then. The book and the views
+/// are those that `decide` takes.
+pub fn decides(
+    sent: &SentBook,
+    before: &View,
+    after: &View,
+    event: &Event,
+    taken: bool,
+) -> bool
+    ensures { (s : PlainSite) (zone : Option Tzif) (c : ℕ) (check : PlainCheck) (h : List Entry) (e : Entry) (seen : List Seen) → StandsFor sent.now s c check h →
+        before.now ≡ view_of check h → after.now ≡ view_of check (h ++ e ∷ []) → e.event ≡ event.now → e.taken ≡ taken →
+        result ≡ has_any (decisions_of s (holds_in s zone) c check h e seen) }
+{
+    if sent.is_empty() {
+        return false;
+    }
+    gives_kinds(before, after, event, taken)
 }
 
 /// What is decided on these notifications for these kinds.

@@ -2,6 +2,7 @@
 ghost use Rattle.std.specs.Prelude.{◌≡◌, ◌++◌, IfOk, OnOk, OnErr};
 ghost use Rattle.site_model.specs.declared.entry.Entry.{Entry};
 ghost use Rattle.run_meaning.specs.Decisions.{kinds_of, kind_where, is_tick, tells_ack};
+ghost use Rattle.notify_rules.specs.Case.{gives_kinds};
 
 use crate::asked::{is_hard, is_result};
 use site_base::{OutOfMemory, Row};
@@ -48,6 +49,20 @@ pub(crate) fn kinds_of(
         NoteKind::FlappingEnd,
     )?;
     Ok(kinds)
+}
+
+/// Whether an entry gives any kind.
+pub(crate) fn gives_kinds(before: &View, after: &View, event: &Event, taken: bool) -> bool
+    ensures { result ≡ gives_kinds before.now after.now event.now taken }
+{
+    let checked = is_result(event);
+    let was = is_hard(before);
+    let hard = is_hard(after);
+    (checked || is_tick(event)) && hard
+        || checked && (was && !hard)
+        || taken && tells_ack(event)
+        || checked && (after.flapping && !before.flapping)
+        || checked && (before.flapping && !after.flapping)
 }
 
 /// Adds a kind where it is given.

@@ -20,5 +20,5 @@ mod sent_book;
 mod sent_note;
 mod times;
 
-pub use deciding::decide;
+pub use deciding::{decide, decides};
 pub use sent_book::SentBook;

@@ -1,5 +1,5 @@
 // What was sent of the notifications of a checkable.
-ghost use Rattle.std.specs.Prelude.{◌≡◌, ◌<◌, ◌≤◌, ◌^◌, ◌++◌, ◌∷◌, [], ℕ, List, Some, None, length, reverse, slice_get, IfOk, map, option_copied, if◌then◌else◌};
+ghost use Rattle.std.specs.Prelude.{◌≡◌, ◌<◌, ◌≤◌, ◌^◌, ◌==◌, ◌++◌, ◌∷◌, [], ℕ, List, Some, None, length, reverse, slice_get, IfOk, map, option_copied, if◌then◌else◌};
 ghost use Rattle.std.specs.List.{position_from};
 ghost use Rattle.site_model.specs.PlainSite.{PlainCheck, PlainSite, site_view};
 ghost use Rattle.site_model.specs.Sound.{IsSound, AreDistinct};
@@ -66,6 +66,13 @@ impl SentBook {
         if is_well(self.host, &entry.event) {
             self.forget();
         }
+    }
+
+    /// Whether the checkable has no notifications.
+    pub(crate) fn is_empty(&self) -> bool
+        ensures { result ≡ (length self.now.notes == 0) }
+    {
+        self.notes.is_empty()
     }
 
     pub(crate) fn notes(&self) -> &[SentNote]
