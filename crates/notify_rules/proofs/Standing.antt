@@ -4,13 +4,13 @@ use Rattle.std.specs.Prelude.{is_some}
 use Rattle.std.proofs.lemmas.List.{reverse-append}
 use Rattle.std.proofs.lemmas.List.Elements.{All-nil, All-cons, All-tail, All-head, All-map, All-weaker}
 use Rattle.site_model.specs.PlainSite.{PlainCheck, PlainSite}
-use Rattle.site_model.specs.Sound.{AreDistinct, IsSound, TellsUsers}
+use Rattle.site_model.specs.Sound.{AreDistinct}
 use Rattle.site_model.specs.declared.decision.Decision.{Decision}
 use Rattle.site_model.specs.declared.entry.Entry.{Entry}
 use Rattle.site_model.specs.declared.notify_spec.NotifySpec.{NotifySpec}
 use Rattle.run_meaning.specs.Decisions.{has_received, is_among, is_well, problem_sent}
 use Rattle.run_meaning.specs.View.{status_in}
-use Rattle.notify_rules.specs.Sent.{user_of, number_of, untold, told_by, forgotten, forgetting, noted, last_sent, notes_from, HaveDistinct, HasUsers, Contents, Remembers, StandsFor, Follows, NeverFall}
+use Rattle.notify_rules.specs.Sent.{user_of, number_of, untold, told_by, forgotten, forgetting, noted, last_sent, notes_from, HaveDistinct, HasUsers, TellOnce, Contents, Remembers, StandsFor, Follows, NeverFall}
 use Rattle.notify_rules.specs.declared.listeners.Listener.{Listener}
 use Rattle.notify_rules.specs.declared.sent_note.SentNote.{SentNote}
 use Rattle.notify_rules.proofs.Telling.{users_kept}
@@ -91,18 +91,15 @@ has_users notes k n note is e =
     let at : slice_get notes n ≡ Some note = ap (slice_get notes) e ∙ is in
     subst (λ (o : Option NotifySpec). IsSomeAnd o (λ other. map user_of (map untold note.users) ≡ other.users)) (sym at) (untold_users note.users)
 
-once_at : (s : PlainSite) → IsSound s → (k : ℕ) (note : NotifySpec) → slice_get s.notifies k ≡ Some note → AreDistinct note.users
-once_at s sound k note at =
-    let tells : TellsUsers (length s.checkables) (length s.users) (length s.periods) note =
-    all_at (TellsUsers (length s.checkables) (length s.users) (length s.periods)) s.notifies sound.notifies k note at in
-    tells.once
+once_at : (s : PlainSite) → TellOnce s → (k : ℕ) (note : NotifySpec) → slice_get s.notifies k ≡ Some note → AreDistinct note.users
+once_at s once k note at = all_at (λ (n : NotifySpec). AreDistinct n.users) s.notifies once k note at
 
-pub stands_empty : (s : PlainSite) (c : ℕ) (check : PlainCheck) (b : Contents) → IsSound s → b.host ≡ check.host → b.notes ≡ rows_from c 0 s.notifies → StandsFor b s c check []
-stands_empty s c check b sound host is = record {
+pub stands_empty : (s : PlainSite) (c : ℕ) (check : PlainCheck) (b : Contents) → TellOnce s → b.host ≡ check.host → b.notes ≡ rows_from c 0 s.notifies → StandsFor b s c check []
+stands_empty s c check b tell host is = record {
   host = host;
   notes = ap (map number_of) is ∙ rows_numbers c 0 s.notifies;
   users = subst (All (HasUsers s.notifies)) (sym is) (all_rows (HasUsers s.notifies) c 0 s.notifies (λ k note at. has_users s.notifies k (0 + k) note at (omega arith)));
-  once = subst HaveDistinct (sym is) (all_rows (λ r. AreDistinct (map user_of r.listeners)) c 0 s.notifies (λ k note at. subst AreDistinct (sym (untold_users note.users)) (once_at s sound k note at)));
+  once = subst HaveDistinct (sym is) (all_rows (λ r. AreDistinct (map user_of r.listeners)) c 0 s.notifies (λ k note at. subst AreDistinct (sym (untold_users note.users)) (once_at s tell k note at)));
   in_order = tt;
   remembers = subst (All (Remembers check [])) (sym is) (all_rows (Remembers check []) c 0 s.notifies (λ k note at. record { problem = refl; told = all_untold check (0 + k) note.users }));
 }

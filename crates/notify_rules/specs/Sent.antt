@@ -96,6 +96,10 @@ abbrev pub notes_from : ℕ → ℕ → List NotifySpec → List ℕ
 notes_from c n [] = []
 notes_from c n (note ∷ notes) = (if nat_eq note.checkable c then n ∷ [] else []) ++ notes_from c (suc n) notes
 
+-- each notification names each user once
+abbrev pub TellOnce : PlainSite → Type 0
+TellOnce s = All (λ note. AreDistinct note.users) s.notifies
+
 -- the listeners are the users of the notification, in its order
 abbrev pub HasUsers : List NotifySpec → SentNote → Type 0
 HasUsers notes r = IsSomeAnd (slice_get notes r.notification) (λ note. map user_of r.listeners ≡ note.users)

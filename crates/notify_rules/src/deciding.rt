@@ -1,12 +1,12 @@
 // What is decided on the notifications of a checkable at an entry.
-ghost use Rattle.std.specs.Prelude.{◌≡◌, ◌<◌, ◌++◌, ◌∷◌, [], ℕ, List, Option, Some, All, IfOk, OnOk, length, map, reverse, slice_get};
+ghost use Rattle.std.specs.Prelude.{◌≡◌, ◌<◌, ◌++◌, ◌∷◌, [], ℕ, List, Option, Some, true, All, IfOk, OnOk, length, map, reverse, slice_get};
 ghost use Rattle.jiff_tz.specs.declared.tzif.Tzif.{Tzif};
 ghost use Rattle.site_model.specs.PlainSite.{PlainCheck, PlainSite, site_view};
 ghost use Rattle.site_model.specs.declared.entry.Entry.{Entry};
 ghost use Rattle.run_meaning.specs.Acts.{Seen};
 ghost use Rattle.run_meaning.specs.Decisions.{Case, decisions_of};
 ghost use Rattle.run_meaning.specs.View.{view_of};
-ghost use Rattle.notify_rules.specs.Case.{Asks, IsCase, decided_for, decided_on, decided_where, has_any};
+ghost use Rattle.notify_rules.specs.Case.{Asks, IsCase, decided_for, decided_on, decided_where, gives_kinds, has_any};
 ghost use Rattle.depend_graph.specs.Outlooks.{holds_in};
 ghost use Rattle.notify_rules.specs.Sent.{HasUsers, NeverFall, Remembers, StandsFor, number_of, user_of};
 
@@ -75,9 +75,10 @@ pub fn decides(
     event: &Event,
     taken: bool,
 ) -> bool
-    ensures { (s : PlainSite) (zone : Option Tzif) (c : ℕ) (check : PlainCheck) (h : List Entry) (e : Entry) (seen : List Seen) → StandsFor sent.now s c check h →
+    ensures any { (s : PlainSite) (zone : Option Tzif) (c : ℕ) (check : PlainCheck) (h : List Entry) (e : Entry) (seen : List Seen) → StandsFor sent.now s c check h →
         before.now ≡ view_of check h → after.now ≡ view_of check (h ++ e ∷ []) → e.event ≡ event.now → e.taken ≡ taken →
         result ≡ has_any (decisions_of s (holds_in s zone) c check h e seen) }
+    ensures gives { result ≡ true → gives_kinds before.now after.now event.now taken ≡ true }
 {
     if sent.is_empty() {
         return false;

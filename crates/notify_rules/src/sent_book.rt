@@ -2,11 +2,11 @@
 ghost use Rattle.std.specs.Prelude.{◌≡◌, ◌<◌, ◌≤◌, ◌^◌, ◌==◌, ◌++◌, ◌∷◌, [], ℕ, List, Some, None, length, reverse, slice_get, IfOk, map, option_copied, if◌then◌else◌};
 ghost use Rattle.std.specs.List.{position_from};
 ghost use Rattle.site_model.specs.PlainSite.{PlainCheck, PlainSite, site_view};
-ghost use Rattle.site_model.specs.Sound.{IsSound, AreDistinct};
+ghost use Rattle.site_model.specs.Sound.{AreDistinct};
 ghost use Rattle.site_model.specs.declared.decision.Decision.{Decision as Decided};
 ghost use Rattle.run_meaning.specs.Decisions.{is_for_problem, users_sent, is_well};
 ghost use Rattle.run_meaning.specs.View.{status_in};
-ghost use Rattle.notify_rules.specs.Sent.{number_of, noted, forgetting, is_note, IsAt, HaveDistinct, StandsFor, Follows};
+ghost use Rattle.notify_rules.specs.Sent.{number_of, noted, forgetting, is_note, IsAt, HaveDistinct, StandsFor, TellOnce, Follows};
 
 use crate::filters::is_for_problem;
 use crate::sent_note::SentNote;
@@ -42,7 +42,7 @@ impl SentBook {
     pub fn new(alloc: Global, site: &Site, checkable: u32) -> Result<SentBook, OutOfMemory>
         requires checkable { checkable < length site.now.checkables }
         requires notifies { length site.now.notifies < 2 ^ 32 }
-        ensures { (check : PlainCheck) → IsSound (site_view site.now) → slice_get (site_view site.now).checkables checkable ≡ Some check →
+        ensures { (check : PlainCheck) → TellOnce (site_view site.now) → slice_get (site_view site.now).checkables checkable ≡ Some check →
             IfOk result (λ b. StandsFor b (site_view site.now) checkable check []) }
     {
         let mut notes = Vec::new(alloc);

@@ -8,8 +8,8 @@ use Rattle.run_meaning.specs.Decisions.{kinds_of}
 use Rattle.notify_rules.proofs.Decided.{all_decided, any_decided, case_of, given, none_there, some_there}
 use Rattle.notify_rules.proofs.deciding.decides.Goals as goal
 
-pub returns-then-is_empty : goal.returns-then-is_empty
-returns-then-is_empty c = λ s zone k check h e seen stands was is at taken.
+pub returns-then-is_empty-clause-any : goal.returns-then-is_empty-clause-any
+returns-then-is_empty-clause-any c = λ s zone k check h e seen stands was is at taken.
     let x = case_of s zone k check h e seen in
     let kinds = kinds_of x.before x.after e in
     let rs = c.args.sent.now.notes in
@@ -17,8 +17,8 @@ returns-then-is_empty c = λ s zone k check h e seen stands was is at taken.
     ∙ sym (any_decided s (holds_in s zone) x kinds rs stands.users)
     ∙ ap has_any (all_decided s (holds_in s zone) x k kinds (map number_of rs) refl stands.notes)
 
-pub returns : goal.returns
-returns c = λ s zone k check h e seen stands was is at taken.
+pub returns-clause-any : goal.returns-clause-any
+returns-clause-any c = λ s zone k check h e seen stands was is at taken.
     let x = case_of s zone k check h e seen in
     let kinds = kinds_of x.before x.after e in
     let rs = c.args.sent.now.notes in

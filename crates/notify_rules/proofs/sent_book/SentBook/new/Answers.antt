@@ -8,7 +8,7 @@ use Rattle.notify_rules.proofs.Standing.{rows_from, stands_empty}
 use Rattle.notify_rules.proofs.sent_book.SentBook.new.Goals as goal
 
 pub returns : goal.returns
-returns c = λ check sound at.
+returns c = λ check once at.
     let s = c.args.site.now in
     let k = c.args.checkable in
     let d = c.index-as_slice-checkable.result in
@@ -17,4 +17,4 @@ returns c = λ check sound at.
     let past : drop i s.notifies ≡ [] = drop_past i s.notifies (omega (arith, ap length c.as_slice-note-items.ensures)) in
     let all = sym (append-nil notes) ∙ ap (λ (ns : List NotifySpec). notes ++ rows_from k i ns) (sym past) ∙ c.loop-index.invariant in
     let host = ap (λ (cs : List CheckSpec). (get_or cs k d).host) c.as_slice-2.ensures ∙ ap (λ (x : PlainCheck). x.host) (spec_at s.checkables k d check at) in
-    stands_empty (site_view s) k check _ sound host all
+    stands_empty (site_view s) k check _ once host all
