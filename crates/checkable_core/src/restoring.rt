@@ -1,0 +1,49 @@
+// A checkable that has entries from the start.
+ghost use Rattle.std.specs.Prelude.{◌≡◌, ◌<◌, ◌^◌, IfOk, IsErrOf, length};
+ghost use Rattle.site_model.specs.PlainSite.{site_view};
+ghost use Rattle.notify_rules.specs.Sent.{TellOnce};
+ghost use Rattle.checkable_core.specs.Histories.{IsHistory};
+
+use crate::histories::is_history;
+use crate::running::Running;
+use crate::{Checkable, RestoreFault};
+use site_base::Row;
+use site_model::{Entry, Site};
+use std::alloc::Global;
+use std::snapshot::Snapshot;
+
+impl Checkable {
+    /// The checkable of this index of a site, with these entries, the oldest first. Their events, moments and decisions count
+    /// as they are, and whether an event was taken; states aren't compared with what the events make.
+    ///
+    /// # Errors
+    ///
+    /// `BadHistory` where a checkable of the site can't have these entries, before any memory is asked for. `OutOfMemory` where
+    /// there is none for what is kept of its notifications and downtimes.
+    pub fn restored(
+        alloc: Global,
+        site: &Site,
+        checkable: u32,
+        entries: Row<Entry>,
+    ) -> Result<Checkable, RestoreFault>
+        requires once { TellOnce (site_view site.now) }
+        requires notifies { length site.now.notifies < 2 ^ 32 }
+        requires checkable { checkable < length site.now.checkables }
+        ensures ok { IfOk result (λ k. (k ≡ record { site = site.now; index = checkable; entries = entries }) × IsHistory (site_view site.now) entries) }
+        ensures bad { IsErrOf result RestoreFault.BadHistory → ¬ IsHistory (site_view site.now) entries }
+        ensures memory { IsErrOf result RestoreFault.OutOfMemory → IsHistory (site_view site.now) entries }
+    {
+        if !is_history(site, entries.as_slice()) {
+            return Err(RestoreFault::BadHistory);
+        }
+        let entries = entries.into_vec();
+        let running = Running::after(alloc, site, checkable, entries.as_slice())?;
+        Ok(Checkable {
+            alloc,
+            site: Snapshot::of(site),
+            index: checkable,
+            running,
+            entries,
+        })
+    }
+}
