@@ -68,13 +68,7 @@ pub fn decide(
 
 /// Whether anything is decided at an entry. What holds notifications back needs to be known only then. The book and the views
 /// are those that `decide` takes.
-pub fn decides(
-    sent: &SentBook,
-    before: &View,
-    after: &View,
-    event: &Event,
-    taken: bool,
-) -> bool
+pub fn decides(sent: &SentBook, before: &View, after: &View, event: &Event, taken: bool) -> bool
     ensures any { (s : PlainSite) (zone : Option Tzif) (c : ℕ) (check : PlainCheck) (h : List Entry) (e : Entry) (seen : List Seen) → StandsFor sent.now s c check h →
         before.now ≡ view_of check h → after.now ≡ view_of check (h ++ e ∷ []) → e.event ≡ event.now → e.taken ≡ taken →
         result ≡ has_any (decisions_of s (holds_in s zone) c check h e seen) }
