@@ -2,7 +2,7 @@
 use crate::calls::{push_about, push_before, push_between, push_call};
 use crate::names::plain_of;
 use crate::reading::{Reading, read};
-use crate::within::{called, push_within};
+use crate::within::{called_by, push_within};
 use dsl_lexer::{LexError, lex};
 use dsl_syntax::UnOp;
 use site_base::{OutOfMemory, Text};
@@ -58,7 +58,7 @@ fn push_limited(alloc: Global, out: &mut Text, text: &str) -> Result<(), OutOfMe
     let (Ok(units), Some(reading)) = (units.parse::<u64>(), reading_of(alloc, text)?) else {
         return out.push_str("no values");
     };
-    match called(word, name, &reading) {
+    match called_by(word, name, &reading) {
         Some(called) => {
             let is_frozen = word == "frozen" || word == "set-frozen";
             push_within(alloc, out, called, units, is_frozen, reading)

@@ -23,7 +23,7 @@ pub(crate) enum Called {
 }
 
 /// What is called, by the word of a row and the name behind it.
-pub(crate) fn called(word: &str, name: &str, reading: &Reading) -> Option<Called> {
+pub(crate) fn called_by(word: &str, name: &str, reading: &Reading) -> Option<Called> {
     match word {
         "between" => Some(Called::Operator(reading.op?)),
         "call" | "frozen" => Some(Called::Library(plain_of(name)?)),
