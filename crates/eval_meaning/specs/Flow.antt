@@ -68,6 +68,10 @@ turns_with ev e b (suc n) s = turn_with ev e b s >>= λ o s1. around o (turns_wi
 abbrev pub while_with : Parts → Expression → Statements → State → Outcome Flow
 while_with ev e b s = turns_with ev e b s.steps s
 
+-- the first turn and, where the loop goes on, the `while` after it
+abbrev pub unrolled : Parts → Expression → Statements → State → Outcome Flow
+unrolled ev e b s = turn_with ev e b s >>= λ o s1. around o (while_with ev e b) s1
+
 -- the elements of an array, one after another as a local
 abbrev pub for_values : Parts → List ℕ → Statements → List Value → State → Outcome Flow
 for_values ev n b [] s = gives On s

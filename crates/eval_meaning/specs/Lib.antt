@@ -18,5 +18,7 @@ pub mod Templates
 pub mod Registration
 pub mod Files
 pub mod Steps
+pub mod Onward
+pub mod Follows
 pub mod Evaluation
 pub mod Load

@@ -140,7 +140,7 @@ unless_condition (Some l) s = fault l NotHere s
 unless_condition None s = gives tt s
 
 -- the type is one, and conditions stand only where its objects take them
-abbrev pub lawful : Place → List ℕ → Statements → State → Outcome (Unit {0})
+unfoldable pub lawful : Place → List ℕ → Statements → State → Outcome (Unit {0})
 lawful l kind b s =
     if not (is_among kind types) then faults l UnknownType (quoted kind) s.reads
     else (if is_among kind groups then gives tt s else unless_condition (condition_in b) s)
@@ -234,7 +234,7 @@ has_loop no_loop = false
 has_loop (some_loop x) = true
 
 -- the type is one, its rules go to the target, and there is an `assign` or a loop
-abbrev pub lawful_rule : Place → List ℕ → Option (List ℕ) → MaybeLoop → Statements → State → Outcome (Unit {0})
+unfoldable pub lawful_rule : Place → List ℕ → Option (List ℕ) → MaybeLoop → Statements → State → Outcome (Unit {0})
 lawful_rule l kind to each b s =
     if not (is_among kind types) then faults l UnknownType (quoted kind) s.reads
     else if not (is_among (resolved_target kind to) (target_types kind)) then faults l BadTarget (quoted (told_target kind to)) s.reads
