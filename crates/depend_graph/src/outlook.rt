@@ -47,7 +47,8 @@ impl<'a> Outlook<'a> {
         self.host_back(spec.host, blocked)
     }
 
-    /// Whether a checkable that no dependency holds back is held back by its host, which a service has: of notifications alone.
+    /// Whether its host holds back a checkable that no dependency does. It holds back the notifications of a service, and no
+    /// checks.
     fn host_back(&self, host: Option<u32>, blocked: &[bool]) -> Reach
         requires fit { IsFit self.now }
         requires length { length blocked.now ≡ length self.now.above.now }
@@ -154,7 +155,7 @@ impl<'a> Outlook<'a> {
         }
     }
 
-    /// Where an ancestor stands among them.
+    /// Where an ancestor stands among all of them; `None` of a checkable that is none.
     pub(crate) fn place_of(&self, checkable: u32) -> Option<usize>
         requires { IsFit self.now }
         ensures place { IfSome result (λ k. k < length self.now.above.now) }
