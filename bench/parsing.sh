@@ -1,10 +1,10 @@
 #!/usr/bin/env bash
-# Times `lex` and `parse` on one core over texts of the first form of 1 to 8 MiB: 4 MiB are to take below 50 ns a byte, and time
-# is to grow by less than 2.1 for each doubling.
+# Times `lex` and `parse` on one core over texts of the first form of 1 to 8 MiB: 4 MiB are to take below 50 ns a byte and below 20
+# bytes of peak memory a byte, and time is to grow by less than 2.1 for each doubling.
 set -eu
 . "$(dirname "${BASH_SOURCE[0]}")/program.sh"
 
-build_program 'site_base dsl_syntax dsl_lexer dsl_rules dsl_depth dsl_grammar dsl_next dsl_parts dsl_parser anyhow' <<'RATTLE'
+build_program 'site_base dsl_syntax dsl_lexer dsl_rules dsl_depth dsl_grammar dsl_next dsl_parts dsl_statements dsl_parser anyhow' <<'RATTLE'
 //! Lexes and parses standard input, and prints how long each took.
 #![tactic(auto)]
 
@@ -40,6 +40,9 @@ for hosts in 9350 18700 37400 74800; do
         for (h = 0; h < hosts; h++)
             printf "object Host \"host-%d\" {\n  check_command = \"hostalive\"\n  address = \"192.0.2.1\"\n  max_check_attempts = 5\n}\n\n", h
     }' >"$work/text"
-    for _ in 1 2 3 4 5; do taskset -c 0 "$program" <"$work/text"; done | sort -t, -k4,4n | head -1 |
-        awk '{ printf "%.1f MB: lexed in %.0f ms, parsed in %.0f ms, %.1f ns a byte\n", $1 / 1e6, $5 / 1e3, $7 / 1e3, ($5 + $7) * 1e3 / $1 }'
+    for _ in 1 2 3 4 5; do /usr/bin/time -f '%M' -o "$work/peak" taskset -c 0 "$program" <"$work/text"; done >"$work/times"
+    sort -t, -k4,4n "$work/times" | head -1 | awk -v peak="$(cat "$work/peak")" '{
+        printf "%.1f MB: lexed in %.0f ms, parsed in %.0f ms, %.1f ns a byte, ", $1 / 1e6, $5 / 1e3, $7 / 1e3, ($5 + $7) * 1e3 / $1
+        printf "%.1f bytes of memory a byte\n", peak * 1024 / $1
+    }'
 done

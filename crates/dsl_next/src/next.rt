@@ -1,9 +1,10 @@
 // The next token.
-ghost use Rattle.std.specs.Prelude.{◌≡◌, [], ◌∷◌, drop};
+ghost use Rattle.std.specs.Prelude.{◌≡◌, ◌<◌, [], ◌∷◌, drop, length};
 ghost use Rattle.dsl_rules.specs.Alphabet.{at, same, skip};
 ghost use Rattle.dsl_rules.specs.Reading.{got, one_read};
 ghost use Rattle.dsl_grammar.specs.Codes.{sorts, kind_sort, word_sort, sign_sort, ident_sort, string_sort, line_sort};
 ghost use Rattle.dsl_next.specs.Gives.{Gives};
+ghost use Rattle.dsl_grammar.specs.Files.{head_place};
 ghost use Rattle.dsl_grammar.specs.Reading.{read_by};
 ghost use Rattle.dsl_grammar.specs.Terms.{nl, text};
 
@@ -150,6 +151,14 @@ pub fn after_first(tokens: &[Token]) -> &[Token]
         [_, rest @ ..] => rest,
         [] => tokens,
     }
+}
+
+/// Where the first of these tokens stands.
+pub fn place_of(tokens: &[Token]) -> Place
+    requires { 0 < length tokens.now }
+    ensures { result ≡ head_place tokens.now }
+{
+    tokens[0].place
 }
 
 /// The tokens behind all newlines.

@@ -1,4 +1,3 @@
-// Why a production reads nothing.
 use dsl_lexer::Token;
 use site_base::OutOfMemory;
 use std::alloc::{AllocError, AllocFailed};

@@ -1,18 +1,18 @@
 -- What expressions read, by what stands next.
 use Rattle.std.proofs.Common.{◌≡◌, ◌≢◌, ◌-◌, ℕ, suc, List, [], ◌∷◌, Bool, true, false, refl, ◌∙◌}
 use Rattle.dsl_syntax.specs.declared.set_op.SetOp.{SetOp}
-use Rattle.dsl_syntax.specs.Syntax.{Expression}
+use Rattle.dsl_syntax.specs.Syntax.{Expression, Expressions}
 use Rattle.dsl_rules.specs.Alphabet.{Sort, at, and, over}
 use Rattle.dsl_rules.specs.Rules.{may}
 use Rattle.dsl_rules.specs.Reading.{Read, got, bad, ◌>>=◌, one_read, turns}
 use Rattle.dsl_grammar.specs.Codes.{sorts}
 use Rattle.dsl_grammar.specs.Operators.{set_sorts, set_of}
-use Rattle.dsl_parts.specs.Parts.{set_of_left}
+use Rattle.dsl_statements.specs.Parts.{set_of_left}
 use Rattle.dsl_lexer.specs.declared.token.Token.{Token}
 use Rattle.dsl_rules.specs.Grammar.{made}
-use Rattle.dsl_grammar.specs.Grammar.{Whole, Lambda, Level, begun_expression, begins_lambda, begins_define, Define, DefineOrSet, SetOrEval, SetTo, setting}
+use Rattle.dsl_grammar.specs.Grammar.{Arguments, Listed, Whole, Lambda, Level, begun_expression, begins_lambda, SetTo, setting}
 use Rattle.dsl_grammar.specs.Reading.{reads, read_by}
-use Rattle.dsl_grammar.specs.Terms.{expr, nl}
+use Rattle.dsl_grammar.specs.Terms.{expr, nl, starts}
 use Rattle.dsl_grammar.proofs.LevelReads.{expr_on}
 
 -- a function with "=>"
@@ -30,15 +30,6 @@ whole_levels n ts h = rw h refl
 
 pub expr_levels : (n : ℕ) (ts : List Token) → n ≢ 0 → begins_lambda ts ≡ false → reads n expr ts ≡ read_by n (made begun_expression (Level 11)) ts
 expr_levels n ts some h = expr_on n ts some ∙ whole_levels n ts h
-
--- a definition, and what is none
-pub defined : (n : ℕ) (ts : List Token) → begins_define ts ≡ true → read_by n DefineOrSet ts ≡ read_by n Define ts
-unfolding DefineOrSet
-defined n ts h = rw h refl
-
-pub not_defined : (n : ℕ) (ts : List Token) → begins_define ts ≡ false → read_by n DefineOrSet ts ≡ read_by n SetOrEval ts
-unfolding DefineOrSet
-not_defined n ts h = rw h refl
 
 -- what is assigned
 pub set_got : (n : ℕ) (e x : Expression) (o : SetOp) (ts mid inner rest : List Token) → one_read sorts set_sorts (λ t. set_of t.kind) ts ≡ got o mid → read_by n nl mid ≡ got 0 inner → reads (n - 1) expr inner ≡ got x rest → read_by n (made (set_of_left e) SetTo) ts ≡ got (set_of_left e (setting o x)) rest
@@ -60,4 +51,13 @@ turn_made {A} {C} m k look cs more step p c ts e h = rw (e, h) (by (p (over sort
   where
     by : (r : Read Token A) → (r >>= λ x mid. turns sorts look cs more step p k (step c x) mid) ≡ ((r >>= λ x rest. got (step c x) rest) >>= turns sorts look cs more step p k)
     by (got x mid) = refl
+    by (bad s) = refl
+
+-- the arguments of a call, where some stand there
+pub arguments_are : (n : ℕ) (ts : List Token) → at sorts (starts expr) ts ≡ true → read_by n Arguments ts ≡ read_by n Listed ts
+unfolding Arguments Listed
+arguments_are n ts h = rw h (by (read_by n Listed ts))
+  where
+    by : (r : Read Token Expressions) → (r >>= λ x rest. got x rest) ≡ r
+    by (got x rest) = refl
     by (bad s) = refl

@@ -3,11 +3,11 @@ ghost use Rattle.std.specs.Prelude.{◌<◌};
 ghost use Rattle.dsl_rules.specs.Grammar.{made};
 ghost use Rattle.dsl_next.specs.Gives.{Gives};
 ghost use Rattle.dsl_grammar.specs.Grammar.{AnyHead, ApplyHeads, ApplyName, ApplyStatement, add_head};
-ghost use Rattle.dsl_parts.specs.NamedView.{heads_view};
+ghost use Rattle.dsl_statements.specs.NamedView.{heads_view};
 ghost use Rattle.dsl_grammar.specs.Reading.{read_by};
 ghost use Rattle.dsl_syntax.specs.SyntaxView.{maybe_expr_view, stmt_kind_view};
 
-use crate::blocks::body;
+use crate::blocks::braced;
 use crate::exprs::expr;
 use crate::functions::captured;
 use crate::loops::loop_head;
@@ -15,14 +15,15 @@ use dsl_lexer::{Token, Word};
 use dsl_next::begins::at_apply_name;
 use dsl_next::next::{at_word, ident, word};
 use dsl_next::stop::Stop;
-use dsl_parts::applies::{Headed, Heads, apply_of, at_head, with_loop, with_target};
-use dsl_parts::objects::bodied_of;
+use dsl_statements::applies::{Headed, Heads, apply_of, at_head, with_loop, with_target};
+use dsl_statements::leads::Within;
+use dsl_statements::objects::bodied_of;
 use dsl_syntax::{Expr, StmtKind};
 use std::alloc::Global;
 
 /// An apply rule, `"apply" IDENT [expr] heads [use] body`, where the expression doesn't begin with `{`.
 #[cycle(parse)]
-#[tactic(auto, unfolding(dsl_grammar::specs::Grammar::ApplyStatement, dsl_grammar::specs::Grammar::HeadedBody, dsl_grammar::specs::Grammar::UseBody))]
+#[tactic(auto, unfolding(dsl_grammar::specs::Grammar::ApplyStatement, dsl_grammar::specs::Grammar::HeadedBody, dsl_grammar::specs::Grammar::UseBody, dsl_grammar::specs::Grammar::Body))]
 pub(crate) fn apply_statement<'a>(
     alloc: Global,
     most: usize,
@@ -36,7 +37,7 @@ pub(crate) fn apply_statement<'a>(
     let (name, begin) = apply_name(alloc, most, begin)?;
     let (heads, begin) = apply_heads(alloc, most, begin)?;
     let (uses, begin) = captured(alloc, most, begin)?;
-    let (statements, rest) = body(alloc, most, begin)?;
+    let (statements, rest) = braced(alloc, most, Within::Body, begin)?;
     let bodied = bodied_of(alloc, uses, statements)?;
     Ok((apply_of(kind, name, Headed { heads, bodied }), rest))
 }

@@ -9,7 +9,7 @@ use crate::exprs::expr;
 use dsl_lexer::Token;
 use dsl_next::next::newlines;
 use dsl_next::stop::Stop;
-use dsl_parts::assignments::{Setting, set_left, set_op, sets};
+use dsl_statements::assignments::{Setting, set_left, set_op, sets};
 use dsl_syntax::StmtKind;
 use std::alloc::Global;
 

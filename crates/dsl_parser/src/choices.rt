@@ -1,9 +1,9 @@
-// The statements `if` and `while`.
+// The arms of an `if`.
 ghost use Rattle.std.specs.Prelude.{◌<◌};
-ghost use Rattle.dsl_syntax.specs.SyntaxView.{stmt_kind_view, armed_view};
+ghost use Rattle.dsl_syntax.specs.SyntaxView.{armed_view};
 ghost use Rattle.dsl_next.specs.Gives.{Gives};
-ghost use Rattle.dsl_grammar.specs.Grammar.{Choices, Else, Guarded, IfStatement, WhileStatement, add_else};
-ghost use Rattle.dsl_parts.specs.Parts.{choice_view};
+ghost use Rattle.dsl_grammar.specs.Grammar.{Choices, Else, Guarded, add_else};
+ghost use Rattle.dsl_statements.specs.Parts.{choice_view};
 ghost use Rattle.dsl_grammar.specs.Reading.{read_by};
 ghost use Rattle.dsl_rules.specs.Grammar.{made};
 
@@ -12,30 +12,15 @@ use crate::exprs::expr;
 use dsl_lexer::{Sign, Token, Word};
 use dsl_next::next::{at_word, sign, skip_lines, word};
 use dsl_next::stop::Stop;
-use dsl_parts::choices::{Choice, Otherwise, choice_of, goes_on, if_of, with_else};
-use dsl_parts::loops::{arm_of, while_of};
-use dsl_syntax::{Arm, StmtKind};
+use dsl_statements::choices::{Choice, Otherwise, choice_of, goes_on, with_else};
+use dsl_statements::loops::arm_of;
+use dsl_syntax::Arm;
 use std::alloc::Global;
 
-/// A choice, `"if" "(" expr ")" block { nl "else" "if" "(" expr ")" block } [ nl "else" block ]`.
-#[cycle(parse)]
-#[tactic(auto, unfolding(dsl_grammar::specs::Grammar::IfStatement))]
-pub(crate) fn if_statement<'a>(
-    alloc: Global,
-    most: usize,
-    tokens: &'a [Token],
-) -> Result<(StmtKind, &'a [Token]), Stop<'a>>
-    requires { 0 < most }
-    ensures { Gives stmt_kind_view result (read_by most IfStatement tokens.now) }
-{
-    let (choice, rest) = choices(alloc, most, tokens)?;
-    Ok((if_of(choice), rest))
-}
-
-/// All arms of an `if`, each `else` behind any number of newlines.
+/// The arms of an `if`: `"if" "(" expr ")" block { nl "else" "if" "(" expr ")" block } [ nl "else" block ]`.
 #[cycle(parse)]
 #[tactic(auto, unfolding(dsl_grammar::specs::Grammar::Choices, dsl_grammar::specs::Grammar::FirstChoice))]
-fn choices<'a>(
+pub(crate) fn choices<'a>(
     alloc: Global,
     most: usize,
     tokens: &'a [Token],
@@ -84,7 +69,7 @@ fn more_choice<'a>(
 /// A condition and a block, `"(" expr ")" block`.
 #[cycle(parse)]
 #[tactic(auto, unfolding(dsl_grammar::specs::Grammar::Guarded))]
-fn guarded<'a>(
+pub(crate) fn guarded<'a>(
     alloc: Global,
     most: usize,
     tokens: &'a [Token],
@@ -97,20 +82,4 @@ fn guarded<'a>(
     let (_, begin) = sign(Sign::CloseParen, after)?;
     let (block, rest) = block(alloc, most - 1, begin)?;
     Ok((arm_of(cond, block), rest))
-}
-
-/// A loop with a condition, `"while" "(" expr ")" block`.
-#[cycle(parse)]
-#[tactic(auto, unfolding(dsl_grammar::specs::Grammar::WhileStatement))]
-pub(crate) fn while_statement<'a>(
-    alloc: Global,
-    most: usize,
-    tokens: &'a [Token],
-) -> Result<(StmtKind, &'a [Token]), Stop<'a>>
-    requires { 0 < most }
-    ensures { Gives stmt_kind_view result (read_by most WhileStatement tokens.now) }
-{
-    let (_, begin) = word(Word::While, tokens)?;
-    let (arm, rest) = guarded(alloc, most, begin)?;
-    Ok((while_of(arm), rest))
 }

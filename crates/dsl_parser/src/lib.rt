@@ -1,7 +1,7 @@
 //! The parser of the configuration language: from the tokens of a file to its tree.
 //!
 //! A function for each production of the grammar that leads back into others, since blocks and expressions stand inside one
-//! another: `parsing` and `files`, then expressions (`exprs`, `tails`, `collections`, `functions`) and statements (`blocks`,
+//! another: `parsing`, then expressions (`exprs`, `tails`, `collections`, `functions`) and statements (`blocks`,
 //! `statements`, `assignments`, `choices`, `loops`, `objects`, `applies`).
 #![tactic(auto)]
 
@@ -11,7 +11,6 @@ mod blocks;
 mod choices;
 mod collections;
 mod exprs;
-mod files;
 mod functions;
 mod loops;
 mod objects;

@@ -10,7 +10,7 @@ use crate::exprs::expr;
 use dsl_lexer::{Sign, Token, Word};
 use dsl_next::next::{ident, sign, word};
 use dsl_next::stop::Stop;
-use dsl_parts::loops::{for_of, valued};
+use dsl_statements::loops::{for_of, valued};
 use dsl_syntax::{Each, StmtKind};
 use std::alloc::Global;
 

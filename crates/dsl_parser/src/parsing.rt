@@ -1,16 +1,17 @@
 // The trees of files.
-ghost use Rattle.std.specs.Prelude.{◌≡◌, ◌<◌, length};
+ghost use Rattle.std.specs.Prelude.{length};
 ghost use Rattle.dsl_lexer.specs.Lists.{IsWhole};
-ghost use Rattle.dsl_grammar.specs.Files.{file_outcome, head_place};
+ghost use Rattle.dsl_grammar.specs.Files.{file_outcome};
 ghost use Rattle.dsl_grammar.specs.Parsing.{Answers, GivesTree, IsShallow, GivesOnly, GivesFault};
 
-use crate::files::file_statements;
+use crate::blocks::statements;
 use dsl_depth::too_deep;
 use dsl_grammar::ParseError;
 use dsl_lexer::Token;
+use dsl_next::next::place_of;
 use dsl_next::stop::Stop;
+use dsl_statements::leads::Within;
 use dsl_syntax::File;
-use site_base::Place;
 use std::alloc::Global;
 
 /// The one tree of a file's tokens, of which the last is the end token and no other is, and the places rise: what `lex`
@@ -41,7 +42,7 @@ fn outcome_of(alloc: Global, tokens: &[Token]) -> Result<File, ParseError>
         None => tokens.len() - 1,
     };
     let (front, from) = tokens.split_at(cut);
-    match file_statements(alloc, tokens.len(), front) {
+    match statements(alloc, tokens.len(), Within::File, front) {
         Ok((_, [next, ..])) | Err(Stop::Fault([next, ..])) => Err(ParseError::SyntaxFault {
             place: next.place,
         }),
@@ -61,12 +62,4 @@ fn outcome_of(alloc: Global, tokens: &[Token]) -> Result<File, ParseError>
         },
         Err(Stop::Memory) => Err(ParseError::OutOfMemory),
     }
-}
-
-/// Where the first of these tokens stands.
-fn place_of(tokens: &[Token]) -> Place
-    requires { 0 < length tokens.now }
-    ensures { result ≡ head_place tokens.now }
-{
-    tokens[0].place
 }

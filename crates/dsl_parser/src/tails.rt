@@ -1,11 +1,10 @@
 // Primary expressions, and the members, elements and calls behind them.
 ghost use Rattle.std.specs.Prelude.{◌<◌};
 ghost use Rattle.dsl_syntax.specs.SyntaxView.{expr_view, exprs_view};
-ghost use Rattle.dsl_syntax.specs.Lists.{add_expression};
 ghost use Rattle.dsl_rules.specs.Grammar.{made};
 ghost use Rattle.dsl_parts.specs.ExprParts.{operand_view};
 ghost use Rattle.dsl_next.specs.Gives.{Gives};
-ghost use Rattle.dsl_grammar.specs.Grammar.{Expr as ExprRule, Prim, Postfix, OneTail, Arguments, Listed, with_tail};
+ghost use Rattle.dsl_grammar.specs.Grammar.{Prim, Postfix, OneTail, Arguments, with_tail};
 ghost use Rattle.dsl_grammar.specs.Reading.{read_by};
 
 use crate::collections::{array, dictionary};
@@ -126,46 +125,16 @@ fn arguments<'a>(
     if !at_expr(tokens) {
         return Ok((Vec::new(alloc), tokens));
     }
-    let (list, rest) = listed(alloc, most, tokens)?;
-    Ok((list, rest))
-}
-
-/// One or more expressions, with commas between them.
-#[cycle(parse)]
-#[tactic(auto, unfolding(dsl_grammar::specs::Grammar::Listed))]
-fn listed<'a>(
-    alloc: Global,
-    most: usize,
-    tokens: &'a [Token],
-) -> Result<(Vec<Expr>, &'a [Token]), Stop<'a>>
-    requires { 0 < most }
-    ensures { Gives (λ es. exprs_view es.items) result (read_by most Listed tokens.now) }
-{
-    let (mut list, mut rest) = with_next_expr(alloc, most, Vec::new(alloc), tokens)?;
+    let (first, mut rest) = expr(alloc, most - 1, tokens)?;
+    let mut list = with_expr(Vec::new(alloc), first)?;
     for _ in 0..most {
         if !at_sign(Sign::Comma, rest) {
             break;
         }
-        let inner = after_first(rest);
-        let (longer, after) = with_next_expr(alloc, most, list, inner)?;
+        let (next, after) = expr(alloc, most - 1, after_first(rest))?;
+        let longer = with_expr(list, next)?;
         list = longer;
         rest = after;
     }
     Ok((list, rest))
-}
-
-/// The expressions, and the one that must stand next.
-#[cycle(parse)]
-fn with_next_expr<'a>(
-    alloc: Global,
-    most: usize,
-    list: Vec<Expr>,
-    tokens: &'a [Token],
-) -> Result<(Vec<Expr>, &'a [Token]), Stop<'a>>
-    requires { 0 < most }
-    ensures { Gives (λ es. exprs_view es.items) result
-        (read_by most (made (add_expression (exprs_view list.items)) ExprRule) tokens.now) }
-{
-    let (next, rest) = expr(alloc, most - 1, tokens)?;
-    Ok((with_expr(list, next)?, rest))
 }

@@ -1,4 +1,2 @@
 pub mod Levels
 pub mod ExprParts
-pub mod NamedView
-pub mod Parts

@@ -1,30 +1,31 @@
-use Rattle.std.proofs.Common.{rules, ◌≡◌, ◌+◌, ◌-◌, [], ◌∷◌, true, sym, subst, arith, suc, false, ◌∙◌, nat_eq, length, ap, refl, drop, Result, Ok, Err}
-use Rattle.dsl_syntax.specs.Syntax.{break, continue}
+use Rattle.std.proofs.Common.{rules, ◌≡◌, ◌+◌, ◌-◌, [], ◌∷◌, true, sym, subst, arith, suc, false, ◌∙◌, nat_eq, length, ap, refl, drop, None, Result, Ok, Err}
 use Rattle.dsl_syntax.specs.Lists.{add_expression}
 use Rattle.dsl_syntax.specs.SyntaxView.{expr_view, exprs_view, entries_view, uses_view, maybe_expr_view, stmts_view, stmt_kind_view}
 use Rattle.dsl_lexer.specs.declared.sign.Sign.TheVariants as signs
 use Rattle.dsl_lexer.specs.declared.word.Word.TheVariants as words
 use Rattle.dsl_rules.specs.Alphabet.{at, over}
-use Rattle.dsl_rules.specs.Grammar.{one, made}
+use Rattle.dsl_rules.specs.Grammar.{always, one, made}
 use Rattle.dsl_rules.specs.Reading.{got, ◌>>=◌, turns}
 use Rattle.dsl_rules.specs.Rules.{may}
 use Rattle.dsl_grammar.specs.Codes.{sorts, sign_sort, word_sort}
-use Rattle.dsl_grammar.specs.Grammar.{Choices, Expr, Lambda, Level, begun_expression, OneTail, tail_sorts, with_tail, CommaSlot, Slot, add_slot, may_follow, MaybePair, add_pair, OneUse, add_captured, AnyHead, AnyStatement, BodyStatement, BodyKind, Kind, MaybeBodyStatement, MaybeStatement, BlockStatements, Braced, add_head, body_sorts, may_head, statement_sorts, Else, may_else, add_else, ImportStatement, ThrowStatement, SetOrEval, SetTo}
+use Rattle.dsl_grammar.specs.Grammar.{Arguments, Choices, Expr, Listed, Lambda, Level, begun_expression, OneTail, tail_sorts, with_tail, CommaSlot, Slot, add_slot, may_follow, MaybePair, add_pair, OneUse, add_captured, AnyHead, AnyStatement, BodyStatement, BodyKind, Kind, MaybeBodyStatement, MaybeStatement, BlockStatements, Braced, add_head, body_sorts, may_head, statement_sorts, Else, may_else, add_else, ImportStatement, ThrowStatement, SetOrEval, SetTo}
 use Rattle.dsl_grammar.specs.Reading.{read_by}
-use Rattle.dsl_grammar.specs.Terms.{behind, sign, bsep, add_turn, block, sep}
-use Rattle.dsl_grammar.proofs.Commons.{read_common, one_word}
-use Rattle.dsl_grammar.proofs.Firsts.{first_AnyStatement, first_BodyStatement}
+use Rattle.dsl_grammar.specs.Terms.{behind, sign, bsep, add_turn, block, expr, sep, starts}
 use Rattle.dsl_grammar.proofs.LevelReads.{expr_none}
+use Rattle.dsl_grammar.proofs.Turns.{may_at, turns_end}
 use Rattle.dsl_next.proofs.Turns.{step_at, step_may, step_behind, turned, made_behind}
 use Rattle.dsl_next.specs.Gives.{Gives}
-use Rattle.dsl_parts.proofs.Assigning.{eval_alone, set_read, set_target}
+use Rattle.dsl_statements.proofs.Assigning.{eval_alone, set_read, set_target}
 use Rattle.dsl_parts.proofs.Climbing.{whole, begun_climb, goes_on, ends_here, operated_got, operator_bad, operand_bad, climb_got, climb_bad}
-use Rattle.dsl_parts.proofs.Rows.{row_step, thing_read, thing_is, thing_absent, reads_none, reads_on, name_sorts, name_read, name_is, name_absent}
+use Rattle.dsl_statements.proofs.Rows.{row_step, reads_none, reads_on, name_sorts, name_read, name_is, name_absent}
 use Rattle.dsl_parts.specs.ExprParts.{operand_view, slots_view}
-use Rattle.dsl_parts.specs.NamedView.{head_sorts, heads_view}
-use Rattle.dsl_parts.specs.Parts.{choice_view}
-use Rattle.dsl_parser.proofs.Readings.{expr_lambda, expr_levels, defined, not_defined, set_got, may_first, turn_made}
+use Rattle.dsl_statements.specs.NamedView.{head_sorts, heads_view}
+use Rattle.dsl_statements.specs.Parts.{choice_view}
+use Rattle.dsl_statements.specs.Leads.{maybe_in, separators}
+use Rattle.dsl_statements.proofs.Leading.{all_begun, all_from, lead_absent, lead_got, lead_is}
+use Rattle.dsl_parser.proofs.Readings.{expr_lambda, expr_levels, set_got, may_first, turn_made, arguments_are}
 use Rattle.dsl_parser.proofs.+parse.Goals as goal
+use Rattle.dsl_parser.proofs.+parse.Goals.{tails::arguments-else-loop-test, tails::arguments-then-loop-test+then-not-at_sign}
 
 -- Expressions.
 pub exprs::expr-returns-then-most-eq0 : goal.exprs::expr-returns-then-most-eq0
@@ -58,9 +59,6 @@ tails::postfix-loop-preserved t c =
     step_at c.args.most _ (c.args.most - (c.loop.counter + 1)) (tail_sorts) with_tail OneTail (operand_view c.loop.operand) (operand_view c.in_ok-longer.longer) c.loop.rest.now c.in_ok-longer.after.now _ (omega arith) held c.in_ok-longer.ensures c.loop.invariant
 
 -- Blocks and bodies.
-pub blocks::block-returns-then-most-eq0 : goal.blocks::block-returns-then-most-eq0
-blocks::block-returns-then-most-eq0 t c = reads_none c.args.most block c.args.tokens.now c.if-most-eq0.true
-
 pub applies::apply_heads-loop-preserved : goal.applies::apply_heads-loop-preserved
 applies::apply_heads-loop-preserved t c =
     let counts : c.args.most - c.loop.counter ≡ suc (c.args.most - (c.loop.counter + 1)) = omega arith in
@@ -83,69 +81,6 @@ applies::apply_name-returns t c =
     let held : at sorts name_sorts c.args.tokens.now ≡ true = search rules in
     name_read c.args.most (expr_view c.in_ok-name.name) c.args.tokens.now c.in_ok-name.rest.now held c.in_ok-name.ensures
 
-pub statements::common-returns-then-at_word : goal.statements::common-returns-then-at_word
-statements::common-returns-then-at_word t c =
-    rw (read_common c.args.most c.args.tokens.now, sym c.at_word.ensures ∙ c.if-at_word.true)
-    c.var_statement.ensures
-
-pub statements::common-returns-then-at_word-2 : goal.statements::common-returns-then-at_word-2
-unfolding ImportStatement
-statements::common-returns-then-at_word-2 t c =
-    rw (read_common c.args.most c.args.tokens.now, sym c.at_word.ensures ∙ c.if-at_word.false, sym c.at_word-else-at_word.ensures ∙ c.if-at_word-2.true)
-    c.expr_statement.ensures
-
-pub statements::common-returns-then-at_word-3 : goal.statements::common-returns-then-at_word-3
-statements::common-returns-then-at_word-3 t c =
-    rw (read_common c.args.most c.args.tokens.now, sym c.at_word.ensures ∙ c.if-at_word.false, sym c.at_word-else-at_word.ensures ∙ c.if-at_word-2.false, sym c.at_word-else-at_word-2.ensures ∙ c.if-at_word-3.true)
-    c.if_statement.ensures
-
-pub statements::common-returns-then-at_word-4 : goal.statements::common-returns-then-at_word-4
-statements::common-returns-then-at_word-4 t c =
-    rw (read_common c.args.most c.args.tokens.now, sym c.at_word.ensures ∙ c.if-at_word.false, sym c.at_word-else-at_word.ensures ∙ c.if-at_word-2.false, sym c.at_word-else-at_word-2.ensures ∙ c.if-at_word-3.false, sym c.at_word-else-at_word-3.ensures ∙ c.if-at_word-4.true)
-    c.while_statement.ensures
-
-pub statements::common-returns-then-at_word-5 : goal.statements::common-returns-then-at_word-5
-statements::common-returns-then-at_word-5 t c =
-    rw (read_common c.args.most c.args.tokens.now, sym c.at_word.ensures ∙ c.if-at_word.false, sym c.at_word-else-at_word.ensures ∙ c.if-at_word-2.false, sym c.at_word-else-at_word-2.ensures ∙ c.if-at_word-3.false, sym c.at_word-else-at_word-3.ensures ∙ c.if-at_word-4.false, sym c.at_word-else-at_word-4.ensures ∙ c.if-at_word-5.true)
-    c.for_statement.ensures
-
-pub statements::common-returns-then-at_word-6 : goal.statements::common-returns-then-at_word-6
-statements::common-returns-then-at_word-6 t c =
-    rw (read_common c.args.most c.args.tokens.now, sym c.at_word.ensures ∙ c.if-at_word.false, sym c.at_word-else-at_word.ensures ∙ c.if-at_word-2.false, sym c.at_word-else-at_word-2.ensures ∙ c.if-at_word-3.false, sym c.at_word-else-at_word-3.ensures ∙ c.if-at_word-4.false, sym c.at_word-else-at_word-4.ensures ∙ c.if-at_word-5.false, sym c.at_word-else-at_word-5.ensures ∙ c.if-at_word-6.true)
-    c.return_statement.ensures
-
-pub statements::common-returns-then-at_word-7 : goal.statements::common-returns-then-at_word-7
-statements::common-returns-then-at_word-7 t c =
-    rw (c.after_first.ensures, read_common c.args.most c.args.tokens.now, sym c.at_word.ensures ∙ c.if-at_word.false, sym c.at_word-else-at_word.ensures ∙ c.if-at_word-2.false, sym c.at_word-else-at_word-2.ensures ∙ c.if-at_word-3.false, sym c.at_word-else-at_word-3.ensures ∙ c.if-at_word-4.false, sym c.at_word-else-at_word-4.ensures ∙ c.if-at_word-5.false, sym c.at_word-else-at_word-5.ensures ∙ c.if-at_word-6.false, sym c.at_word-else-at_word-6.ensures ∙ c.if-at_word-7.true)
-    (one_word c.args.most words.Break break c.args.tokens.now (sym c.at_word-else-at_word-6.ensures ∙ c.if-at_word-7.true))
-
-pub statements::common-returns-then-at_word-8 : goal.statements::common-returns-then-at_word-8
-statements::common-returns-then-at_word-8 t c =
-    rw (c.after_first-then-at_word-8.ensures, read_common c.args.most c.args.tokens.now, sym c.at_word.ensures ∙ c.if-at_word.false, sym c.at_word-else-at_word.ensures ∙ c.if-at_word-2.false, sym c.at_word-else-at_word-2.ensures ∙ c.if-at_word-3.false, sym c.at_word-else-at_word-3.ensures ∙ c.if-at_word-4.false, sym c.at_word-else-at_word-4.ensures ∙ c.if-at_word-5.false, sym c.at_word-else-at_word-5.ensures ∙ c.if-at_word-6.false, sym c.at_word-else-at_word-6.ensures ∙ c.if-at_word-7.false, sym c.at_word-else-at_word-7.ensures ∙ c.if-at_word-8.true)
-    (one_word c.args.most words.Continue continue c.args.tokens.now (sym c.at_word-else-at_word-7.ensures ∙ c.if-at_word-8.true))
-
-pub statements::common-returns-then-at_word-9 : goal.statements::common-returns-then-at_word-9
-unfolding ThrowStatement
-statements::common-returns-then-at_word-9 t c =
-    rw (read_common c.args.most c.args.tokens.now, sym c.at_word.ensures ∙ c.if-at_word.false, sym c.at_word-else-at_word.ensures ∙ c.if-at_word-2.false, sym c.at_word-else-at_word-2.ensures ∙ c.if-at_word-3.false, sym c.at_word-else-at_word-3.ensures ∙ c.if-at_word-4.false, sym c.at_word-else-at_word-4.ensures ∙ c.if-at_word-5.false, sym c.at_word-else-at_word-5.ensures ∙ c.if-at_word-6.false, sym c.at_word-else-at_word-6.ensures ∙ c.if-at_word-7.false, sym c.at_word-else-at_word-7.ensures ∙ c.if-at_word-8.false, sym c.at_word-else-at_word-8.ensures ∙ c.if-at_word-9.true)
-    c.expr_statement-then-at_word-9.ensures
-
-pub statements::common-returns-then-at_define : goal.statements::common-returns-then-at_define
-statements::common-returns-then-at_define t c =
-    rw (read_common c.args.most c.args.tokens.now, sym c.at_word.ensures ∙ c.if-at_word.false, sym c.at_word-else-at_word.ensures ∙ c.if-at_word-2.false, sym c.at_word-else-at_word-2.ensures ∙ c.if-at_word-3.false, sym c.at_word-else-at_word-3.ensures ∙ c.if-at_word-4.false, sym c.at_word-else-at_word-4.ensures ∙ c.if-at_word-5.false, sym c.at_word-else-at_word-5.ensures ∙ c.if-at_word-6.false, sym c.at_word-else-at_word-6.ensures ∙ c.if-at_word-7.false, sym c.at_word-else-at_word-7.ensures ∙ c.if-at_word-8.false, sym c.at_word-else-at_word-8.ensures ∙ c.if-at_word-9.false, defined c.args.most c.args.tokens.now (sym c.at_define.ensures ∙ c.if-at_define.true))
-    c.define_statement.ensures
-
-pub statements::common-returns-else-at_define : goal.statements::common-returns-else-at_define
-statements::common-returns-else-at_define t c =
-    rw (read_common c.args.most c.args.tokens.now, sym c.at_word.ensures ∙ c.if-at_word.false, sym c.at_word-else-at_word.ensures ∙ c.if-at_word-2.false, sym c.at_word-else-at_word-2.ensures ∙ c.if-at_word-3.false, sym c.at_word-else-at_word-3.ensures ∙ c.if-at_word-4.false, sym c.at_word-else-at_word-4.ensures ∙ c.if-at_word-5.false, sym c.at_word-else-at_word-5.ensures ∙ c.if-at_word-6.false, sym c.at_word-else-at_word-6.ensures ∙ c.if-at_word-7.false, sym c.at_word-else-at_word-7.ensures ∙ c.if-at_word-8.false, sym c.at_word-else-at_word-8.ensures ∙ c.if-at_word-9.false, not_defined c.args.most c.args.tokens.now (sym c.at_define.ensures ∙ c.if-at_define.false))
-    c.set_or_eval.ensures
-
-pub tails::listed-loop-preserved : goal.tails::listed-loop-preserved
-tails::listed-loop-preserved t c =
-    let held : at sorts (sign_sort signs.Comma ∷ []) c.loop.rest.now ≡ true = search rules in
-    let read = (let q = c.in_ok-longer.ensures in rw c.after_first-inner.ensures at q) in
-    step_behind c.args.most _ (c.args.most - (c.loop.counter + 1)) (sign_sort signs.Comma ∷ []) add_expression Expr (exprs_view c.loop.list.items) (exprs_view c.in_ok-longer.longer.items) c.loop.rest.now c.in_ok-longer.after.now _ (omega arith) held read c.loop.invariant
-
 pub collections::pairs-loop-preserved : goal.collections::pairs-loop-preserved
 collections::pairs-loop-preserved t c =
     let held : at sorts (bsep) c.loop.rest.now ≡ true = search rules in
@@ -166,59 +101,6 @@ collections::elements-loop-preserved t c =
     let read : read_by c.args.most (made (add_slot (slots_view c.loop.slots)) Slot) (drop 1 c.loop.rest.now) ≡ got (add_slot (slots_view c.loop.slots) (maybe_expr_view c.in_ok-next.next)) c.in_ok-next.after.now = rw next refl in
     let q = made_behind c.args.most (sign_sort signs.Comma ∷ []) (add_slot (slots_view c.loop.slots)) Slot c.loop.rest.now (may_first (sign_sort signs.Comma ∷ []) (may_follow (slots_view c.loop.slots)) c.loop.rest.now held) ∙ read ∙ ap (λ z. got z c.in_ok-next.after.now) (sym c.in_ok-longer.ensures) in
     step_may c.args.most _ (c.args.most - (c.loop.counter + 1)) (sign_sort signs.Comma ∷ []) may_follow add_slot CommaSlot (slots_view c.loop.slots) (slots_view c.in_ok-longer.longer) c.loop.rest.now c.in_ok-next.after.now _ (omega arith) held q c.loop.invariant
-
-pub blocks::block-returns : goal.blocks::block-returns
-blocks::block-returns t c = rw (reads_on c.args.most block c.args.tokens.now c.if-most-eq0.false) c.braced.ensures
-
-pub blocks::block_statements-loop-preserved : goal.blocks::block_statements-loop-preserved
-blocks::block_statements-loop-preserved t c =
-    let counts : c.args.most - c.loop.counter ≡ suc (c.args.most - (c.loop.counter + 1)) = omega arith in
-    let held : at sorts sep c.loop.rest.now ≡ true = search rules in
-    sym (row_step c.args.most _ _ sep MaybeStatement (stmts_view c.loop.list.items) (stmts_view c.in_ok-more.more.items) c.loop.rest.now c.in_ok-more.after.now counts held (let q = c.in_ok-more.ensures in rw c.after_first.ensures at q))
-    ∙ c.loop.invariant
-
-pub blocks::body_statements-loop-preserved : goal.blocks::body_statements-loop-preserved
-blocks::body_statements-loop-preserved t c =
-    let counts : c.args.most - c.loop.counter ≡ suc (c.args.most - (c.loop.counter + 1)) = omega arith in
-    let held : at sorts bsep c.loop.rest.now ≡ true = search rules in
-    sym (row_step c.args.most _ _ bsep MaybeBodyStatement (stmts_view c.loop.list.items) (stmts_view c.in_ok-more.more.items) c.loop.rest.now c.in_ok-more.after.now counts held (let q = c.in_ok-more.ensures in rw c.after_first.ensures at q))
-    ∙ c.loop.invariant
-
-pub blocks::with_statement-returns-then-not-at_statement : goal.blocks::with_statement-returns-then-not-at_statement
-unfolding MaybeStatement
-blocks::with_statement-returns-then-not-at_statement t c =
-    let held : at sorts statement_sorts c.args.tokens.now ≡ false = search rules in
-    thing_absent c.args.most statement_sorts AnyStatement first_AnyStatement (stmts_view c.args.list.items) c.args.tokens.now held
-
-pub blocks::with_statement-returns-in_err-statement : goal.blocks::with_statement-returns-in_err-statement
-unfolding MaybeStatement
-blocks::with_statement-returns-in_err-statement t c =
-    let held : at sorts statement_sorts c.args.tokens.now ≡ true = search rules in
-    subst (Gives (λ b. stmts_view b.items) c.from_residual.result) (sym (thing_is c.args.most statement_sorts AnyStatement first_AnyStatement (stmts_view c.args.list.items) c.args.tokens.now held)) (search rules)
-
-pub blocks::with_statement-returns : goal.blocks::with_statement-returns
-unfolding MaybeStatement
-blocks::with_statement-returns t c =
-    let held : at sorts statement_sorts c.args.tokens.now ≡ true = search rules in
-    rw c.in_ok-push.ensures.items (thing_read c.args.most statement_sorts AnyStatement first_AnyStatement c.args.list.items c.in_ok-statement.statement c.args.tokens.now c.in_ok-statement.rest.now held c.in_ok-statement.ensures)
-
-pub blocks::with_body_statement-returns-then-not-at_body_statement : goal.blocks::with_body_statement-returns-then-not-at_body_statement
-unfolding MaybeBodyStatement
-blocks::with_body_statement-returns-then-not-at_body_statement t c =
-    let held : at sorts body_sorts c.args.tokens.now ≡ false = search rules in
-    thing_absent c.args.most body_sorts BodyStatement first_BodyStatement (stmts_view c.args.list.items) c.args.tokens.now held
-
-pub blocks::with_body_statement-returns-in_err-statement : goal.blocks::with_body_statement-returns-in_err-statement
-unfolding MaybeBodyStatement
-blocks::with_body_statement-returns-in_err-statement t c =
-    let held : at sorts body_sorts c.args.tokens.now ≡ true = search rules in
-    subst (Gives (λ b. stmts_view b.items) c.from_residual.result) (sym (thing_is c.args.most body_sorts BodyStatement first_BodyStatement (stmts_view c.args.list.items) c.args.tokens.now held)) (search rules)
-
-pub blocks::with_body_statement-returns : goal.blocks::with_body_statement-returns
-unfolding MaybeBodyStatement
-blocks::with_body_statement-returns t c =
-    let held : at sorts body_sorts c.args.tokens.now ≡ true = search rules in
-    rw c.in_ok-push.ensures.items (thing_read c.args.most body_sorts BodyStatement first_BodyStatement c.args.list.items c.in_ok-statement.statement c.args.tokens.now c.in_ok-statement.rest.now held c.in_ok-statement.ensures)
 
 pub choices::choices-loop-preserved : goal.choices::choices-loop-preserved
 choices::choices-loop-preserved t c =
@@ -269,3 +151,74 @@ choices::choices-returns-in_err-next t c =
     let all = sym (turn_made (c.args.most - c.loop.counter) (c.args.most - (c.loop.counter + 1)) true (word_sort words.Else ∷ []) may_else add_else (read_by c.args.most Else) before c.loop.rest.now counts held) ∙ c.loop.invariant in
     let there = subst (λ z. ((read_by c.args.most Else z >>= λ x rest. got (add_else before x) rest) >>= turns sorts true (word_sort words.Else ∷ []) may_else add_else (read_by c.args.most Else) (c.args.most - (c.loop.counter + 1))) ≡ read_by c.args.most Choices c.args.tokens.now) (sym c.skip_lines-behind.ensures) all in
     subst (Gives choice_view c.from_residual-in_err-next.result) there (search rules)
+
+-- The arguments of a call.
+pub tails::arguments-returns-in_err-next : goal.tails::arguments-returns-in_err-next
+tails::arguments-returns-in_err-next t c =
+    let before = exprs_view c.loop.list.items in
+    let counts : c.args.most - c.loop.counter ≡ suc (c.args.most - (c.loop.counter + 1)) = omega arith in
+    let held : at sorts (sign_sort signs.Comma ∷ []) c.loop.rest.now ≡ true = search rules in
+    let some : at sorts (starts expr) c.args.tokens.now ≡ true = sym c.at_expr.ensures ∙ c.if-not-at_expr.false in
+    let all = sym (turn_made (c.args.most - c.loop.counter) (c.args.most - (c.loop.counter + 1)) false (sign_sort signs.Comma ∷ []) always add_expression (read_by c.args.most (behind (sign signs.Comma) Expr)) before c.loop.rest.now counts (may_at (sign_sort signs.Comma ∷ []) c.loop.rest.now ∙ held)) ∙ c.loop.invariant in
+    let next = subst (λ r. (r >>= turns sorts false (sign_sort signs.Comma ∷ []) always add_expression (read_by c.args.most (behind (sign signs.Comma) Expr)) (c.args.most - (c.loop.counter + 1))) ≡ read_by c.args.most Listed c.args.tokens.now) (made_behind c.args.most (sign_sort signs.Comma ∷ []) (add_expression before) Expr c.loop.rest.now held) all in
+    let there = subst (λ z. (read_by c.args.most (made (add_expression before) Expr) z >>= turns sorts false (sign_sort signs.Comma ∷ []) always add_expression (read_by c.args.most (behind (sign signs.Comma) Expr)) (c.args.most - (c.loop.counter + 1))) ≡ read_by c.args.most Listed c.args.tokens.now) (sym c.after_first.ensures) next in
+    subst (Gives (λ es. exprs_view es.items) c.from_residual-in_err-next.result) (there ∙ sym (arguments_are c.args.most c.args.tokens.now some)) (search rules)
+
+pub tails::arguments-returns : goal.tails::arguments-returns
+tails::arguments-returns t c =
+    let some : at sorts (starts expr) c.args.tokens.now ≡ true = sym c.at_expr.ensures ∙ c.if-not-at_expr.false in
+    let commas = sign_sort signs.Comma ∷ [] in
+    let before = exprs_view c.loop.list.items in
+    let ends : turns sorts false (sign_sort signs.Comma ∷ []) always add_expression (read_by c.args.most (behind (sign signs.Comma) Expr)) (c.args.most - c.loop.counter) (exprs_view c.loop.list.items) c.loop.rest.now ≡ got (exprs_view c.loop.list.items) c.loop.rest.now =
+    elim c.loop-test.branch [
+      | tails::arguments-then-loop-test+then-not-at_sign w ↦
+          turns_end (c.args.most - c.loop.counter) false commas always add_expression (read_by c.args.most (behind (sign signs.Comma) Expr)) before c.loop.rest.now (may_at commas c.loop.rest.now ∙ (sym w.at_sign.ensures ∙ w.if-not-at_sign.true))
+      | tails::arguments-else-loop-test w ↦
+          ap (λ m. turns sorts false commas always add_expression (read_by c.args.most (behind (sign signs.Comma) Expr)) m before c.loop.rest.now) {x = c.args.most - c.loop.counter} {y = 0} (omega (arith, w.loop-test.false))
+    ] in
+    let listed = sym c.loop.invariant ∙ ends in
+    arguments_are c.args.most c.args.tokens.now some ∙ listed
+
+pub tails::arguments-loop-preserved : goal.tails::arguments-loop-preserved
+tails::arguments-loop-preserved t c =
+    let held : at sorts (sign_sort signs.Comma ∷ []) c.loop.rest.now ≡ true = search rules in
+    let next = (let q = c.in_ok-next.ensures in rw c.after_first.ensures at q) in
+    let read : read_by c.args.most (made (add_expression (exprs_view c.loop.list.items)) Expr) (drop 1 c.loop.rest.now) ≡ got (exprs_view c.in_ok-longer.longer.items) c.in_ok-next.after.now = rw (next, c.in_ok-longer.ensures) refl in
+    step_behind c.args.most _ (c.args.most - (c.loop.counter + 1)) (sign_sort signs.Comma ∷ []) add_expression Expr (exprs_view c.loop.list.items) (exprs_view c.in_ok-longer.longer.items) c.loop.rest.now c.in_ok-next.after.now _ (omega arith) held read c.loop.invariant
+
+-- Blocks and bodies.
+pub blocks::block-returns-then-most-eq0 : goal.blocks::block-returns-then-most-eq0
+blocks::block-returns-then-most-eq0 t c = reads_none c.args.most block c.args.tokens.now c.if-most-eq0.true
+
+pub blocks::block-returns : goal.blocks::block-returns
+unfolding Braced
+blocks::block-returns t c = rw (reads_on c.args.most block c.args.tokens.now c.if-most-eq0.false) c.braced.ensures
+
+pub blocks::statements-loop-init : goal.blocks::statements-loop-init
+blocks::statements-loop-init t c =
+    let read = (let q = c.in_ok-list.ensures in rw c.new.ensures.items at q) in
+    all_begun c.args.most c.args.within (stmts_view c.in_ok-list.list.items) c.args.tokens.now c.in_ok-list.rest.now read
+
+pub blocks::statements-loop-preserved : goal.blocks::statements-loop-preserved
+blocks::statements-loop-preserved t c =
+    let counts : c.args.most - c.loop.counter ≡ suc (c.args.most - (c.loop.counter + 1)) = omega arith in
+    let held : at sorts (separators c.args.within) c.loop.rest.now ≡ true = search rules in
+    sym (row_step c.args.most _ _ (separators c.args.within) (maybe_in c.args.within) (stmts_view c.loop.list.items) (stmts_view c.in_ok-more.more.items) c.loop.rest.now c.in_ok-more.after.now counts held (let q = c.in_ok-more.ensures in rw c.after_first.ensures at q))
+    ∙ c.loop.invariant
+
+pub blocks::statements-returns-in_err-list : goal.blocks::statements-returns-in_err-list
+blocks::statements-returns-in_err-list t c =
+    subst (Gives (λ b. stmts_view b.items) c.from_residual.result) (sym (all_from c.args.most c.args.within (stmts_view c.new.result.items) c.args.tokens.now (ap stmts_view c.new.ensures.items))) (search rules)
+
+pub blocks::with_statement-returns-in_default : goal.blocks::with_statement-returns-in_default
+blocks::with_statement-returns-in_default t c =
+    let none : c.next_lead.result ≡ None = search rules in
+    lead_absent c.args.most c.args.within (stmts_view c.args.list.items) c.args.tokens.now c.next_lead.result none c.next_lead.ensures.reads
+
+pub blocks::with_statement-returns-in_err-kind : goal.blocks::with_statement-returns-in_err-kind
+blocks::with_statement-returns-in_err-kind t c =
+    subst (Gives (λ b. stmts_view b.items) c.from_residual.result) (sym (lead_is c.args.most c.args.within (stmts_view c.args.list.items) c.args.tokens.now c.next_lead.result _ c.in-Some.is c.next_lead.ensures.reads)) (search rules)
+
+pub blocks::with_statement-returns : goal.blocks::with_statement-returns
+blocks::with_statement-returns t c =
+    lead_got c.args.most c.args.within (stmts_view c.args.list.items) _ c.args.tokens.now _ c.next_lead.result _ _ c.in-Some.is c.next_lead.ensures.reads c.in_ok-kind.ensures c.in_ok-added.ensures

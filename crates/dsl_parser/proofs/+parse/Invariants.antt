@@ -6,14 +6,15 @@ use Rattle.dsl_lexer.specs.declared.word.Word.TheVariants as words
 use Rattle.dsl_rules.specs.Grammar.{always, one}
 use Rattle.dsl_rules.specs.Reading.{turns}
 use Rattle.dsl_grammar.specs.Codes.{sorts, sign_sort, word_sort}
-use Rattle.dsl_grammar.specs.Grammar.{Expr, Postfix, OneTail, Listed, tail_sorts, with_tail, Level, Elements, CommaSlot, add_slot, may_follow, Pairs, MaybePair, add_pair, UseNames, OneUse, add_captured, AnyHead, ApplyHeads, BlockStatements, BodyStatements, MaybeBodyStatement, MaybeStatement, add_head, may_head, Choices, Else, may_else, add_else}
+use Rattle.dsl_grammar.specs.Grammar.{Expr, Postfix, OneTail, Listed, tail_sorts, with_tail, Level, Elements, CommaSlot, add_slot, may_follow, Pairs, MaybePair, add_pair, UseNames, OneUse, add_captured, AnyHead, ApplyHeads, add_head, may_head, Choices, Else, may_else, add_else}
 use Rattle.dsl_grammar.specs.Reading.{read_by}
-use Rattle.dsl_grammar.specs.Terms.{behind, sign, bsep, add_turn, sep}
-use Rattle.dsl_parts.proofs.Rows.{row_from}
+use Rattle.dsl_grammar.specs.Terms.{behind, sign, bsep, add_turn}
+use Rattle.dsl_statements.proofs.Rows.{row_from}
+use Rattle.dsl_statements.specs.Leads.{all_in, maybe_in, separators, rank, room}
 use Rattle.dsl_parts.specs.ExprParts.{operand_view, slots_view}
 use Rattle.dsl_parts.specs.Levels.{climbs, height}
-use Rattle.dsl_parts.specs.NamedView.{head_sorts, heads_view}
-use Rattle.dsl_parts.specs.Parts.{choice_view}
+use Rattle.dsl_statements.specs.NamedView.{head_sorts, heads_view}
+use Rattle.dsl_statements.specs.Parts.{choice_view}
 use Rattle.dsl_parser.proofs.+parse.Given as goal
 
 -- How deep each function calls others with the same bound.
@@ -44,12 +45,6 @@ decreases-tails::with_next_tail l = 100 * l.most - 24
 
 abbrev pub decreases-tails::arguments : goal.decreases-tails::arguments
 decreases-tails::arguments l = 100 * l.most - 25
-
-abbrev pub decreases-tails::listed : goal.decreases-tails::listed
-decreases-tails::listed l = 100 * l.most - 26
-
-abbrev pub decreases-tails::with_next_expr : goal.decreases-tails::with_next_expr
-decreases-tails::with_next_expr l = 100 * l.most - 27
 
 abbrev pub decreases-collections::array : goal.decreases-collections::array
 decreases-collections::array l = 100 * l.most - 24
@@ -85,91 +80,61 @@ abbrev pub decreases-blocks::block : goal.decreases-blocks::block
 decreases-blocks::block l = 100 * l.most
 
 abbrev pub decreases-blocks::braced : goal.decreases-blocks::braced
-decreases-blocks::braced l = 100 * l.most - 1
+decreases-blocks::braced l = 100 * l.most - 20 + 10 * room l.within
 
-abbrev pub decreases-blocks::block_statements : goal.decreases-blocks::block_statements
-decreases-blocks::block_statements l = 100 * l.most - 2
+abbrev pub decreases-blocks::statements : goal.decreases-blocks::statements
+decreases-blocks::statements l = 100 * l.most - 21 + 10 * room l.within
 
 abbrev pub decreases-blocks::with_statement : goal.decreases-blocks::with_statement
-decreases-blocks::with_statement l = 100 * l.most - 3
-
-abbrev pub decreases-blocks::any_statement : goal.decreases-blocks::any_statement
-decreases-blocks::any_statement l = 100 * l.most - 4
+decreases-blocks::with_statement l = 100 * l.most - 22 + 10 * room l.within
 
 abbrev pub decreases-statements::statement_kind : goal.decreases-statements::statement_kind
-decreases-statements::statement_kind l = 100 * l.most - 5
+decreases-statements::statement_kind l = 100 * l.most - 23 + 10 * rank l.lead
 
 abbrev pub decreases-objects::named_statement : goal.decreases-objects::named_statement
-decreases-objects::named_statement l = 100 * l.most - 6
+decreases-objects::named_statement l = 100 * l.most - 14
 
 abbrev pub decreases-applies::apply_statement : goal.decreases-applies::apply_statement
-decreases-applies::apply_statement l = 100 * l.most - 6
-
-abbrev pub decreases-statements::const_statement : goal.decreases-statements::const_statement
-decreases-statements::const_statement l = 100 * l.most - 6
+decreases-applies::apply_statement l = 100 * l.most - 14
 
 abbrev pub decreases-applies::apply_name : goal.decreases-applies::apply_name
-decreases-applies::apply_name l = 100 * l.most - 7
+decreases-applies::apply_name l = 100 * l.most - 15
 
 abbrev pub decreases-applies::apply_heads : goal.decreases-applies::apply_heads
-decreases-applies::apply_heads l = 100 * l.most - 7
+decreases-applies::apply_heads l = 100 * l.most - 15
 
 abbrev pub decreases-applies::more_heads : goal.decreases-applies::more_heads
-decreases-applies::more_heads l = 100 * l.most - 8
+decreases-applies::more_heads l = 100 * l.most - 16
 
-abbrev pub decreases-blocks::body : goal.decreases-blocks::body
-decreases-blocks::body l = 100 * l.most - 7
-
-abbrev pub decreases-blocks::body_statements : goal.decreases-blocks::body_statements
-decreases-blocks::body_statements l = 100 * l.most - 8
-
-abbrev pub decreases-blocks::with_body_statement : goal.decreases-blocks::with_body_statement
-decreases-blocks::with_body_statement l = 100 * l.most - 9
-
-abbrev pub decreases-blocks::body_statement : goal.decreases-blocks::body_statement
-decreases-blocks::body_statement l = 100 * l.most - 10
-
-abbrev pub decreases-statements::body_kind : goal.decreases-statements::body_kind
-decreases-statements::body_kind l = 100 * l.most - 11
-
-abbrev pub decreases-statements::common : goal.decreases-statements::common
-decreases-statements::common l = 100 * l.most - 12
+abbrev pub decreases-statements::const_statement : goal.decreases-statements::const_statement
+decreases-statements::const_statement l = 100 * l.most - 24
 
 abbrev pub decreases-statements::var_statement : goal.decreases-statements::var_statement
-decreases-statements::var_statement l = 100 * l.most - 13
+decreases-statements::var_statement l = 100 * l.most - 24
 
-abbrev pub decreases-statements::expr_statement : goal.decreases-statements::expr_statement
-decreases-statements::expr_statement l = 100 * l.most - 13
-
-abbrev pub decreases-statements::return_statement : goal.decreases-statements::return_statement
-decreases-statements::return_statement l = 100 * l.most - 13
+abbrev pub decreases-statements::worded_statement : goal.decreases-statements::worded_statement
+decreases-statements::worded_statement l = 100 * l.most - 24
 
 abbrev pub decreases-statements::define_statement : goal.decreases-statements::define_statement
-decreases-statements::define_statement l = 100 * l.most - 13
+decreases-statements::define_statement l = 100 * l.most - 24
 
 abbrev pub decreases-assignments::set_or_eval : goal.decreases-assignments::set_or_eval
-decreases-assignments::set_or_eval l = 100 * l.most - 13
-
-abbrev pub decreases-choices::if_statement : goal.decreases-choices::if_statement
-decreases-choices::if_statement l = 100 * l.most - 13
+decreases-assignments::set_or_eval l = 100 * l.most - 24
 
 abbrev pub decreases-choices::choices : goal.decreases-choices::choices
-decreases-choices::choices l = 100 * l.most - 14
-
-abbrev pub decreases-choices::while_statement : goal.decreases-choices::while_statement
-decreases-choices::while_statement l = 100 * l.most - 13
-
-abbrev pub decreases-loops::for_statement : goal.decreases-loops::for_statement
-decreases-loops::for_statement l = 100 * l.most - 13
+decreases-choices::choices l = 100 * l.most - 24
 
 abbrev pub decreases-choices::more_choice : goal.decreases-choices::more_choice
-decreases-choices::more_choice l = 100 * l.most - 15
+decreases-choices::more_choice l = 100 * l.most - 25
 
 abbrev pub decreases-choices::guarded : goal.decreases-choices::guarded
-decreases-choices::guarded l = 100 * l.most - 16
+decreases-choices::guarded l = 100 * l.most - 26
+
+abbrev pub decreases-loops::for_statement : goal.decreases-loops::for_statement
+decreases-loops::for_statement l = 100 * l.most - 24
 
 abbrev pub decreases-loops::loop_head : goal.decreases-loops::loop_head
-decreases-loops::loop_head l = 100 * l.most - 16
+decreases-loops::loop_head l = 100 * l.most - 30
 
 abbrev pub decreases-exprs::operation-loop-next : goal.decreases-exprs::operation-loop-next
 decreases-exprs::operation-loop-next l = height l.most l.level l.climb
@@ -182,9 +147,9 @@ abbrev pub invariant-tails::postfix-loop : goal.invariant-tails::postfix-loop
 invariant-tails::postfix-loop l =
     turns sorts false tail_sorts always with_tail (read_by l.most OneTail) (l.most - l.counter) (operand_view l.operand) l.rest ≡ read_by l.most Postfix l.fn.tokens
 
-abbrev pub invariant-tails::listed-loop : goal.invariant-tails::listed-loop
-invariant-tails::listed-loop l =
-    turns sorts false (sign_sort signs.Comma ∷ []) always add_expression (read_by l.most (behind (sign signs.Comma) Expr)) (l.most - l.counter) (exprs_view l.list.items) l.rest ≡ read_by l.most Listed l.fn.tokens
+abbrev pub invariant-tails::arguments-loop : goal.invariant-tails::arguments-loop
+invariant-tails::arguments-loop l =
+    turns sorts false (sign_sort signs.Comma ∷ []) always add_expression (read_by l.most (behind (sign signs.Comma) Expr)) (l.most - l.counter) (exprs_view l.list.items) l.rest ≡ read_by l.most Listed l.tokens
 
 abbrev pub invariant-collections::elements-loop : goal.invariant-collections::elements-loop
 invariant-collections::elements-loop l =
@@ -198,13 +163,9 @@ abbrev pub invariant-functions::use_names-loop : goal.invariant-functions::use_n
 invariant-functions::use_names-loop l =
     turns sorts false (sign_sort signs.Comma ∷ []) always add_captured (read_by l.most (behind (sign signs.Comma) OneUse)) (l.most - l.counter) (uses_view l.uses.items) l.rest ≡ read_by l.most UseNames l.fn.tokens
 
-abbrev pub invariant-blocks::block_statements-loop : goal.invariant-blocks::block_statements-loop
-invariant-blocks::block_statements-loop l =
-    row_from l.most sep MaybeStatement (l.most - l.counter) (stmts_view l.list.items) l.rest ≡ read_by l.most BlockStatements l.fn.tokens
-
-abbrev pub invariant-blocks::body_statements-loop : goal.invariant-blocks::body_statements-loop
-invariant-blocks::body_statements-loop l =
-    row_from l.most bsep MaybeBodyStatement (l.most - l.counter) (stmts_view l.list.items) l.rest ≡ read_by l.most BodyStatements l.fn.tokens
+abbrev pub invariant-blocks::statements-loop : goal.invariant-blocks::statements-loop
+invariant-blocks::statements-loop l =
+    row_from l.most (separators l.within) (maybe_in l.within) (l.most - l.counter) (stmts_view l.list.items) l.rest ≡ read_by l.most (all_in l.within) l.fn.tokens
 
 abbrev pub invariant-choices::choices-loop : goal.invariant-choices::choices-loop
 invariant-choices::choices-loop l =

@@ -1,0 +1,3 @@
+pub mod NamedView
+pub mod Parts
+pub mod Leads
