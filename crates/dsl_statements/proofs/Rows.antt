@@ -1,12 +1,8 @@
 -- Turns of rows, by what each makes of the things before it.
-use Rattle.std.proofs.Common.{◌≡◌, ◌≢◌, ◌-◌, ℕ, zero, suc, List, [], ◌∷◌, ◌++◌, drop, Bool, true, false, refl, ap, ◌∙◌, arith}
+use Rattle.std.proofs.Common.{◌≡◌, ◌≢◌, ◌-◌, ℕ, zero, suc, List, [], ◌∷◌, drop, Bool, true, false, refl, ap, ◌∙◌, arith}
 use Rattle.dsl_syntax.specs.Syntax.{Statement, Statements, no_expression, some_expression, Expression}
-use Rattle.dsl_syntax.specs.SyntaxView.{stmt_view, stmts_view}
-use Rattle.dsl_syntax.specs.declared.stmt.Stmt.{Stmt}
-use Rattle.dsl_syntax.proofs.SyntaxLists.{stmts_more}
 use Rattle.dsl_lexer.specs.declared.token.Token.{Token}
 use Rattle.dsl_rules.specs.Alphabet.{Sort, at, outside}
-use Rattle.dsl_rules.specs.Rules.{may}
 use Rattle.dsl_rules.specs.Grammar.{one, made, always}
 use Rattle.dsl_rules.specs.Reading.{Read, got, bad, ◌>>=◌, turns, first}
 use Rattle.dsl_rules.proofs.Choice.{inside}
@@ -17,11 +13,6 @@ use Rattle.dsl_syntax.specs.Lists.{add_statement}
 use Rattle.dsl_grammar.specs.Reading.{reads, read_by}
 use Rattle.dsl_grammar.specs.Terms.{Name, expr, starts, Rule, Turn, nothing, thing, add_turn, behind, maybe}
 use Rattle.dsl_grammar.proofs.Turns.{turns_on, may_at}
-use Rattle.dsl_next.proofs.Turns.{turned}
-
--- where each turn may be taken
-pub row_made : {A C : Type 0} (m n : ℕ) (cs : List Sort) (step : C → A → C) (p : List Token → Read Token A) (c d : C) (ts mid : List Token) → m ≡ suc n → at sorts cs ts ≡ true → (p ts >>= λ x rest. got (step c x) rest) ≡ got d mid → turns sorts false cs always step p m c ts ≡ turns sorts false cs always step p n d mid
-row_made m n cs step p c d ts mid e h q = turned m n false cs always step p c d ts mid e (may_at cs ts ∙ h) q
 
 -- Rows of statements.
 
@@ -44,9 +35,6 @@ row_step most m n seps g ss us (t ∷ ts) mid e h q = by (read_by most g ts) ref
     by (bad s) is q = absurd cc
 
 -- One thing of a row, or none.
-
-pub thing_read : (most : ℕ) (cs : List Sort) (g : Rule Statement) → first sorts starts false g ≡ cs → (ss : List Stmt) (s : Stmt) (ts rest : List Token) → at sorts cs ts ≡ true → read_by most g ts ≡ got (stmt_view s) rest → read_by most (made (add_turn add_statement (stmts_view ss)) (maybe thing nothing g)) ts ≡ got (stmts_view (ss ++ s ∷ [])) rest
-thing_read most cs g e ss s ts rest h q = rw (e, h, q, stmts_more ss s) refl
 
 pub thing_is : (most : ℕ) (cs : List Sort) (g : Rule Statement) → first sorts starts false g ≡ cs → (ss : Statements) (ts : List Token) → at sorts cs ts ≡ true → read_by most (made (add_turn add_statement ss) (maybe thing nothing g)) ts ≡ (read_by most g ts >>= λ s rest. got (add_statement ss s) rest)
 thing_is most cs g e ss ts h = rw (e, h) (by (read_by most g ts))
