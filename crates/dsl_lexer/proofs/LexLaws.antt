@@ -7,8 +7,8 @@ use Rattle.dsl_lexer.specs.Places.{place_behind}
 use Rattle.dsl_lexer.specs.declared.sign.Sign.{Sign}
 use Rattle.dsl_lexer.specs.declared.token.Token.{Token}
 use Rattle.dsl_lexer.specs.declared.token_kind.TokenKind.{TokenKind}
-use Rattle.dsl_lexer.specs.declared.step.Step.{Step}
-use Rattle.dsl_lexer.specs.declared.step.Step.TheVariants as step
+use Rattle.dsl_lexer.specs.declared.stepping.Step.{Step}
+use Rattle.dsl_lexer.specs.declared.stepping.Step.TheVariants as step
 use Rattle.dsl_lexer.specs.Steps.{step_at}
 use Rattle.dsl_lexer.specs.Lexing.{Lexed, all, bad, with_front, lex_step, lexed_within, lexed}
 use Rattle.dsl_lexer.specs.Tokens.{Gap, IsGap, IsToken, Lexes, ends, passes, takes, IsStuck, StopsAt, stuck, passes_on, takes_on, token}

@@ -1,4 +1,5 @@
 pub mod Bodies
+pub mod PlainStrings
 pub mod Ends
 pub mod Texts
 pub mod Lexeds

@@ -10,7 +10,7 @@ use Rattle.dsl_lexer.specs.declared.mark.Mark.{Mark}
 use Rattle.dsl_lexer.specs.declared.mark.Mark.TheVariants as mark
 use Rattle.dsl_lexer.specs.declared.token_kind.TokenKind.{TokenKind}
 use Rattle.dsl_lexer.specs.declared.token_kind.TokenKind.TheVariants as kind
-use Rattle.dsl_lexer.specs.declared.step.Step.TheVariants as step
+use Rattle.dsl_lexer.specs.declared.stepping.Step.TheVariants as step
 use Rattle.dsl_lexer.specs.Letters.{is_name_byte, follows}
 use Rattle.dsl_lexer.specs.Marks.{mark_spelling, mark_of, begins}
 use Rattle.dsl_lexer.specs.Steps.{name_at, pointed_len, fraction_len, number_len, number_step, number_at, text_step, string_step, find_end, comment_step, long_step, mark_step, mark_at, newline_step, step_at}

@@ -14,7 +14,7 @@ use Rattle.dsl_lexer.specs.declared.mark.Mark.{Mark}
 use Rattle.dsl_lexer.specs.declared.mark.Mark.TheVariants as mark
 use Rattle.dsl_lexer.specs.declared.token_kind.TokenKind.{TokenKind}
 use Rattle.dsl_lexer.specs.declared.token_kind.TokenKind.TheVariants as kind
-use Rattle.dsl_lexer.specs.declared.step.Step.TheVariants as step
+use Rattle.dsl_lexer.specs.declared.stepping.Step.TheVariants as step
 use Rattle.dsl_lexer.specs.Letters.{is_blank, is_name_start, is_name_byte, is_inner, follows, goes_on}
 use Rattle.dsl_lexer.specs.Words.{word_of, word_spelling}
 use Rattle.dsl_lexer.specs.Marks.{mark_spelling, mark_of}

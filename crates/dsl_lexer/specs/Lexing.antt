@@ -10,8 +10,8 @@ use Rattle.dsl_lexer.specs.Steps.{step_at}
 use Rattle.dsl_lexer.specs.declared.sign.Sign.{Sign}
 use Rattle.dsl_lexer.specs.declared.token.Token.{Token}
 use Rattle.dsl_lexer.specs.declared.token_kind.TokenKind.TheVariants as kind
-use Rattle.dsl_lexer.specs.declared.step.Step.{Step}
-use Rattle.dsl_lexer.specs.declared.step.Step.TheVariants as step
+use Rattle.dsl_lexer.specs.declared.stepping.Step.{Step}
+use Rattle.dsl_lexer.specs.declared.stepping.Step.TheVariants as step
 use Rattle.dsl_lexer.specs.declared.lex_error.LexError.{LexError}
 use Rattle.dsl_lexer.specs.declared.lex_error.LexError.TheVariants as error
 

@@ -13,8 +13,8 @@ use Rattle.dsl_lexer.specs.declared.mark.Mark.{Mark}
 use Rattle.dsl_lexer.specs.declared.mark.Mark.TheVariants as mark
 use Rattle.dsl_lexer.specs.declared.token_kind.TokenKind.{TokenKind}
 use Rattle.dsl_lexer.specs.declared.token_kind.TokenKind.TheVariants as kind
-use Rattle.dsl_lexer.specs.declared.step.Step.{Step}
-use Rattle.dsl_lexer.specs.declared.step.Step.TheVariants as step
+use Rattle.dsl_lexer.specs.declared.stepping.Step.{Step}
+use Rattle.dsl_lexer.specs.declared.stepping.Step.TheVariants as step
 
 abbrev pub name_kind : Option Word → List ℕ → TokenKind
 name_kind None text = kind.Ident text

@@ -1,5 +1,5 @@
 -- What stands inside a string, read byte by byte.
-use Rattle.std.specs.Prelude.{ℕ, ◌<◌, ◌≤◌, zero, suc, ◌+◌, ◌*◌, ◌-◌, List, [], ◌∷◌, ◌++◌, ◌==◌, nat_lt, drop, length, Option, Some, None, if◌then◌else◌}
+use Rattle.std.specs.Prelude.{ℕ, ◌<◌, ◌≤◌, zero, suc, ◌+◌, ◌*◌, ◌-◌, Bool, List, [], ◌∷◌, ◌++◌, ◌==◌, nat_lt, drop, length, Option, Some, None, if◌then◌else◌}
 use Rattle.dsl_lexer.specs.Letters.{is_octal, escape_value}
 use Rattle.dsl_lexer.specs.declared.unit.Unit.{Unit as Written}
 use Rattle.dsl_lexer.specs.declared.unit.Unit.TheVariants as unit
@@ -30,6 +30,10 @@ escape_step (Some b) bytes = unit.Byte b 2
 unfoldable pub escape_of : List ℕ → Written
 escape_of [] = octal_of []
 escape_of (e ∷ bs) = escape_step (escape_value e) (e ∷ bs)
+
+-- the byte that ends a string
+abbrev pub is_quote : ℕ → Bool
+is_quote b = b == 34
 
 -- what the bytes inside a string begin with
 unfoldable pub unit_of : List ℕ → Written

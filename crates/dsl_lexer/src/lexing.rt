@@ -10,8 +10,7 @@ ghost use Rattle.dsl_lexer.specs.declared.token_kind.TokenKind.{TokenKind};
 ghost use Rattle.site_base.specs.declared.place.Place.{Place};
 ghost use Rattle.dsl_lexer.specs.Lexing.{Gives, all, bad, file_tokens, lexed};
 
-use crate::step::Step;
-use crate::stepping::next_step;
+use crate::stepping::{Step, next_step};
 use crate::{LexError, LexFault, Sign, Token, TokenKind};
 use site_base::{OutOfMemory, Place, Row};
 use std::alloc::Global;

@@ -12,7 +12,6 @@ mod mark;
 mod marks;
 mod sign;
 mod spans;
-mod step;
 mod stepping;
 mod strings;
 mod token;

@@ -1,4 +1,3 @@
-// What a token or a comment that is neither name nor number begins with.
 ghost use Rattle.std.specs.Prelude.{◌≡◌};
 ghost use Rattle.dsl_lexer.specs.Marks.{mark_spelling};
 

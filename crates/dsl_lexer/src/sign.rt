@@ -1,4 +1,3 @@
-// The signs.
 ghost use Rattle.std.specs.Prelude.{◌≡◌};
 ghost use Rattle.dsl_lexer.specs.Signs.{sign_spelling};
 

@@ -1,4 +1,4 @@
-// What a text begins with.
+// The steps over a text.
 ghost use Rattle.std.specs.Prelude.{◌≡◌, ◌<◌, ◌≤◌, ◌+◌, IfOk, length, codes};
 ghost use Rattle.std.specs.Str.{IsAscii};
 ghost use Rattle.dsl_lexer.specs.Steps.{step_at, newline_step, name_at, number_at, mark_at, comment_step, find_end, long_step};
@@ -8,11 +8,21 @@ use crate::letters::{is_blank, is_name_start};
 use crate::mark::Mark;
 use crate::marks::read_mark;
 use crate::spans::{end_len, line_len, name_len, number_len};
-use crate::step::Step;
 use crate::strings::{copied_text, read_string};
 use crate::words::read_word;
 use site_base::{Num, OutOfMemory, Text};
 use std::alloc::Global;
+
+/// What a text begins with, and how many bytes of it.
+#[derive(Debug, Drop)]
+pub(crate) enum Step {
+    /// A blank, a comment, or a newline that is no token.
+    Passed(usize),
+    /// A token.
+    Taken(usize, TokenKind),
+    /// Nothing of the language.
+    Fault,
+}
 
 /// What a text begins with, where newlines are tokens or are passed over.
 #[tactic(auto, unfolding(crate::specs::Steps::step_at))]

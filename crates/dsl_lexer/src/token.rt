@@ -1,4 +1,3 @@
-// Tokens.
 use crate::TokenKind;
 use site_base::Place;
 

@@ -1,4 +1,3 @@
-// What a token is.
 use crate::{Sign, Word};
 use site_base::{Num, Text};
 

@@ -1,4 +1,3 @@
-// One character of a string as it is written.
 ghost use Rattle.std.specs.Prelude.{◌≡◌, ◌<◌, ◌+◌, length};
 ghost use Rattle.dsl_lexer.specs.Letters.{is_octal as octal};
 ghost use Rattle.dsl_lexer.specs.Strings.{unit_of, escape_of, octal_of, octal_second, octal_third, octal_byte, IsWithin};

@@ -1,4 +1,3 @@
-// The reserved words.
 ghost use Rattle.std.specs.Prelude.{◌≡◌};
 ghost use Rattle.dsl_lexer.specs.Words.{word_spelling};
 

@@ -1,7 +1,7 @@
 use Rattle.std.proofs.Common.{◌≡◌, ◌+◌, length, ap, sym, ◌∙◌, arith}
 use Rattle.std.proofs.lemmas.List.{length-drop}
 use Rattle.dsl_lexer.specs.Brackets.{keeps}
-use Rattle.dsl_lexer.specs.declared.step.Step.TheVariants as step
+use Rattle.dsl_lexer.specs.declared.stepping.Step.TheVariants as step
 use Rattle.dsl_lexer.specs.Lexing.{lexed}
 use Rattle.dsl_lexer.specs.Steps.{step_at}
 use Rattle.dsl_lexer.proofs.StepLaws.{passed_within, taken_within}

@@ -1,7 +1,7 @@
 use Rattle.std.proofs.Common.{cond, sym, ap, ◌∙◌}
 use Rattle.std.proofs.lemmas.Str.{is_utf8-from_IsUtf8}
 use Rattle.dsl_lexer.specs.declared.token_kind.TokenKind.TheVariants as kind
-use Rattle.dsl_lexer.specs.declared.step.Step.TheVariants as step
+use Rattle.dsl_lexer.specs.declared.stepping.Step.TheVariants as step
 use Rattle.dsl_lexer.proofs.Texts.{not_utf8}
 use Rattle.dsl_lexer.proofs.strings.copied_text.Goals as goal
 
