@@ -6,12 +6,12 @@ use Rattle.std.proofs.lemmas.Bool.{false≢true}
 use Rattle.std.proofs.lemmas.Str.{is_utf8-from_IsUtf8, IsUtf8-from_is_utf8}
 use Rattle.site_base.specs.declared.place.Place.{Place}
 use Rattle.dsl_lexer.specs.Lexing.{Lexed, all, bad, lexed, file_tokens}
-use Rattle.dsl_lexer.specs.Lists.{HasTokens, HasFault}
+use Rattle.dsl_lexer.specs.Lists.{HasTokens, HasFault, IsWhole}
 use Rattle.dsl_lexer.specs.Places.{start_of, place_behind}
 use Rattle.dsl_lexer.specs.declared.token.Token.{Token}
 use Rattle.dsl_lexer.specs.declared.lex_error.LexError.TheVariants as error
 use Rattle.dsl_lexer.proofs.LexLaws.{lexes_reads, stops_reads}
-use Rattle.dsl_lexer.proofs.ListLaws.{found_tokens, fault}
+use Rattle.dsl_lexer.proofs.ListLaws.{found_tokens, has_whole, fault}
 
 abbrev read_by : ℕ → List ℕ → Bool → Lexed
 read_by file bytes b = cond b (lexed (start_of file) bytes) (bad (place_behind (take (utf8_valid_len bytes) bytes) (start_of file)))
@@ -44,6 +44,13 @@ tokens_by file bytes ts false u e = absurd (cc e)
 
 pub read_tokens : (file : ℕ) (bytes : List ℕ) (ts : List Token) → file_tokens file bytes ≡ all ts → HasTokens file bytes ts
 read_tokens file bytes ts e = tokens_by file bytes ts (is_utf8 bytes) refl e
+
+whole_by : (file : ℕ) (bytes : List ℕ) (ts : List Token) (b : Bool) → read_by file bytes b ≡ all ts → IsWhole ts
+whole_by file bytes ts true e = has_whole file bytes ts e
+whole_by file bytes ts false e = absurd (cc e)
+
+pub read_whole : (file : ℕ) (bytes : List ℕ) (ts : List Token) → file_tokens file bytes ≡ all ts → IsWhole ts
+read_whole file bytes ts e = whole_by file bytes ts (is_utf8 bytes) e
 
 fault_by : (file : ℕ) (bytes : List ℕ) (place : Place) (b : Bool) → is_utf8 bytes ≡ b → read_by file bytes b ≡ bad place → HasFault file bytes place
 fault_by file bytes place true u e = fault file bytes (Err (error.Fault (record { place = place }))) (IsUtf8-from_is_utf8 bytes u) e

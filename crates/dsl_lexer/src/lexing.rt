@@ -68,10 +68,11 @@ pub fn tokens_are_longest()
 {}
 
 /// What is read of the bytes of a file, byte by byte, is the tokens that they have or their fault, and
-/// they have no other. This call does nothing: its contract says so.
+/// they have no other. The tokens are whole. This call does nothing: its contract says so.
 pub fn what_is_read_are_the_tokens()
     ensures tokens { (file : ℕ) (bytes : List ℕ) (ts : List Token) → HasTokens file bytes ts → file_tokens file bytes ≡ all ts }
     ensures read { (file : ℕ) (bytes : List ℕ) (ts : List Token) → file_tokens file bytes ≡ all ts → HasTokens file bytes ts }
+    ensures whole { (file : ℕ) (bytes : List ℕ) (ts : List Token) → file_tokens file bytes ≡ all ts → IsWhole ts }
     ensures fault { (file : ℕ) (bytes : List ℕ) (place : Place) → HasFault file bytes place → file_tokens file bytes ≡ bad place }
     ensures stopped { (file : ℕ) (bytes : List ℕ) (place : Place) → file_tokens file bytes ≡ bad place → HasFault file bytes place }
 {}

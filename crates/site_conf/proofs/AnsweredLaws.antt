@@ -26,7 +26,7 @@ use Rattle.site_conf.specs.declared.source.Source.{Source}
 use Rattle.site_conf.specs.declared.source.Source.TheVariants.{File}
 use Rattle.site_conf.proofs.Through.{Stays, walked_stays}
 use Rattle.site_conf.proofs.FaultLaws.{AreStops}
-use Rattle.site_conf.proofs.TreeLaws.{AreTokens, AreOutcomes, AreKept, kept_of, tree_of, kept_at, begins_kept, order_kept, count_kept, met_kept_by, entered_kept, tree_is, whole_is, walk_keeps}
+use Rattle.site_conf.proofs.TreeLaws.{AreTokens, AreOutcomes, AreKept, kept_of, tree_of, kept_at, begins_kept, order_kept, count_kept, met_kept_by, entered_kept, tree_is}
 
 -- the fault of each file that was met is told
 abbrev AreAnswered : Told → WalkState → Type 0
@@ -147,7 +147,7 @@ of_outcome s index bytes ts (deep_at_place p) short read h told there =
 of_tokens : AreTokens → AreStops → AreOutcomes → (s : WalkState) (index : ℕ) (bytes : List ℕ) (l : Lexed) → file_tokens index bytes ≡ l → length bytes ≤ 4194304 → Tells s (kept_tokens index l) → slice_get s.trees index ≡ Some (kept_tokens index l).tree
     → IsThere s index bytes ⊎ IsToldFaulty s index bytes
 of_tokens read stops outcomes s index bytes (tokens_of ts) e short told there =
-    of_outcome s index bytes ts (file_outcome ts) short (read index bytes ts e) (outcomes ts (whole_is index bytes ts e)) told there
+    of_outcome s index bytes ts (file_outcome ts) short (read index bytes ts e).0 (outcomes ts (read index bytes ts e).1) told there
 of_tokens read stops outcomes s index bytes (bad p) e short told there =
     let d : Diag = diag_at (in_file index p) kind.Lexical [] in
     inr (record { fault = d; own = inl (record { place = p; told = refl; fault = stops index bytes p e }); told = told d (Contains-push [] d) })

@@ -29,7 +29,7 @@ use Rattle.site_conf.specs.declared.source.Source.{Source}
 use Rattle.site_conf.specs.declared.source.Source.TheVariants.{File, Library}
 use Rattle.site_conf.proofs.Through.{Stays, walked_stays}
 use Rattle.site_conf.proofs.SoundLaws.{one_all, none_all}
-use Rattle.site_conf.proofs.TreeLaws.{AreTokens, AreOutcomes, AreKept, kept_of, holding_of, kept_at, kept_length, last_at, begins_kept, order_kept, count_kept, met_kept_by, entered_kept, whole_is, walk_keeps}
+use Rattle.site_conf.proofs.TreeLaws.{AreTokens, AreOutcomes, AreKept, kept_of, holding_of, kept_at, kept_length, last_at, begins_kept, order_kept, count_kept, met_kept_by, entered_kept, walk_keeps}
 
 -- a law: where reading bytes stops, they have a fault
 abbrev pub AreStops : Type 0
@@ -43,7 +43,7 @@ outcome_own file bytes ts (fault_at p) read h = one_all (IsOwn file bytes) (diag
 outcome_own file bytes ts (deep_at_place p) read h = one_all (IsOwn file bytes) (diag_at (in_file file p) kind.TooDeep []) (inr (inr (record { tokens = ts; read = read; place = p; told = refl; fault = h })))
 
 tokens_own : AreTokens → AreStops → AreOutcomes → (file : ℕ) (bytes : List ℕ) (l : Lexed) → file_tokens file bytes ≡ l → All (IsOwn file bytes) (kept_tokens file l).faults
-tokens_own read stops outcomes file bytes (tokens_of ts) e = outcome_own file bytes ts (file_outcome ts) (read file bytes ts e) (outcomes ts (whole_is file bytes ts e))
+tokens_own read stops outcomes file bytes (tokens_of ts) e = outcome_own file bytes ts (file_outcome ts) (read file bytes ts e).0 (outcomes ts (read file bytes ts e).1)
 tokens_own read stops outcomes file bytes (bad p) e = one_all (IsOwn file bytes) (diag_at (in_file file p) kind.Lexical []) (inl (record { place = p; told = refl; fault = stops file bytes p e }))
 
 bytes_own : AreTokens → AreStops → AreOutcomes → (file : ℕ) (bytes : List ℕ) → All (IsOwn file bytes) (kept_bytes file bytes).faults

@@ -16,7 +16,6 @@ use Rattle.dsl_syntax.specs.Syntax.{Statements}
 use Rattle.dsl_lexer.specs.Lexing.{Lexed, all as tokens_of, bad, lexed, file_tokens}
 use Rattle.dsl_lexer.specs.Lists.{HasTokens, IsWhole}
 use Rattle.dsl_lexer.specs.Places.{start_of, place_behind}
-use Rattle.dsl_lexer.proofs.ListLaws.{has_whole}
 use Rattle.dsl_lexer.specs.declared.token.Token.{Token}
 use Rattle.dsl_grammar.specs.Files.{Outcome, tree_found, fault_at, deep_at_place, file_outcome, Holds}
 use Rattle.site_conf.specs.Findings.{IsTreeOf, IsTold}
@@ -188,25 +187,18 @@ outcome_whole file (deep_at_place p) e = cc
 pub tree_is : (file : ℕ) (bytes : List ℕ) (tokens : List Token) (tree : Statements) → length bytes ≤ 4194304 → HasTokens file bytes tokens → Holds tokens (tree_found tree) → IsTreeOf file bytes tree
 tree_is file bytes tokens tree short read h = record { short = short; tokens = tokens; read = read; parsed = h.0; only = h.1; shallow = h.2 }
 
--- a law: what is read of bytes is their tokens
+-- a law: what is read of bytes is their tokens, and these are whole
 abbrev pub AreTokens : Type 0
-AreTokens = (file : ℕ) (bytes : List ℕ) (ts : List Token) → file_tokens file bytes ≡ tokens_of ts → HasTokens file bytes ts
+AreTokens = (file : ℕ) (bytes : List ℕ) (ts : List Token) → file_tokens file bytes ≡ tokens_of ts → HasTokens file bytes ts × IsWhole ts
 
 -- a law: what is read of tokens is their tree, or their fault
 abbrev pub AreOutcomes : Type 0
 AreOutcomes = (tokens : List Token) → IsWhole tokens → Holds tokens (file_outcome tokens)
 
-whole_by : (file : ℕ) (bytes : List ℕ) (ts : List Token) (b : Bool) → cond b (lexed (start_of file) bytes) (bad (place_behind (take (utf8_valid_len bytes) bytes) (start_of file))) ≡ tokens_of ts → IsWhole ts
-whole_by file bytes ts true e = has_whole file bytes ts e
-whole_by file bytes ts false e = absurd (cc)
-
-pub whole_is : (file : ℕ) (bytes : List ℕ) (ts : List Token) → file_tokens file bytes ≡ tokens_of ts → IsWhole ts
-whole_is file bytes ts e = whole_by file bytes ts (is_utf8 bytes) e
-
 tokens_whole : AreTokens → AreOutcomes → (file : ℕ) (bytes : List ℕ) (l : Lexed) → length bytes ≤ 4194304 → file_tokens file bytes ≡ l → (kept_tokens file l).holding ≡ Whole → IsTreeOf file bytes (kept_tokens file l).tree
 tokens_whole read outcomes file bytes (tokens_of ts) short e w =
     let found : file_outcome ts ≡ tree_found (kept_outcome file (file_outcome ts)).tree = outcome_whole file (file_outcome ts) w in
-    tree_is file bytes ts (kept_outcome file (file_outcome ts)).tree short (read file bytes ts e) (subst (Holds ts) found (outcomes ts (whole_is file bytes ts e)))
+    tree_is file bytes ts (kept_outcome file (file_outcome ts)).tree short (read file bytes ts e).0 (subst (Holds ts) found (outcomes ts (read file bytes ts e).1))
 tokens_whole read outcomes file bytes (bad p) short e w = absurd (cc)
 
 bytes_whole : AreTokens → AreOutcomes → (file : ℕ) (bytes : List ℕ) → length bytes ≤ 4194304 → (kept_bytes file bytes).holding ≡ Whole → IsTreeOf file bytes (kept_bytes file bytes).tree

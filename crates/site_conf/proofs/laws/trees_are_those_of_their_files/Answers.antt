@@ -8,4 +8,4 @@ pub returns-clause-library : goal.returns-clause-library
 returns-clause-library c = flags_are
 
 pub returns-clause-trees : goal.returns-clause-trees
-returns-clause-trees c = trees_are c.what_is_read_are_the_tokens.ensures.read c.files_have_one_outcome.ensures
+returns-clause-trees c = trees_are (λ file bytes ts e. (c.what_is_read_are_the_tokens.ensures.read file bytes ts e, c.what_is_read_are_the_tokens.ensures.whole file bytes ts e)) c.files_have_one_outcome.ensures
