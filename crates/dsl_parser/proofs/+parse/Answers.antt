@@ -1,22 +1,22 @@
-use Rattle.std.proofs.Common.{rules, ◌≡◌, ◌+◌, ◌-◌, [], ◌∷◌, true, sym, subst, arith, suc, false, ◌∙◌, nat_eq, length, ap, refl, drop, None, Result, Ok, Err}
+use Rattle.std.proofs.Common.{rules, ◌≡◌, ◌+◌, ◌-◌, [], ◌∷◌, true, sym, subst, arith, suc, false, ◌∙◌, nat_eq, length, ap, refl, drop, None}
 use Rattle.dsl_syntax.specs.Lists.{add_expression}
 use Rattle.dsl_syntax.specs.SyntaxView.{expr_view, exprs_view, entries_view, uses_view, maybe_expr_view, stmts_view, stmt_kind_view}
 use Rattle.dsl_lexer.specs.declared.sign.Sign.TheVariants as signs
 use Rattle.dsl_lexer.specs.declared.word.Word.TheVariants as words
 use Rattle.dsl_rules.specs.Alphabet.{at, over}
-use Rattle.dsl_rules.specs.Grammar.{always, one, made}
+use Rattle.dsl_rules.specs.Grammar.{always, made}
 use Rattle.dsl_rules.specs.Reading.{got, ◌>>=◌, turns}
 use Rattle.dsl_rules.specs.Rules.{may}
 use Rattle.dsl_grammar.specs.Codes.{sorts, sign_sort, word_sort}
-use Rattle.dsl_grammar.specs.Grammar.{Arguments, Choices, Expr, Listed, Lambda, Level, begun_expression, OneTail, tail_sorts, with_tail, CommaSlot, Slot, add_slot, may_follow, MaybePair, add_pair, OneUse, add_captured, AnyHead, AnyStatement, BodyStatement, BodyKind, Kind, MaybeBodyStatement, MaybeStatement, BlockStatements, Braced, add_head, body_sorts, may_head, statement_sorts, Else, may_else, add_else, ImportStatement, ThrowStatement, SetOrEval, SetTo}
+use Rattle.dsl_grammar.specs.Grammar.{Choices, Expr, Listed, begun_expression, OneTail, tail_sorts, with_tail, CommaSlot, Slot, add_slot, may_follow, MaybePair, add_pair, OneUse, add_captured, AnyHead, Braced, add_head, may_head, Else, may_else, add_else, SetTo}
 use Rattle.dsl_grammar.specs.Reading.{read_by}
-use Rattle.dsl_grammar.specs.Terms.{behind, sign, bsep, add_turn, block, expr, sep, starts}
+use Rattle.dsl_grammar.specs.Terms.{behind, sign, bsep, add_turn, block, expr, starts}
 use Rattle.dsl_grammar.proofs.LevelReads.{expr_none}
 use Rattle.dsl_grammar.proofs.Turns.{may_at, turns_end}
 use Rattle.dsl_next.proofs.Turns.{step_at, step_may, step_behind, turned, made_behind}
 use Rattle.dsl_next.specs.Gives.{Gives}
-use Rattle.dsl_statements.proofs.Assigning.{eval_alone, set_read, set_target}
-use Rattle.dsl_parts.proofs.Climbing.{whole, begun_climb, goes_on, ends_here, operated_got, operator_bad, operand_bad, climb_got, climb_bad}
+use Rattle.dsl_statements.proofs.Assigning.{eval_alone, set_read}
+use Rattle.dsl_parts.proofs.Climbing.{whole, begun_climb}
 use Rattle.dsl_statements.proofs.Rows.{row_step, reads_none, reads_on, name_sorts, name_read, name_is, name_absent}
 use Rattle.dsl_parts.specs.ExprParts.{operand_view, slots_view}
 use Rattle.dsl_statements.specs.NamedView.{head_sorts, heads_view}
