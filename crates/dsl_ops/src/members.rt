@@ -3,7 +3,7 @@ ghost use Rattle.std.specs.Prelude.{◌≡◌, ◌<◌, ◌≤◌, ℕ, length, 
 ghost use Rattle.dsl_value.specs.Changes.{changed, FitsCell, NamesIn};
 ghost use Rattle.dsl_value.specs.Contents.{plain, cell_at};
 ghost use Rattle.dsl_value.specs.Grows.{Grows};
-ghost use Rattle.dsl_value.specs.Outcomes.{Answered, after};
+ghost use Rattle.dsl_value.specs.Outcomes.{Answered, after, made_units};
 ghost use Rattle.dsl_value.specs.Whole.{Names};
 ghost use Rattle.dsl_ops.specs.Members.{element as element_of, member_in, member_outcome, or_wrong, place_in, with_member, set_outcome, MemberRefused, Returns, IsWrong};
 ghost use Rattle.dsl_ops.specs.Table.{whole_part};
@@ -72,7 +72,7 @@ pub fn set_member(
 ) -> Result<Priced, Refusal<MemberFault>>
     requires value { Names (length store.old.cells) (length store.old.functions) value.now }
     requires new { Names (length store.old.cells) (length store.old.functions) new }
-    ensures answer { Answered MemberRefused units (length store.old.cells) (set_outcome store.old value.now key.now new) 1 result }
+    ensures answer { Answered MemberRefused units (length store.old.cells) (set_outcome store.old value.now key.now new) (made_units (set_outcome store.old value.now key.now new)) result }
     ensures ok { OnOk result (store.new ≡ after store.old (set_outcome store.old value.now key.now new)) }
     ensures grows { OnOk result (Grows 0 store.old store.new) }
     ensures err { OnErr result (store.new ≡ store.old) }

@@ -188,7 +188,7 @@ module _ (view : View) (objects : List Shown) (absent : List Read) (whole : List
   every_put_member : (l : Place) (container k v : Value) (s : State) → P s (put_member l container k v s) (put_member l container k v s)
   every_put_member l container k v s =
       let o = set_outcome (contents s) container k v in
-      binds s (settled member_kind l 1 o s) (settled member_kind l 1 o s) _ _ (every_settled member_kind l (λ x. 1) o s (member_sound (contents s) container k v)) (λ u s1. here On s1)
+      binds s (settled member_kind l (comes.made_units o) o s) (settled member_kind l (comes.made_units o) o s) _ _ (every_settled member_kind l (λ x. comes.made_units x) o s (member_sound (contents s) container k v)) (λ u s1. here On s1)
 
   every_put_in : (l : Place) (container k v : Value) (s : State) → P s (put_in l container k v s) (put_in l container k v s)
   unfolding put_in

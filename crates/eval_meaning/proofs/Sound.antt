@@ -177,13 +177,13 @@ member_kind (array vs) (value.Number n) v d e = by (place_in (length vs) (table.
     by None h = absurd cc
 member_kind c k v d e = absurd cc
 
-option_sound : (s : Contents) (k : ℕ) (o : Option PlainCell) → ((d : PlainCell) → o ≡ Some d → is_array d ≡ is_array (cell_at s.cells k)) → IsSound s (λ x. 1) (written_or_wrong s k o)
-option_sound s k (Some d) h = unfrozen s (λ x. 1) member_fault.Frozen k d (h d refl)
-option_sound s k None h = refused s (λ x. 1) _
+option_sound : (s : Contents) (k : ℕ) (o : Option PlainCell) → ((d : PlainCell) → o ≡ Some d → is_array d ≡ is_array (cell_at s.cells k)) → IsSound s (λ x. comes.made_units x) (written_or_wrong s k o)
+option_sound s k (Some d) h = unfrozen s (λ x. comes.made_units x) member_fault.Frozen k d (h d refl)
+option_sound s k None h = refused s (λ x. comes.made_units x) _
 
-pub member_sound : (s : Contents) (container k v : Value) → IsSound s (λ x. 1) (set_outcome s container k v)
+pub member_sound : (s : Contents) (container k v : Value) → IsSound s (λ x. comes.made_units x) (set_outcome s container k v)
 member_sound s (value.Ref c) k v = option_sound s c (with_member (cell_at s.cells c) k v) (λ d e. member_kind (cell_at s.cells c) k v d e)
-member_sound s container k v = refused s (λ x. 1) _
+member_sound s container k v = refused s (λ x. comes.made_units x) _
 
 -- ---- the library
 

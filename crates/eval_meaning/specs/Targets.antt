@@ -9,6 +9,7 @@ use Rattle.dsl_syntax.specs.declared.set_op.SetOp.TheVariants as set
 use Rattle.dsl_syntax.specs.declared.bin_op.BinOp.{BinOp}
 use Rattle.dsl_syntax.specs.declared.bin_op.BinOp.TheVariants as bin
 use Rattle.dsl_value.specs.Pairs.{find}
+use Rattle.dsl_value.specs.Outcomes.{made_units}
 use Rattle.dsl_value.specs.declared.value.Value.{Value}
 use Rattle.dsl_value.specs.declared.value.Value.TheVariants as value
 use Rattle.dsl_ops.specs.Members.{set_outcome}
@@ -62,7 +63,7 @@ member_kind member_fault.OutOfMemory = kind.WrongType
 
 -- a container has a value at a key: a dictionary takes strings, and an array the indexes below its length. That costs a unit
 abbrev pub put_member : Place → Value → Value → Value → State → Outcome Flow
-put_member l container k v s = settled member_kind l 1 (set_outcome (contents s) container k v) s >>= λ _ s1. gives On s1
+put_member l container k v s = settled member_kind l (made_units (set_outcome (contents s) container k v)) (set_outcome (contents s) container k v) s >>= λ _ s1. gives On s1
 
 -- at a load a constant is a key of the globals that no assignment changes
 abbrev pub is_constant : Task → Value → Value → Bool
