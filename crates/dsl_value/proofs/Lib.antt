@@ -8,6 +8,7 @@ pub mod Keyed
 pub mod Layered
 pub mod Levels
 pub mod Named
+pub mod Numbered
 pub mod Parted
 pub mod Places
 pub mod Plainly

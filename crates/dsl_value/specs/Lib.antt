@@ -5,6 +5,7 @@ pub mod Entering
 pub mod Equality
 pub mod Faults
 pub mod Grows
+pub mod Known
 pub mod Loading
 pub mod Loads
 pub mod Nests

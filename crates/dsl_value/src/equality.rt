@@ -1,10 +1,12 @@
 // When values are equal.
-ghost use Rattle.std.specs.Prelude.{◌≡◌, ◌-◌, length};
+ghost use Rattle.std.specs.Prelude.{◌≡◌, ◌-◌, ◌<◌, ◌≤◌, length};
 ghost use Rattle.std.specs.List.{All};
 ghost use Rattle.dsl_value.specs.Contents.{plain};
 ghost use Rattle.dsl_value.specs.Equality.{scalars_equal, each_equal, each_pair_equal, cells_equal, refs_equal, equal_within};
+ghost use Rattle.dsl_value.specs.Known.{IsKnown};
 ghost use Rattle.dsl_value.specs.Whole.{Names, Stands};
 
+use crate::known::Known;
 use crate::{Cell, Store, Value};
 use site_base::Text;
 
@@ -13,67 +15,87 @@ const LEVELS: u32 = 100;
 
 /// Whether two values are equal. Null equals null, 0 and the empty text. Numbers, texts and booleans
 /// are compared by value, arrays and dictionaries element by element to a hundred levels of nesting,
-/// and functions by identity; values of two types are unequal.
+/// and functions by identity; values of two types are unequal. Cells that are met again beside each other are
+/// compared once, where there is memory to keep them in mind.
 pub fn equal(left: &Value, right: &Value, store: &Store) -> bool
     requires left { Names (length store.now.cells) (length store.now.functions) left.now }
     requires right { Names (length store.now.cells) (length store.now.functions) right.now }
     ensures { result ≡ equal_within 100 store.now.cells left.now right.now }
 {
-    values(LEVELS, left, right, store)
+    values(LEVELS, left, right, store, &mut Known::new(store.alloc()))
 }
 
 #[cycle(equal)]
-fn values(levels: u32, left: &Value, right: &Value, store: &Store) -> bool
+fn values(levels: u32, left: &Value, right: &Value, store: &Store, known: &mut Known) -> bool
     requires left { Names (length store.now.cells) (length store.now.functions) left.now }
     requires right { Names (length store.now.cells) (length store.now.functions) right.now }
-    ensures { result ≡ equal_within levels store.now.cells left.now right.now }
+    requires levels { levels ≤ 100 }
+    requires known { IsKnown store.now.cells known.old }
+    ensures equal { result ≡ equal_within levels store.now.cells left.now right.now }
+    ensures known { IsKnown store.now.cells known.new }
 {
     if levels == 0 {
         return scalars(left, right);
     }
-    inside(levels - 1, left, right, store)
+    inside(levels - 1, left, right, store, known)
 }
 
 #[cycle(equal)]
-fn inside(levels: u32, left: &Value, right: &Value, store: &Store) -> bool
+fn inside(levels: u32, left: &Value, right: &Value, store: &Store, known: &mut Known) -> bool
     requires left { Names (length store.now.cells) (length store.now.functions) left.now }
     requires right { Names (length store.now.cells) (length store.now.functions) right.now }
-    ensures { result ≡ refs_equal (equal_within levels store.now.cells) store.now.cells left.now right.now }
+    requires levels { levels < 100 }
+    requires known { IsKnown store.now.cells known.old }
+    ensures equal { result ≡ refs_equal (equal_within levels store.now.cells) store.now.cells left.now right.now }
+    ensures known { IsKnown store.now.cells known.new }
 {
     match (left, right) {
         (Value::Ref(left), Value::Ref(right)) => {
-            cells(levels, store.cell(*left), store.cell(*right), store)
+            if known.contains(levels, *left, *right) {
+                return true;
+            }
+            if !cells(levels, store.cell(*left), store.cell(*right), store, known) {
+                return false;
+            }
+            known.add(levels, *left, *right);
+            true
         }
         _ => scalars(left, right),
     }
 }
 
 #[cycle(equal)]
-fn cells(levels: u32, left: &Cell, right: &Cell, store: &Store) -> bool
+fn cells(levels: u32, left: &Cell, right: &Cell, store: &Store, known: &mut Known) -> bool
     requires left { Stands (length store.now.cells) (length store.now.functions) (plain left.now) }
     requires right { Stands (length store.now.cells) (length store.now.functions) (plain right.now) }
-    ensures { result ≡ cells_equal (equal_within levels store.now.cells) (plain left.now) (plain right.now) }
+    requires levels { levels < 100 }
+    requires known { IsKnown store.now.cells known.old }
+    ensures equal { result ≡ cells_equal (equal_within levels store.now.cells) (plain left.now) (plain right.now) }
+    ensures known { IsKnown store.now.cells known.new }
 {
     match (left, right) {
         (Cell::Array(left), Cell::Array(right)) => {
-            left.len() == right.len() && items(levels, left, right, store)
+            left.len() == right.len() && items(levels, left, right, store, known)
         }
         (Cell::Dict(left), Cell::Dict(right)) => {
-            left.len() == right.len() && pairs(levels, left, right, store)
+            left.len() == right.len() && pairs(levels, left, right, store, known)
         }
         _ => false,
     }
 }
 
 #[cycle(equal)]
-fn items(levels: u32, left: &[Value], right: &[Value], store: &Store) -> bool
+fn items(levels: u32, left: &[Value], right: &[Value], store: &Store, known: &mut Known) -> bool
     requires left { All (Names (length store.now.cells) (length store.now.functions)) left.now }
     requires right { All (Names (length store.now.cells) (length store.now.functions)) right.now }
     requires length { length left.now ≡ length right.now }
-    ensures { result ≡ each_equal (equal_within levels store.now.cells) left.now right.now }
+    requires levels { levels < 100 }
+    requires known { IsKnown store.now.cells known.old }
+    ensures equal { result ≡ each_equal (equal_within levels store.now.cells) left.now right.now }
+    ensures known { IsKnown store.now.cells known.new }
 {
     for i in 0..left.len() {
-        if !values(levels, &left[i], &right[i], store) {
+        if !values(levels, &left[i], &right[i], store, known) {
             return false;
         }
     }
@@ -81,14 +103,23 @@ fn items(levels: u32, left: &[Value], right: &[Value], store: &Store) -> bool
 }
 
 #[cycle(equal)]
-fn pairs(levels: u32, left: &[(Text, Value)], right: &[(Text, Value)], store: &Store) -> bool
+fn pairs(
+    levels: u32,
+    left: &[(Text, Value)],
+    right: &[(Text, Value)],
+    store: &Store,
+    known: &mut Known,
+) -> bool
     requires left { All (λ p. Names (length store.now.cells) (length store.now.functions) p.1) left.now }
     requires right { All (λ p. Names (length store.now.cells) (length store.now.functions) p.1) right.now }
     requires length { length left.now ≡ length right.now }
-    ensures { result ≡ each_pair_equal (equal_within levels store.now.cells) left.now right.now }
+    requires levels { levels < 100 }
+    requires known { IsKnown store.now.cells known.old }
+    ensures equal { result ≡ each_pair_equal (equal_within levels store.now.cells) left.now right.now }
+    ensures known { IsKnown store.now.cells known.new }
 {
     for i in 0..left.len() {
-        if left[i].0 != right[i].0 || !values(levels, &left[i].1, &right[i].1, store) {
+        if left[i].0 != right[i].0 || !values(levels, &left[i].1, &right[i].1, store, known) {
             return false;
         }
     }

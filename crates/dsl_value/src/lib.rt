@@ -2,7 +2,7 @@
 //!
 //! In reading order: values (`value`), cells with what changes one (`cell`, `change`, `cells`, `pairs`), functions
 //! (`function`), cells and functions that stores share (`part`, `layer`, `frozen`), the store (`store`,
-//! `set_fault`), when values are equal (`equality`), trees that are put in (`loading`), and the trees
+//! `reading`, `writing`, `set_fault`), when values are equal (`equality`, `known`), trees that are put in (`loading`), and the trees
 //! of values (`walking`, with `frame`, `frames`, `nest`, `path`, `turn` and `tree_fault`), and what trees cost
 //! (`costs`). What operators and the library make for a store stands in
 //! `making` and `acting` (with `priced` and `refusal`),
@@ -19,6 +19,7 @@ mod frame;
 mod frames;
 mod frozen;
 mod function;
+mod known;
 mod laws;
 mod layer;
 mod loading;
@@ -28,6 +29,7 @@ mod pairs;
 mod part;
 mod path;
 mod priced;
+mod reading;
 mod refusal;
 mod set_fault;
 mod store;
@@ -35,6 +37,7 @@ mod tree_fault;
 mod turn;
 mod value;
 mod walking;
+mod writing;
 
 pub use acting::Act;
 pub use cell::Cell;

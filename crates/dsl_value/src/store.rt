@@ -13,9 +13,9 @@ ghost use Rattle.dsl_value.specs.Whole.{Names, NamesAll, Stands, Captures};
 ghost use Rattle.dsl_value.specs.Faults.{Concerns};
 
 use crate::frozen::Frozen;
-use crate::layer::{Layer, copy_cell};
+use crate::layer::Layer;
 use crate::loading::make_tree;
-use crate::pairs::{sorted_pairs, value_of};
+use crate::pairs::sorted_pairs;
 use crate::walking::walk_value;
 use crate::{Cell, Change, Function, SetFault, TreeFault, Value};
 use dsl_syntax::Func;
@@ -107,6 +107,11 @@ impl Store {
         self.frozen.functions() + self.live.functions()
     }
 
+    /// The allocator of what is made for this store.
+    pub(crate) fn alloc(&self) -> Global {
+        self.alloc
+    }
+
     /// How many cells are frozen. They are the first ones.
     pub fn base(&self) -> u32
         ensures { result ≡ self.now.base }
@@ -126,15 +131,6 @@ impl Store {
         } else {
             self.live.cell(cell as usize - shared)
         }
-    }
-
-    /// A copy of a cell, which stays as it is when the store changes.
-    pub fn snapshot(&self, cell: u32) -> Result<Cell, OutOfMemory>
-        requires { cell < length self.now.cells }
-        ensures cell { IfOk result (λ c. plain c ≡ cell_at self.now.cells cell) }
-        ensures stands { IfOk result (λ c. Stands (length self.now.cells) (length self.now.functions) (plain c)) }
-    {
-        copy_cell(self.cell(cell))
     }
 
     /// A function.
@@ -214,18 +210,6 @@ impl Store {
         Ok(Value::Ref(number))
     }
 
-    /// The value of a dictionary's key; `None` where the key is absent.
-    #[tactic(auto, using(crate::proofs::Found::cell_stands))]
-    pub fn get(&self, cell: u32, key: &str) -> Option<&Value>
-        requires inside { cell < length self.now.cells }
-        requires is_dict { IsTrue (is_dict (cell_at self.now.cells cell)) }
-        ensures found { IfSome result (λ v. find key.now (pairs_of (cell_at self.now.cells cell)) ≡ Some v.now) }
-        ensures absent { IfNone result (find key.now (pairs_of (cell_at self.now.cells cell)) ≡ None) }
-        ensures stands { IfSome result (λ v. Names (length self.now.cells) (length self.now.functions) v.now) }
-    {
-        value_in(self.cell(cell), key)
-    }
-
     /// Puts a tree into the store, and gives the value that stands for it. An array or dictionary lies
     /// behind what is inside of it. Of equal keys of a dictionary the last wins. A tree whose keys are
     /// distinct and in byte order, and which costs no more than 16,777,216 units, is given back by
@@ -278,63 +262,6 @@ impl Store {
         self.live.change(at, change)?;
         Ok(())
     }
-
-    /// Gives a dictionary's key a value. `Frozen` exactly where the cell is frozen.
-    pub fn set(&mut self, cell: u32, key: Text, value: Value) -> Result<(), SetFault>
-        requires inside { cell < length self.old.cells }
-        requires is_dict { IsTrue (is_dict (cell_at self.old.cells cell)) }
-        requires stands { Names (length self.old.cells) (length self.old.functions) value }
-        ensures frozen { IsErrOf result (SetFault.Frozen cell) ↔ (cell < self.old.base) }
-        ensures fault { IfErr result (Concerns cell) }
-        ensures ok { OnOk result (self.new ≡ with_cells self.old (with_cell self.old.cells cell (with_pair (cell_at self.old.cells cell) key value))) }
-        ensures grows { OnOk result (Grows 0 self.old self.new) }
-        ensures err { OnErr result (self.new ≡ self.old) }
-    {
-        self.change(cell, Change::Set(key, value))
-    }
-
-    /// Changes one element of an array. `Frozen` exactly where the cell is frozen.
-    pub fn put(&mut self, cell: u32, place: u32, value: Value) -> Result<(), SetFault>
-        requires inside { cell < length self.old.cells }
-        requires is_array { IsTrue (is_array (cell_at self.old.cells cell)) }
-        requires place { place < length (values_of (cell_at self.old.cells cell)) }
-        requires stands { Names (length self.old.cells) (length self.old.functions) value }
-        ensures frozen { IsErrOf result (SetFault.Frozen cell) ↔ (cell < self.old.base) }
-        ensures fault { IfErr result (Concerns cell) }
-        ensures ok { OnOk result (self.new ≡ with_cells self.old (with_cell self.old.cells cell (with_value (cell_at self.old.cells cell) place value))) }
-        ensures grows { OnOk result (Grows 0 self.old self.new) }
-        ensures err { OnErr result (self.new ≡ self.old) }
-    {
-        self.change(cell, Change::Put(place, value))
-    }
-
-    /// Adds a value at an array's end. `Frozen` exactly where the cell is frozen.
-    pub fn push(&mut self, cell: u32, value: Value) -> Result<(), SetFault>
-        requires inside { cell < length self.old.cells }
-        requires is_array { IsTrue (is_array (cell_at self.old.cells cell)) }
-        requires stands { Names (length self.old.cells) (length self.old.functions) value }
-        ensures frozen { IsErrOf result (SetFault.Frozen cell) ↔ (cell < self.old.base) }
-        ensures fault { IfErr result (Concerns cell) }
-        ensures ok { OnOk result (self.new ≡ with_cells self.old (with_cell self.old.cells cell (pushed (cell_at self.old.cells cell) value))) }
-        ensures grows { OnOk result (Grows 0 self.old self.new) }
-        ensures err { OnErr result (self.new ≡ self.old) }
-    {
-        self.change(cell, Change::Push(value))
-    }
-
-    /// Takes a key's pair out of a dictionary; nothing changes where the key is absent. `Frozen` exactly
-    /// where the cell is frozen.
-    pub fn remove(&mut self, cell: u32, key: &str) -> Result<(), SetFault>
-        requires inside { cell < length self.old.cells }
-        requires is_dict { IsTrue (is_dict (cell_at self.old.cells cell)) }
-        ensures frozen { IsErrOf result (SetFault.Frozen cell) ↔ (cell < self.old.base) }
-        ensures fault { IfErr result (Concerns cell) }
-        ensures ok { OnOk result (self.new ≡ with_cells self.old (with_cell self.old.cells cell (without_pair (cell_at self.old.cells cell) key.now))) }
-        ensures grows { OnOk result (Grows 0 self.old self.new) }
-        ensures err { OnErr result (self.new ≡ self.old) }
-    {
-        self.change(cell, Change::Remove(key))
-    }
 }
 
 /// The number of a cell or function behind those that are shared and those that aren't. A store of
@@ -356,17 +283,4 @@ fn is_frozen(cell: u32, base: u32) -> bool
     ensures live { result ≡ false → base ≤ cell }
 {
     base > cell
-}
-
-/// The value of a key in a dictionary's cell.
-fn value_in<'a>(cell: &'a Cell, key: &str) -> Option<&'a Value>
-    requires is_dict { IsTrue (is_dict (plain cell.now)) }
-    requires sorted { IsInOrder (plain cell.now) }
-    ensures found { IfSome result (λ v. find key.now (pairs_of (plain cell.now)) ≡ Some v.now) }
-    ensures absent { IfNone result (find key.now (pairs_of (plain cell.now)) ≡ None) }
-{
-    match cell {
-        Cell::Array(_) => None,
-        Cell::Dict(pairs) => value_of(pairs, key),
-    }
 }
