@@ -76,7 +76,7 @@ impl Layer {
         ensures err { OnErr result (self.new ≡ self.old) }
     {
         match &mut self.part {
-            Some(part) => add_to(part, cell),
+            Some(part) => add_to(alloc, part, cell),
             None => {
                 self.part = Some(part_of_cell(alloc, cell)?);
                 Ok(())
@@ -90,7 +90,7 @@ impl Layer {
         ensures err { OnErr result (self.new ≡ self.old) }
     {
         match &mut self.part {
-            Some(part) => add_all_to(part, cells),
+            Some(part) => add_all_to(alloc, part, cells),
             None => {
                 self.part = Some(part_of_cells(alloc, cells)?);
                 Ok(())
@@ -124,7 +124,7 @@ impl Layer {
         ensures err { OnErr result (self.new ≡ self.old) }
     {
         match &mut self.part {
-            Some(part) => add_function_to(part, func),
+            Some(part) => add_function_to(alloc, part, func),
             None => {
                 self.part = Some(part_of_function(alloc, func)?);
                 Ok(())
@@ -132,20 +132,13 @@ impl Layer {
         }
     }
 
-    /// The same cells and functions, copied.
-    pub(crate) fn copied(&self, alloc: Global) -> Result<Layer, OutOfMemory>
-        ensures { IfOk result (λ l. l ≡ self.now) }
-    {
-        match &self.part {
-            Some(part) => Ok(Layer {
-                part: Some(copy_of(alloc, part)?),
-            }),
-            None => Ok(Layer { part: None }),
-        }
-    }
-
     /// Changes a cell.
-    pub(crate) fn change(&mut self, cell: usize, change: Change) -> Result<(), OutOfMemory>
+    pub(crate) fn change(
+        &mut self,
+        alloc: Global,
+        cell: usize,
+        change: Change,
+    ) -> Result<(), OutOfMemory>
         requires inside { cell < length self.old.cells }
         requires fits { FitsCell change (cell_at self.old.cells cell) }
         requires sorted { IsInOrder (cell_at self.old.cells cell) }
@@ -153,7 +146,7 @@ impl Layer {
         ensures err { OnErr result (self.new ≡ self.old) }
     {
         match &mut self.part {
-            Some(part) => change_in(part, cell, change),
+            Some(part) => change_in(alloc, part, cell, change),
             None => unreachable!(),
         }
     }
@@ -169,10 +162,11 @@ fn part_of_cell(alloc: Global, cell: Cell) -> Result<Arc<Part>, OutOfMemory>
     Ok(Arc::new(alloc, Part { cells, functions })?)
 }
 
-fn add_to(part: &mut Arc<Part>, cell: Cell) -> Result<(), OutOfMemory>
+fn add_to(alloc: Global, part: &mut Arc<Part>, cell: Cell) -> Result<(), OutOfMemory>
     ensures ok { OnOk result (part_of part.new ≡ record { cells = (part_of part.old).cells ++ plain cell ∷ []; functions = (part_of part.old).functions }) }
     ensures err { OnErr result (part_of part.new ≡ part_of part.old) }
 {
+    own(alloc, part)?;
     match Arc::get_mut(part) {
         Some(part) => {
             part.cells.push(cell)?;
@@ -190,10 +184,11 @@ fn part_of_cells(alloc: Global, cells: Vec<Cell>) -> Result<Arc<Part>, OutOfMemo
     Ok(Arc::new(alloc, Part { cells, functions })?)
 }
 
-fn add_all_to(part: &mut Arc<Part>, cells: Vec<Cell>) -> Result<(), OutOfMemory>
+fn add_all_to(alloc: Global, part: &mut Arc<Part>, cells: Vec<Cell>) -> Result<(), OutOfMemory>
     ensures ok { OnOk result (part_of part.new ≡ record { cells = (part_of part.old).cells ++ map plain cells.items; functions = (part_of part.old).functions }) }
     ensures err { OnErr result (part_of part.new ≡ part_of part.old) }
 {
+    own(alloc, part)?;
     let mut more = cells;
     match Arc::get_mut(part) {
         Some(part) => {
@@ -214,10 +209,11 @@ fn part_of_function(alloc: Global, func: Function) -> Result<Arc<Part>, OutOfMem
     Ok(Arc::new(alloc, Part { cells, functions })?)
 }
 
-fn add_function_to(part: &mut Arc<Part>, func: Function) -> Result<(), OutOfMemory>
+fn add_function_to(alloc: Global, part: &mut Arc<Part>, func: Function) -> Result<(), OutOfMemory>
     ensures ok { OnOk result (part_of part.new ≡ record { cells = (part_of part.old).cells; functions = (part_of part.old).functions ++ function func ∷ [] }) }
     ensures err { OnErr result (part_of part.new ≡ part_of part.old) }
 {
+    own(alloc, part)?;
     match Arc::get_mut(part) {
         Some(part) => {
             part.functions.push(func)?;
@@ -225,6 +221,16 @@ fn add_function_to(part: &mut Arc<Part>, func: Function) -> Result<(), OutOfMemo
         }
         None => Err(OutOfMemory),
     }
+}
+
+/// Puts a copy in the place of a part that is shared, so that it can be changed.
+fn own(alloc: Global, part: &mut Arc<Part>) -> Result<(), OutOfMemory>
+    ensures { part_of part.new ≡ part_of part.old }
+{
+    if Arc::strong_count(part) > 1 {
+        *part = copy_of(alloc, part)?;
+    }
+    Ok(())
 }
 
 /// A part with the same cells and functions.
@@ -261,13 +267,19 @@ fn copy_function(func: &Function) -> Result<Function, OutOfMemory>
     })
 }
 
-fn change_in(part: &mut Arc<Part>, cell: usize, change: Change) -> Result<(), OutOfMemory>
+fn change_in(
+    alloc: Global,
+    part: &mut Arc<Part>,
+    cell: usize,
+    change: Change,
+) -> Result<(), OutOfMemory>
     requires inside { cell < length (part_of part.old).cells }
     requires fits { FitsCell change (cell_at (part_of part.old).cells cell) }
     requires sorted { IsInOrder (cell_at (part_of part.old).cells cell) }
     ensures ok { OnOk result (part_of part.new ≡ record { cells = with_cell (part_of part.old).cells cell (changed change.entry (cell_at (part_of part.old).cells cell)); functions = (part_of part.old).functions }) }
     ensures err { OnErr result (part_of part.new ≡ part_of part.old) }
 {
+    own(alloc, part)?;
     match Arc::get_mut(part) {
         Some(part) => change_cell(&mut part.cells[cell], change),
         None => Err(OutOfMemory),

@@ -78,13 +78,13 @@ impl Store {
         }
     }
 
-    /// An equal store. It shares the cells and functions that were there at the last freezing, and copies
-    /// the rest.
+    /// An equal store. The two share all cells and functions. Those that came after the last freezing are copied
+    /// when the first of the two stores changes.
     pub fn fork(&self) -> Result<Store, OutOfMemory>
         ensures { IfOk result (λ s. s ≡ self.now) }
     {
         let frozen = self.frozen.shared(self.alloc)?;
-        let live = self.live.copied(self.alloc)?;
+        let live = self.live.shared()?;
         Ok(Store {
             alloc: self.alloc,
             frozen,
@@ -259,7 +259,7 @@ impl Store {
             return Err(SetFault::Frozen { cell });
         }
         let at = cell as usize - self.frozen.len();
-        self.live.change(at, change)?;
+        self.live.change(self.alloc, at, change)?;
         Ok(())
     }
 }

@@ -1,9 +1,9 @@
-//! Forks of a large frozen part, a large dictionary, and a deep value.
-ghost use Rattle.std.specs.Prelude.{IfOk};
+//! Forks of large stores, cells that are met again, a large dictionary, and a deep value.
+ghost use Rattle.std.specs.Prelude.{◌<◌, IfOk, IfSome, length};
 ghost use Rattle.dsl_value.specs.Whole.{NamesAll};
 
 use dsl_syntax::Func;
-use dsl_value::{Store, TreeFault, Value};
+use dsl_value::{Store, TreeFault, Value, equal};
 use site_base::{OutOfMemory, Row, Text};
 use std::alloc::Global;
 use std::sync::Arc;
@@ -32,6 +32,58 @@ fn a_fork_costs_nothing_in_the_frozen_cells(rt: HostRuntime) -> Result<(), Fail>
         store.fork()?;
     }
     assert!(rt; start.elapsed(&rt)? < Duration::from_secs(FORK_LIMIT));
+    Ok(())
+}
+
+#[test]
+fn a_fork_costs_nothing_in_the_live_cells(rt: HostRuntime) -> Result<(), Fail> {
+    let mut store = Store::new(rt.alloc());
+    for _ in 0..100_000u32 {
+        store.array(Row::new(rt.alloc()))?;
+    }
+    let start = Instant::now(&rt)?;
+    for _ in 0..100_000u32 {
+        store.fork()?;
+    }
+    assert!(rt; start.elapsed(&rt)? < Duration::from_secs(FORK_LIMIT));
+    Ok(())
+}
+
+/// The cell so far before the end.
+fn cell_before_end(store: &Store, back: usize) -> Option<u32>
+    requires { 0 < back }
+    ensures { IfSome result (λ k. k < length store.now.cells) }
+{
+    let place = store.len().checked_sub(back)?;
+    u32::try_from(place).ok()
+}
+
+/// Adds an array that has the last cell but one twice.
+fn add_double(alloc: Global, store: &mut Store) -> Result<(), OutOfMemory> {
+    let Some(below) = cell_before_end(store, 2) else {
+        return Err(OutOfMemory);
+    };
+    let mut items = Row::new(alloc);
+    items.push(Value::Ref(below))?;
+    items.push(Value::Ref(below))?;
+    store.array(items)?;
+    Ok(())
+}
+
+/// Two towers of forty arrays, each of which has the one below it twice.
+#[test]
+fn cells_that_are_met_again_are_compared_once(rt: HostRuntime) -> Result<(), Fail> {
+    let mut store = Store::new(rt.alloc());
+    store.array(Row::new(rt.alloc()))?;
+    store.array(Row::new(rt.alloc()))?;
+    for _ in 0..80u32 {
+        add_double(rt.alloc(), &mut store)?;
+    }
+    let start = Instant::now(&rt)?;
+    if let (Some(left), Some(right)) = (cell_before_end(&store, 2), cell_before_end(&store, 1)) {
+        assert!(rt; equal(&Value::Ref(left), &Value::Ref(right), &store));
+    }
+    assert!(rt; start.elapsed(&rt)? < Duration::from_secs(LIMIT));
     Ok(())
 }
 
