@@ -14,14 +14,14 @@ second : (a b : Bool) → (a || b) ≡ false → b ≡ false
 second true b e = cc
 second false b e = e
 
-none : (same : Value → Value → Bool) (ws : List Value) (v : Value) → list_any (same v) ws ≡ false → EqualsNone same ws v
+none : (same : Value → Value → Bool) (ws : List Value) (v : Value) → list_any (λ w. same w v) ws ≡ false → EqualsNone same ws v
 none same [] v e = tt
 none same (w ∷ ws) v e = (first _ _ e, none same ws v (second _ _ e))
 
 pub differs : (same : Value → Value → Bool) (left right : List Value) → IsWithout same right left (without same right left)
 differs same [] right = ends
 differs same (v ∷ left) right =
-    elim (list_any (same v) right) as (λ b. list_any (same v) right ≡ b → IsWithout same right (v ∷ left) (cond (not b) (v ∷ without same right left) (without same right left))) [
-      | true ↦ λ e. goes (Any-from_list_any (same v) right e) (differs same left right)
+    elim (list_any (λ w. same w v) right) as (λ b. list_any (λ w. same w v) right ≡ b → IsWithout same right (v ∷ left) (cond (not b) (v ∷ without same right left) (without same right left))) [
+      | true ↦ λ e. goes (Any-from_list_any (λ w. same w v) right e) (differs same left right)
       | false ↦ λ e. stays (none same right v e) (differs same left right)
     ] refl

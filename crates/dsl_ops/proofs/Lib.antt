@@ -1,3 +1,4 @@
+pub mod Among
 pub mod Answering
 pub mod Differences
 pub mod Lists

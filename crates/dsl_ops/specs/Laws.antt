@@ -12,10 +12,10 @@ pub record IsMerged (left right pairs : Pairs) : Type 0 where
 
 -- a value equals some element of the list
 abbrev pub EqualsSome : (Value → Value → Bool) → List Value → Value → Type 0
-EqualsSome same ws v = Any (λ w. same v w ≡ true) ws
+EqualsSome same ws v = Any (λ w. same w v ≡ true) ws
 
 abbrev pub EqualsNone : (Value → Value → Bool) → List Value → Value → Type 0
-EqualsNone same ws v = AllByRecursion (λ w. same v w ≡ false) ws
+EqualsNone same ws v = AllByRecursion (λ w. same w v ≡ false) ws
 
 -- a list's elements without those that equal some element of another, in their order
 pub data IsWithout (same : Value → Value → Bool) (right : List Value) : List Value → List Value → Type 0 where

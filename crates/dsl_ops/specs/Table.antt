@@ -90,7 +90,7 @@ of_both f None = refuses WrongType
 
 -- the left elements that equal none of the right
 abbrev pub without : (Value → Value → Bool) → List Value → List Value → List Value
-without same right left = filter (λ v. not (list_any (same v) right)) left
+without same right left = filter (λ v. not (list_any (λ w. same w v) right)) left
 
 abbrev pub number_difference : PlainOperand → PlainOperand → Outcome
 number_difference a b = of_both (λ x y. or_overflow (difference_of x y)) (numbers a b)

@@ -114,8 +114,7 @@ fn change_of(cell: &Cell, key: &Value, new: Value) -> Result<Change<'static>, Me
     }
 }
 
-/// The place of an index in an array of so many elements. Where no place is so far off, an array that has it is want
-/// of memory.
+/// The place of an index in an array of so many elements. A place above 4,294,967,295 is want of memory.
 fn place_of(index: Num, count: usize) -> Result<u32, MemberFault>
     ensures place { MatchResult result (λ i. place_in count (whole_part index) ≡ Some i) (IsWrong (place_in count (whole_part index))) }
     ensures inside { IfOk result (λ i. i < count) }

@@ -12,6 +12,7 @@ use crate::OpFault;
 use crate::arithmetic::minus;
 use crate::made::made_number;
 use crate::operand::Operand;
+use crate::seen::seen_of;
 use dsl_value::{Made, Store, Value, equal};
 use site_base::{OutOfMemory, Row};
 use std::alloc::Global;
@@ -88,6 +89,7 @@ pub(crate) fn minus_or_without(
 }
 
 /// The left elements that equal none of the right.
+#[tactic(auto, using(crate::proofs::Among::seen_found, crate::proofs::Among::seen_cells))]
 fn left_without(
     alloc: Global,
     left: &[Value],
@@ -99,9 +101,10 @@ fn left_without(
     ensures items { IfOk result (λ r. r ≡ without (same_in store.now.cells) right.now left.now) }
     ensures stands { IfOk result (AllByRecursion (Names (length store.now.cells) (length store.now.functions))) }
 {
+    let seen = seen_of(alloc, right, store)?;
     let mut items = Row::new(alloc);
     for item in left {
-        if !contains(right, item, store) {
+        if !seen.contains(item, store) {
             items.push(item.clone()?)?;
         }
     }
