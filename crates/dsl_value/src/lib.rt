@@ -1,12 +1,11 @@
 //! The values of the configuration language, and the stores of cells that arrays and dictionaries lie in.
 //!
-//! In reading order: values (`value`), cells with what changes one (`cell`, `change`, `cells`, `pairs`), functions
-//! (`function`), cells and functions that stores share (`part`, `layer`, `frozen`), the store (`store`,
-//! `reading`, `writing`, `set_fault`), when values are equal (`equality`, `known`), trees that are put in (`loading`), and the trees
-//! of values (`walking`, with `frame`, `frames`, `nest`, `path`, `turn` and `tree_fault`), and what trees cost
-//! (`costs`). What operators and the library make for a store stands in
-//! `making` and `acting` (with `priced` and `refusal`),
-//! and laws of stores in `laws`.
+//! In reading order: values (`value`), cells with what changes one (`cell`, `change`, `cells`, `pairs`),
+//! functions (`function`), cells and functions that stores share (`part`, `layer`, `frozen`), the store (`store`,
+//! `reading`, `writing`, `set_fault`), when values are equal (`equality`, `known`), trees that are put in
+//! (`loading`), the trees of values (`walking`, with `frame`, `frames`, `nest`, `path`, `turn` and `tree_fault`),
+//! and what trees cost (`costs`). What operators and the library make for a store stands in `making` and
+//! `acting` (with `priced` and `refusal`), and laws of stores in `laws`.
 #![tactic(auto)]
 
 mod acting;
