@@ -1,0 +1,142 @@
+// Names.
+ghost use Rattle.std.specs.Prelude.{◌≡◌, ◌<◌, Some, None, length, IfOk, IfSome, IfNone};
+ghost use Rattle.dsl_value.specs.Contents.{cell_at};
+ghost use Rattle.dsl_value.specs.Pairs.{find};
+ghost use Rattle.eval_meaning.specs.Frames.{name_in, named, name_value as value_named};
+ghost use Rattle.eval_meaning.specs.Calls.{name_called, member_called, part_called};
+ghost use Rattle.eval_work.specs.Works.{state_of, Gives, IsNamedFault};
+ghost use Rattle.eval_work.specs.Kept.{Named, IsFit, CalleeNamed};
+
+use crate::{Stop, Work};
+use dsl_lib::LibraryCall;
+use dsl_value::{Cell, Store, Value};
+use eval_meaning::Callee;
+use site_base::{DiagKind, Place, Text, quote};
+use std::alloc::Global;
+
+/// The value of a name in a dictionary; another value has none.
+pub(crate) fn in_dict<'a>(store: &'a Store, value: &Value, name: &Text) -> Option<&'a Value>
+    requires { Named store.now value.now }
+    ensures found { IfSome result (λ v. (name_in store.now.cells name.now value.now ≡ Some v.now) × Named store.now v.now) }
+    ensures absent { IfNone result (name_in store.now.cells name.now value.now ≡ None) }
+{
+    match value {
+        Value::Ref(cell) => in_cell(store, *cell, name),
+        _ => None,
+    }
+}
+
+fn in_cell<'a>(store: &'a Store, cell: u32, name: &Text) -> Option<&'a Value>
+    requires { cell < length store.now.cells }
+    ensures found { IfSome result (λ v. (name_in store.now.cells name.now (Value.Ref cell) ≡ Some v.now) × Named store.now v.now) }
+    ensures absent { IfNone result (name_in store.now.cells name.now (Value.Ref cell) ≡ None) }
+{
+    match store.cell(cell) {
+        Cell::Dict(_) => store.get(cell, name.as_str()),
+        Cell::Array(_) => None,
+    }
+}
+
+/// A fault that names something.
+pub(crate) fn named_fault(alloc: Global, place: Place, kind: DiagKind, name: &Text) -> Stop
+    ensures { IsNamedFault result place kind name.now }
+{
+    match quote(alloc, name.as_str()) {
+        Ok(text) => Stop::Fault { place, kind, text },
+        Err(_) => Stop::Memory,
+    }
+}
+
+impl Work {
+    /// The value of a local.
+    pub fn local(&self, name: &Text) -> Option<&Value>
+        requires { IsFit self.now }
+        ensures found { IfSome result (λ v. find name.now self.now.locals ≡ Some v.now) }
+        ensures absent { IfNone result (find name.now self.now.locals ≡ None) }
+        ensures named { IfSome result (λ v. Named self.now.store v.now) }
+    {
+        self.locals.get(name.as_str())
+    }
+
+    /// Looks a name up.
+    #[tactic(auto, unfolding(eval_meaning::specs::Frames::named))]
+    pub fn look_up(&self, name: &Text) -> Option<&Value>
+        requires { IsFit self.now }
+        ensures found { IfSome result (λ v. (named name.now (state_of self.now) ≡ Some v.now) × Named self.now.store v.now) }
+        ensures absent { IfNone result (named name.now (state_of self.now) ≡ None) }
+    {
+        if let Some(value) = self.local(name) {
+            return Some(value);
+        }
+        if let Some(value) = in_dict(&self.store, &self.this, name) {
+            return Some(value);
+        }
+        in_cell(&self.store, 0, name)
+    }
+
+    /// The value of a name.
+    pub fn name_value(&self, place: Place, name: &Text) -> Result<Value, Stop>
+        requires { IsFit self.now }
+        ensures gives { Gives (λ v. v) result (state_of self.now) (value_named place name.now (state_of self.now)) }
+        ensures named { IfOk result (Named self.now.store) }
+    {
+        match self.look_up(name) {
+            Some(value) => Ok(value.clone()?),
+            None => Err(named_fault(self.alloc, place, DiagKind::Undefined, name)),
+        }
+    }
+
+    /// What a name that is called is.
+    pub fn called_name(&self, place: Place, name: &Text) -> Result<Callee, Stop>
+        requires { IsFit self.now }
+        ensures gives { Gives (λ c. c) result (state_of self.now) (name_called place name.now (named name.now (state_of self.now)) (state_of self.now)) }
+        ensures named { IfOk result (CalleeNamed self.now.store) }
+    {
+        match self.look_up(name) {
+            Some(value) => Ok(Callee::Value {
+                value: value.clone()?,
+                this: self.this.clone()?,
+            }),
+            None => match LibraryCall::function(name.as_str()) {
+                Some(call) => Ok(Callee::Function(call)),
+                None => Err(named_fault(self.alloc, place, DiagKind::Undefined, name)),
+            },
+        }
+    }
+
+    /// What a member that is called is.
+    pub fn called_member(&self, place: Place, value: Value, name: &Text) -> Result<Callee, Stop>
+        requires fit { IsFit self.now }
+        requires value { Named self.now.store value }
+        ensures gives { Gives (λ c. c) result (state_of self.now) (member_called place value name.now (name_in self.now.store.cells name.now value) (state_of self.now)) }
+        ensures named { IfOk result (CalleeNamed self.now.store) }
+    {
+        if let Some(own) = in_dict(&self.store, &value, name) {
+            return Ok(Callee::Value {
+                value: own.clone()?,
+                this: value,
+            });
+        }
+        match LibraryCall::method(&value, name.as_str(), &self.store) {
+            Some(call) => Ok(Callee::Method(call, value)),
+            None => {
+                let key = Value::Str(name.clone()?);
+                self.called_part(place, value, &key)
+            }
+        }
+    }
+
+    /// What is called at an index.
+    pub fn called_part(&self, place: Place, value: Value, key: &Value) -> Result<Callee, Stop>
+        requires fit { IsFit self.now }
+        requires value { Named self.now.store value }
+        ensures gives { Gives (λ c. c) result (state_of self.now) (part_called place value key.now (state_of self.now)) }
+        ensures named { IfOk result (CalleeNamed self.now.store) }
+    {
+        let found = self.part(place, &value, key)?;
+        Ok(Callee::Value {
+            value: found,
+            this: value,
+        })
+    }
+}

@@ -1,0 +1,134 @@
+// Reads of committed objects.
+ghost use Rattle.std.specs.Prelude.{◌≡◌, IfOk, IfErr, IfSome, IfNone, Some, None, [], ◌∷◌, ◌++◌, List, ℕ, codes, map};
+ghost use Rattle.site_base.specs.View.{view as tree_view};
+ghost use Rattle.eval_meaning.specs.Views.{object_in, is_absent as absent_of};
+ghost use Rattle.eval_meaning.specs.Objects.{read_host as host_read, read_service as service_read, read as read_of, loaded as tree_loaded};
+ghost use Rattle.eval_meaning.specs.Views.{host, service};
+ghost use Rattle.eval_work.specs.Works.{state_of, view_of, shown_object, Gives};
+ghost use Rattle.eval_work.specs.Kept.{IsFit, IsKept};
+
+use crate::work::fault;
+use crate::{Stop, Work, WorldView};
+use dsl_value::{Value, tree_cost};
+use eval_meaning::Read;
+use site_base::{DiagKind, OutOfMemory, Place, Text, Tree};
+use site_model::Object;
+use std::alloc::Global;
+
+/// The first object of a type and a full name.
+fn find<'a>(objects: &'a [Object], read: &Read) -> Option<&'a Tree>
+    ensures found { IfSome result (λ t. object_in read.now (map shown_object objects.now) ≡ Some (tree_view t.now)) }
+    ensures absent { IfNone result (object_in read.now (map shown_object objects.now) ≡ None) }
+{
+    for object in objects {
+        if read.kind == object.kind && read.name == object.name {
+            return Some(&object.tree);
+        }
+    }
+    None
+}
+
+/// Whether there is no object where none is shown.
+fn is_absent(view: &WorldView, read: &Read) -> bool
+    ensures { result ≡ absent_of (view_of view.now) read.now }
+{
+    view.known.absent.iter().any(|absent| read.kind == absent.kind && read.name == absent.name)
+        || view.known.whole.iter().any(|kind| read.kind == *kind)
+}
+
+impl Work {
+    /// `get_host(name)`
+    pub fn read_host(
+        &mut self,
+        view: &WorldView,
+        place: Place,
+        args: &[Value],
+    ) -> Result<Value, Stop>
+        requires { IsFit self.old }
+        ensures gives { Gives (λ v. v) result (state_of self.new) (host_read (view_of view.now) place args.now (state_of self.old)) }
+        ensures kept { IfOk result (IsKept self.old self.new) }
+    {
+        match args {
+            [Value::Str(name)] => {
+                let read = read_of_host(self.alloc, name)?;
+                self.read(view, place, read)
+            }
+            [_] => Err(fault(self.alloc, place, DiagKind::WrongType)),
+            _ => Err(fault(self.alloc, place, DiagKind::Arity)),
+        }
+    }
+
+    /// `get_service(host, name)`
+    pub fn read_service(
+        &mut self,
+        view: &WorldView,
+        place: Place,
+        args: &[Value],
+    ) -> Result<Value, Stop>
+        requires { IsFit self.old }
+        ensures gives { Gives (λ v. v) result (state_of self.new) (service_read (view_of view.now) place args.now (state_of self.old)) }
+        ensures kept { IfOk result (IsKept self.old self.new) }
+    {
+        match args {
+            [Value::Str(host), Value::Str(name)] => {
+                let read = read_of_service(self.alloc, host, name)?;
+                self.read(view, place, read)
+            }
+            [_, _] => Err(fault(self.alloc, place, DiagKind::WrongType)),
+            _ => Err(fault(self.alloc, place, DiagKind::Arity)),
+        }
+    }
+
+    /// Reads an object.
+    fn read(&mut self, view: &WorldView, place: Place, read: Read) -> Result<Value, Stop>
+        requires { IsFit self.old }
+        ensures gives { Gives (λ v. v) result (state_of self.new) (read_of (view_of view.now) place read (state_of self.old)) }
+        ensures kept { IfOk result (IsKept self.old self.new) }
+    {
+        match find(view.objects, &read) {
+            Some(tree) => {
+                self.reads.push(read)?;
+                self.load(place, tree)
+            }
+            None => {
+                if !is_absent(view, &read) {
+                    return Err(Stop::Blocked(read));
+                }
+                self.reads.push(read)?;
+                Ok(Value::Null)
+            }
+        }
+    }
+
+    /// Makes a tree, which is charged before.
+    pub fn load(&mut self, place: Place, tree: &Tree) -> Result<Value, Stop>
+        requires { IsFit self.old }
+        ensures gives { Gives (λ v. v) result (state_of self.new) (tree_loaded place (tree_view tree.now) (state_of self.old)) }
+        ensures kept { IfOk result (IsKept self.old self.new) }
+    {
+        let units = tree_cost(self.alloc, tree)?;
+        self.charge(place, units)?;
+        Ok(self.store.load_tree(tree)?)
+    }
+}
+
+fn read_of_host(alloc: Global, name: &Text) -> Result<Read, OutOfMemory>
+    ensures { IfOk result (λ r. r ≡ host name.now) }
+{
+    Ok(Read {
+        kind: Text::copy_of(alloc, "Host")?,
+        name: name.clone()?,
+    })
+}
+
+fn read_of_service(alloc: Global, host: &Text, name: &Text) -> Result<Read, OutOfMemory>
+    ensures { IfOk result (λ r. r ≡ service host.now name.now) }
+{
+    let mut full = host.clone()?;
+    full.push('!')?;
+    full.push_str(name.as_str())?;
+    Ok(Read {
+        kind: Text::copy_of(alloc, "Service")?,
+        name: full,
+    })
+}
