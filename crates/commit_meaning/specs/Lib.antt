@@ -1,0 +1,12 @@
+pub mod Answers
+pub mod Starts
+pub mod Names
+pub mod Items
+pub mod Conditions
+pub mod Rules
+pub mod Groups
+pub mod Worlds
+pub mod Orders
+pub mod Waves
+pub mod Commits
+pub mod CommittedOrder
