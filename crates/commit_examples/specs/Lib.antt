@@ -1,0 +1,6 @@
+pub mod Parts
+pub mod Objects
+pub mod Rules
+pub mod Groups
+pub mod Items
+pub mod Sites
