@@ -4,3 +4,6 @@ pub mod ItemTypes
 pub mod Ordered
 pub mod Deciding
 pub mod OneOrder
+pub mod ViewOutcomes
+pub mod ViewRule
+pub mod ViewAnswers

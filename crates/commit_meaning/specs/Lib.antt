@@ -10,3 +10,4 @@ pub mod Orders
 pub mod Waves
 pub mod Commits
 pub mod CommittedOrder
+pub mod Staying
