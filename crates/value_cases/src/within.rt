@@ -1,5 +1,6 @@
 // Calls with so many units left.
-ghost use Rattle.std.specs.Prelude.{length};
+ghost use Rattle.std.specs.Prelude.{◌≤◌, length};
+ghost use Rattle.std.specs.List.{AllByRecursion};
 ghost use Rattle.dsl_value.specs.Whole.{Names};
 
 use crate::calls::push_member_fault;
@@ -50,30 +51,7 @@ pub(crate) fn push_within(
     let args = arguments(alloc, &store, cell, &functions)?;
     let mut before = Text::new(alloc);
     push_value(&mut before, &store, &Value::Ref(cell))?;
-    match (called, args.as_slice()) {
-        (Called::Operator(op), [left, right]) => {
-            match binary_within(alloc, op, left, right, units, &mut store) {
-                Ok(priced) => push_priced(out, &store, &priced)?,
-                Err(Refusal::Fault(fault)) => push_op_fault(out, fault)?,
-                Err(Refusal::SpaceLimit) => out.push_str("SpaceLimit")?,
-            }
-        }
-        (Called::Library(name), args) => {
-            match call_within(alloc, name, args, units, &mut store) {
-                Ok(priced) => push_priced(out, &store, &priced)?,
-                Err(Refusal::Fault(fault)) => push_lib_fault(out, fault)?,
-                Err(Refusal::SpaceLimit) => out.push_str("SpaceLimit")?,
-            }
-        }
-        (Called::Setting, [value, key, new]) => {
-            match set_member(value, key, new.clone()?, units, &mut store) {
-                Ok(priced) => push_priced(out, &store, &priced)?,
-                Err(Refusal::Fault(fault)) => push_member_fault(out, fault)?,
-                Err(Refusal::SpaceLimit) => out.push_str("SpaceLimit")?,
-            }
-        }
-        _ => out.push_str("no such row")?,
-    }
+    push_called(alloc, out, called, args.as_slice(), units, &mut store)?;
     let mut after = Text::new(alloc);
     push_value(&mut after, &store, &Value::Ref(cell))?;
     if before != after {
@@ -81,6 +59,91 @@ pub(crate) fn push_within(
         out.push_str(after.as_str())?;
     }
     Ok(())
+}
+
+/// Adds what a call gives and costs.
+fn push_called(
+    alloc: Global,
+    out: &mut Text,
+    called: Called,
+    args: &[Value],
+    units: u64,
+    store: &mut Store,
+) -> Result<(), OutOfMemory>
+    requires { AllByRecursion (Names (length store.old.cells) (length store.old.functions)) args.now }
+    ensures { length store.old.cells ≤ length store.new.cells }
+{
+    match (called, args) {
+        (Called::Operator(op), [left, right]) => push_operator(
+            alloc, out, op, left, right, units, store,
+        ),
+        (Called::Library(name), args) => push_call(alloc, out, name, args, units, store),
+        (Called::Setting, [value, key, new]) => push_setting(out, value, key, new, units, store),
+        _ => out.push_str("no such row"),
+    }
+}
+
+fn push_operator(
+    alloc: Global,
+    out: &mut Text,
+    op: BinOp,
+    left: &Value,
+    right: &Value,
+    units: u64,
+    store: &mut Store,
+) -> Result<(), OutOfMemory>
+    requires left { Names (length store.old.cells) (length store.old.functions) left.now }
+    requires right { Names (length store.old.cells) (length store.old.functions) right.now }
+    ensures { length store.old.cells ≤ length store.new.cells }
+{
+    match binary_within(alloc, op, left, right, units, store) {
+        Ok(priced) => push_priced(out, store, &priced),
+        Err(Refusal::Fault(fault)) => push_op_fault(out, fault),
+        Err(Refusal::SpaceLimit) => out.push_str("SpaceLimit"),
+    }
+}
+
+fn push_call(
+    alloc: Global,
+    out: &mut Text,
+    name: Plain,
+    args: &[Value],
+    units: u64,
+    store: &mut Store,
+) -> Result<(), OutOfMemory>
+    requires { AllByRecursion (Names (length store.old.cells) (length store.old.functions)) args.now }
+    ensures { length store.old.cells ≤ length store.new.cells }
+{
+    match call_within(alloc, name, args, units, store) {
+        Ok(priced) => push_priced(out, store, &priced),
+        Err(Refusal::Fault(fault)) => push_lib_fault(out, fault),
+        Err(Refusal::SpaceLimit) => out.push_str("SpaceLimit"),
+    }
+}
+
+fn push_setting(
+    out: &mut Text,
+    value: &Value,
+    key: &Value,
+    new: &Value,
+    units: u64,
+    store: &mut Store,
+) -> Result<(), OutOfMemory>
+    requires value { Names (length store.old.cells) (length store.old.functions) value.now }
+    requires new { Names (length store.old.cells) (length store.old.functions) new.now }
+    ensures { length store.old.cells ≤ length store.new.cells }
+{
+    match set_member(value, key, new.clone()?, units, store) {
+        Ok(priced) => push_done(out, priced.units),
+        Err(Refusal::Fault(fault)) => push_member_fault(out, fault),
+        Err(Refusal::SpaceLimit) => out.push_str("SpaceLimit"),
+    }
+}
+
+/// Adds null, and what it cost.
+fn push_done(out: &mut Text, units: u64) -> Result<(), OutOfMemory> {
+    out.push_str("null for ")?;
+    out.push_decimal(units)
 }
 
 fn push_priced(out: &mut Text, store: &Store, priced: &Priced) -> Result<(), OutOfMemory>
