@@ -1,14 +1,14 @@
 -- What entries do to downtimes.
-use Rattle.std.proofs.Common.{◌≡◌, ℕ, zero, suc, ◌+◌, ◌≤◌, ◌==◌, ◌&&◌, ◌||◌, Bool, true, false, not, cond, nat_lt, List, [], ◌∷◌, ◌++◌, length, map, filter, Option, Some, None, refl, sym, ap, ◌∙◌, arith, subst, append_assoc, append-nil, IsPermutation}
+use Rattle.std.proofs.Common.{◌≡◌, ℕ, ◌+◌, ◌≤◌, ◌==◌, ◌&&◌, ◌||◌, Bool, true, false, not, cond, List, [], ◌∷◌, ◌++◌, length, map, filter, Some, None, refl, sym, ap, ◌∙◌, arith, subst, append_assoc, append-nil, IsPermutation}
 use Rattle.std.specs.List.{list_any}
-use Rattle.downtime_book.specs.Calls.{Call, added, resulted, cancelled, downtimes, is_live_in, latest}
+use Rattle.downtime_book.specs.Calls.{Call, resulted, cancelled, downtimes, is_live_in, latest}
 use Rattle.downtime_book.specs.Contents.{Contents, StandsFor, live_downtimes}
 use Rattle.downtime_book.specs.Downtime.{after_result, is_live}
 use Rattle.downtime_book.specs.Naming.{named}
 use Rattle.downtime_book.specs.declared.downtime.Downtime.{Downtime}
 use Rattle.downtime_book.proofs.LookBack.{downtimes-cancelled, downtimes-resulted, latest-cancelled, latest-resulted}
 use Rattle.run_meaning.specs.Downtimes.{call_in, calls_from, in_effect}
-use Rattle.run_meaning.specs.View.{is_problem, state_by, status_in}
+use Rattle.run_meaning.specs.View.{status_in}
 use Rattle.site_model.specs.PlainSite.{PlainCheck}
 use Rattle.site_model.specs.declared.entry.Entry.{Entry}
 use Rattle.site_model.specs.declared.event.Event.{Event}

@@ -1,18 +1,15 @@
 -- What is kept of entries.
-use Rattle.std.proofs.Common.{◌≡◌, ℕ, ◌+◌, ◌<◌, ◌≤◌, Bool, List, [], ◌∷◌, ◌++◌, length, map, reverse, Option, Some, refl, sym, ap, ◌∙◌, arith, subst}
+use Rattle.std.proofs.Common.{◌≡◌, ℕ, ◌+◌, ◌≤◌, List, [], ◌∷◌, ◌++◌, length, reverse, Option, sym, ap, ◌∙◌, arith, subst}
 use Rattle.check_state.specs.Stands as shown
-use Rattle.downtime_book.specs.Calls.{Call}
 use Rattle.downtime_book.specs.Contents as book
 use Rattle.notify_rules.specs.Sent as sent
 use Rattle.run_meaning.specs.Dealing.{last_moment}
 use Rattle.run_meaning.specs.Downtimes.{call_in, calls_from}
-use Rattle.run_meaning.specs.View.{is_problem, last_status, or_before, state_after, state_by, state_of, status_in, view_back, view_of}
+use Rattle.run_meaning.specs.View.{is_problem, last_status, or_before, state_after, view_back, view_of}
 use Rattle.site_model.specs.PlainSite.{PlainCheck, PlainSite}
 use Rattle.site_model.specs.declared.entry.Entry.{Entry}
-use Rattle.site_model.specs.declared.event.Event.{Event}
 use Rattle.site_model.specs.declared.view.View.{View}
-use Rattle.checkable_core.specs.Contents.{check_at, check_or}
-use Rattle.checkable_core.specs.Keeping.{IsKept, IsProblemOf, Keeps}
+use Rattle.checkable_core.specs.Keeping.{IsProblemOf, Keeps}
 use Rattle.checkable_core.specs.declared.running.Running.{Running}
 use Rattle.checkable_core.proofs.Calls.{calls_more}
 use Rattle.checkable_core.proofs.Listed.{back_of, count_more, follows, last_more}

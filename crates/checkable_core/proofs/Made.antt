@@ -1,5 +1,5 @@
 -- The entry that is made.
-use Rattle.std.proofs.Common.{◌≡◌, ℕ, ◌+◌, Bool, List, [], ◌∷◌, ◌++◌, length, map, Option, refl, sym, ap, ◌∙◌, arith, subst}
+use Rattle.std.proofs.Common.{◌≡◌, ℕ, ◌+◌, Bool, List, [], ◌∷◌, ◌++◌, length, map, Option, refl, ap, ◌∙◌, arith}
 use Rattle.jiff_tz.specs.declared.tzif.Tzif.{Tzif}
 use Rattle.depend_graph.specs.Outlooks.{holds_in, seen_as}
 use Rattle.run_meaning.specs.Acts.{Act, draft_of, noted, showing}
@@ -7,7 +7,7 @@ use Rattle.run_meaning.specs.Decisions.{decisions_of}
 use Rattle.run_meaning.specs.Downtimes.{is_live}
 use Rattle.run_meaning.specs.Turns.{Command, Feed}
 use Rattle.run_meaning.specs.View.{view_of}
-use Rattle.site_model.specs.PlainSite.{PlainCheck, PlainSite}
+use Rattle.site_model.specs.PlainSite.{PlainSite}
 use Rattle.site_model.specs.declared.decision.Decision.{Decision}
 use Rattle.site_model.specs.declared.entry.Entry.{Entry}
 use Rattle.site_model.specs.declared.event.Event.{Event}

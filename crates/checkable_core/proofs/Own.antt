@@ -1,16 +1,15 @@
 -- What is decided names what is the site's.
-use Rattle.std.proofs.Common.{◌≡◌, ℕ, zero, suc, ◌+◌, ◌<◌, ◌≤◌, ◌&&◌, nat_eq, not, Bool, true, false, cond, List, [], ◌∷◌, ◌++◌, All, length, map, filter, slice_get, Option, Some, None, refl, sym, ap, ◌∙◌, arith, subst}
+use Rattle.std.proofs.Common.{◌≡◌, ℕ, zero, suc, ◌+◌, ◌<◌, ◌≤◌, ◌&&◌, nat_eq, not, Bool, true, false, cond, List, [], ◌∷◌, ◌++◌, All, length, map, filter, slice_get, Option, Some, None, refl, sym, arith, subst}
 use Rattle.std.specs.Option.{IsSomeAnd}
 use Rattle.std.proofs.lemmas.List.Elements.{All-append, All-cons, All-filter, All-head, All-nil, All-tail, All-weaker}
 use Rattle.run_meaning.specs.Acts.{Seen}
 use Rattle.run_meaning.specs.Decisions.{Case, decided_from, decisions_of, downtime_so, first_or, held_so, is_early, is_for_problem, is_late, is_repeat, kinds_of, outcome_of, receivers, receives, sent_to, takes_kind, takes_state, tells_state, where_so}
 use Rattle.run_meaning.specs.Downtimes.{in_effect}
-use Rattle.run_meaning.specs.Reachability.{Outlook, Purpose, Reach, ancestors, depend_or, first_back, for_checks, for_notes, held_by_depend, held_by_host, holds_back, host_back, host_in, is_above, is_hard_down, is_held, period_holds, reach_in, reach_of, reachable, view_among}
+use Rattle.run_meaning.specs.Reachability.{Outlook, Purpose, Reach, ancestors, depend_or, first_back, for_checks, for_notes, held_by_depend, held_by_host, holds_back, host_back, host_in, is_above, is_held, period_holds, reach_in, reach_of, reachable}
 use Rattle.run_meaning.specs.Turns.{from_on}
 use Rattle.run_meaning.specs.View.{is_on, view_of}
 use Rattle.site_model.specs.PlainSite.{PlainCheck, PlainSite}
 use Rattle.site_model.specs.Sound.{AreHostsThenServices, IsIndex, IsSound, TellsUsers}
-use Rattle.site_model.specs.declared.decision.Decision.{Decision}
 use Rattle.site_model.specs.declared.depend_spec.DependSpec.{DependSpec}
 use Rattle.site_model.specs.declared.entry.Entry.{Entry}
 use Rattle.site_model.specs.declared.note_kind.NoteKind.{NoteKind}

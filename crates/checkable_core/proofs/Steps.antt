@@ -1,5 +1,5 @@
 -- What events have an effect, and what is told of them.
-use Rattle.std.proofs.Common.{◌≡◌, ℕ, List, Bool, refl, sym, ap}
+use Rattle.std.proofs.Common.{◌≡◌, ℕ, List, Bool, refl, ap}
 use Rattle.run_meaning.specs.Acts.{is_taken}
 use Rattle.run_meaning.specs.Downtimes.{is_live}
 use Rattle.run_meaning.specs.View.{has_effect, view_of}

@@ -1,11 +1,11 @@
 -- The entry that an event makes.
-use Rattle.std.specs.Prelude.{ℕ, List, [], map}
+use Rattle.std.specs.Prelude.{ℕ, List, map}
 use Rattle.jiff_tz.specs.declared.tzif.Tzif.{Tzif}
 use Rattle.std.specs.Prelude.{Option}
 use Rattle.depend_graph.specs.Outlooks.{holds_in, seen_as}
-use Rattle.run_meaning.specs.Acts.{Act, entry_of}
+use Rattle.run_meaning.specs.Acts.{entry_of}
 use Rattle.run_meaning.specs.Meaning.{basis_of}
-use Rattle.run_meaning.specs.Turns.{Command, Feed, words}
+use Rattle.run_meaning.specs.Turns.{Command, Feed}
 use Rattle.site_model.specs.PlainSite.{PlainSite}
 use Rattle.site_model.specs.declared.entry.Entry.{Entry}
 use Rattle.site_model.specs.declared.event.Event.{Event}

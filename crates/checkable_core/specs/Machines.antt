@@ -1,10 +1,10 @@
 -- A checkable as the machine of a turn lock.
-use Rattle.std.specs.Prelude.{◌≡◌, ℕ, ◌≤◌, List, [], map}
+use Rattle.std.specs.Prelude.{◌≡◌, ℕ, ◌≤◌, [], map}
 use Rattle.depend_graph.specs.Graph.{IsGraphOf}
 use Rattle.run_meaning.specs.Dealing.{last_moment}
 use Rattle.run_meaning.specs.Reachability.{ancestors}
 use Rattle.run_meaning.specs.Turns.{words}
-use Rattle.site_model.specs.PlainSite.{PlainSite, site_view}
+use Rattle.site_model.specs.PlainSite.{site_view}
 use Rattle.site_model.specs.declared.entry.Entry.{Entry}
 use Rattle.site_model.specs.declared.view.View.{View}
 use Rattle.checkable_core.specs.Contents.{Contents}

@@ -1,6 +1,6 @@
 // What is decided on the notifications of a checkable at an entry.
 ghost use Rattle.std.specs.Prelude.{◌≡◌, ◌<◌, ◌≤◌, List, IfOk, length, map};
-ghost use Rattle.site_model.specs.PlainSite.{PlainCheck, site_view};
+ghost use Rattle.site_model.specs.PlainSite.{site_view};
 ghost use Rattle.site_model.specs.declared.entry.Entry.{Entry};
 ghost use Rattle.run_meaning.specs.Decisions.{decisions_of};
 ghost use Rattle.run_meaning.specs.Reachability.{ancestors};

@@ -1,5 +1,5 @@
 // What the entries that are made keep.
-ghost use Rattle.std.specs.Prelude.{◌≡◌, ◌<◌, ◌≤◌, ◌++◌, ◌∷◌, [], ℕ, List, Option, length, map};
+ghost use Rattle.std.specs.Prelude.{◌≡◌, ◌≤◌, ◌++◌, ◌∷◌, [], ℕ, List, Option, map};
 ghost use Rattle.jiff_tz.specs.declared.tzif.Tzif.{Tzif};
 ghost use Rattle.site_model.specs.PlainSite.{PlainSite};
 ghost use Rattle.site_model.specs.Sound.{IsSound};

@@ -5,7 +5,6 @@ ghost use Rattle.site_model.specs.declared.entry.Entry.{Entry};
 ghost use Rattle.run_meaning.specs.Dealing.{last_moment};
 ghost use Rattle.check_state.specs.Stands.{StandsFor};
 ghost use Rattle.notify_rules.specs.Sent.{TellOnce};
-ghost use Rattle.checkable_core.specs.Contents.{check_at};
 ghost use Rattle.checkable_core.specs.Histories.{Rises};
 ghost use Rattle.checkable_core.specs.Keeping.{Keeps, IsKept};
 

@@ -1,5 +1,5 @@
 -- What is asked is what the entry gives.
-use Rattle.std.proofs.Common.{◌≡◌, ◌∷◌, ◌++◌, [], ℕ, Bool, Option, map, sym, ap, ◌∙◌, subst}
+use Rattle.std.proofs.Common.{◌∷◌, ◌++◌, [], Bool, map, sym, ap, ◌∙◌, subst}
 use Rattle.depend_graph.specs.Outlooks.{holds_in, seen_as}
 use Rattle.run_meaning.specs.Downtimes.{in_effect}
 use Rattle.run_meaning.specs.Reachability.{for_notes, reach_of}

@@ -1,5 +1,5 @@
 -- The call of each event.
-use Rattle.std.proofs.Common.{◌≡◌, ◌++◌, ◌∷◌, [], Bool, List, cond, sym, ap, ◌∙◌, subst, append-nil}
+use Rattle.std.proofs.Common.{◌≡◌, ◌++◌, ◌∷◌, [], List, cond, sym, ap, ◌∙◌, subst, append-nil}
 use Rattle.downtime_book.specs.Calls.{Call, cancelled}
 use Rattle.downtime_book.specs.Contents.{StandsFor}
 use Rattle.run_meaning.specs.Downtimes.{call_in}

@@ -1,6 +1,6 @@
 -- Where none is live, only the latest moment moves.
-use Rattle.std.proofs.Common.{◌≡◌, ◌≤◌, ◌∷◌, ◌++◌, [], ℕ, false, subst, sym, ap, ◌∙◌, arith}
-use Rattle.downtime_book.specs.Calls.{latest, resulted}
+use Rattle.std.proofs.Common.{◌≡◌, ◌≤◌, subst, sym, arith}
+use Rattle.downtime_book.specs.Calls.{latest}
 use Rattle.downtime_book.specs.Contents.{Contents, StandsFor}
 use Rattle.checkable_core.proofs.Calls.{taken_away}
 use Rattle.checkable_core.proofs.downtimes.take_away.Goals as goal

@@ -1,5 +1,5 @@
 -- The next entry decides with the rest, or alone that they are none.
-use Rattle.std.proofs.Common.{◌≡◌, ◌+◌, ◌∷◌, ◌==◌, nat_le, [], List, drop, sym, ap, ◌∙◌, subst}
+use Rattle.std.proofs.Common.{◌≡◌, ◌+◌, ◌∷◌, ◌==◌, nat_le, [], drop, sym, ap, ◌∙◌, subst}
 use Rattle.std.specs.Option.{IfSome}
 use Rattle.site_model.specs.PlainSite.{site_view}
 use Rattle.site_model.specs.declared.entry.Entry.{Entry}

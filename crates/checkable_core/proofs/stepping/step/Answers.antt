@@ -1,5 +1,5 @@
 -- What a step makes of a status stands for the entry.
-use Rattle.std.proofs.Common.{◌∙◌, refl, sym, ap, subst}
+use Rattle.std.proofs.Common.{◌∙◌, sym, ap, subst}
 use Rattle.check_state.specs.Stands.{IsTakenAs}
 use Rattle.run_meaning.specs.Acts.{is_taken}
 use Rattle.run_meaning.specs.Downtimes.{calls_from, is_live}

@@ -1,10 +1,10 @@
 -- A deed is applied to the machine's checkable.
-use Rattle.std.proofs.Common.{◌≡◌, ◌≤◌, ◌++◌, ◌∷◌, [], ℕ, sym, ap, ◌∙◌, arith, subst}
+use Rattle.std.proofs.Common.{◌≡◌, ◌++◌, ◌∷◌, [], ℕ, sym, ap, ◌∙◌, arith, subst}
 use Rattle.run_meaning.specs.Dealing.{last_moment}
 use Rattle.run_meaning.specs.Turns.{words}
 use Rattle.site_model.specs.PlainSite.{site_view}
 use Rattle.site_model.specs.declared.entry.Entry.{Entry}
-use Rattle.checkable_core.specs.Contents.{Contents, with_entry}
+use Rattle.checkable_core.specs.Contents.{with_entry}
 use Rattle.checkable_core.specs.Entries.{entry_made}
 use Rattle.checkable_core.specs.Machines.{IsFit, entry_by}
 use Rattle.checkable_core.proofs.Listed.{last_more}

@@ -1,5 +1,5 @@
 -- The next entry is kept, as the checkable of the site shows it.
-use Rattle.std.proofs.Common.{◌≡◌, ◌≤◌, ◌+◌, ◌∷◌, ◌++◌, [], List, get_or, take, drop, sym, ap, ◌∙◌, arith, subst}
+use Rattle.std.proofs.Common.{◌≡◌, ◌+◌, ◌∷◌, ◌++◌, [], List, get_or, take, drop, sym, ap, ◌∙◌, arith, subst}
 use Rattle.run_meaning.specs.Dealing.{last_moment}
 use Rattle.site_model.specs.PlainSite.{check_view, site_view}
 use Rattle.site_model.specs.declared.check_spec.CheckSpec.{CheckSpec}

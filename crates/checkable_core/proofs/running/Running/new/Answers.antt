@@ -1,5 +1,5 @@
 -- Nothing is kept of no entries.
-use Rattle.std.proofs.Common.{◌≡◌, ◌<◌, ◌≤◌, List, [], length, get_or, map, slice_get, Some, sym, ap, ◌∙◌, arith, subst}
+use Rattle.std.proofs.Common.{◌≡◌, ◌<◌, List, [], length, get_or, ap, ◌∙◌, arith, subst}
 use Rattle.check_state.specs.Stands.{StandsFor}
 use Rattle.site_model.specs.PlainSite.{PlainCheck, check_view, site_view}
 use Rattle.site_model.specs.declared.check_spec.CheckSpec.{CheckSpec}
