@@ -1,5 +1,5 @@
 -- What lies behind a shared pointer, as plain values.
-use Rattle.std.specs.Prelude.{◌≡◌, ℕ, List, [], ◌∷◌, ◌++◌, length, map, Option, Some, None}
+use Rattle.std.specs.Prelude.{◌≡◌, ℕ, List, [], ◌∷◌, ◌++◌, length, map, Option, Some, None, Vec}
 use Rattle.std.specs.Arc.{arc_value}
 use Rattle.std.specs.Global.{Global}
 use Rattle.std.specs.declared.sync.Arc.{Arc}
@@ -21,6 +21,11 @@ beside a b = record { cells = a.cells ++ b.cells; functions = a.functions ++ b.f
 abbrev pub all_of : List Contained → Contained
 all_of [] = record { cells = []; functions = [] }
 all_of (l ∷ ls) = beside l (all_of ls)
+
+-- the layers behind a shared pointer
+abbrev pub layers_of : Option (Arc (Vec Contained Global) Global) → List Contained
+layers_of None = []
+layers_of (Some a) = (arc_value a).items
 
 -- how many cells and functions these are
 pub record AreCounted (ls : List Contained) (cells functions : ℕ) : Type 0 where

@@ -1,26 +1,28 @@
 // Cells and functions that were frozen.
-ghost use Rattle.std.specs.Prelude.{◌≡◌, ◌+◌, ◌<◌, ◌^◌, [], IfOk, IfErr, OnOk, OnErr, length, slice_get, Some};
+ghost use Rattle.std.specs.Prelude.{◌≡◌, ◌+◌, ◌<◌, ◌^◌, ◌++◌, [], ◌∷◌, IfOk, IfErr, OnOk, OnErr, length, slice_get, Some};
+ghost use Rattle.std.specs.Arc.{arc_value};
 ghost use Rattle.dsl_value.specs.Contents.{Contained, plain, function, cell_at};
-ghost use Rattle.dsl_value.specs.Parts.{beside, all_of};
+ghost use Rattle.dsl_value.specs.Parts.{beside, all_of, layers_of};
 
 use crate::layer::Layer;
 use crate::{Cell, Function};
 use site_base::OutOfMemory;
 use std::alloc::Global;
 use std::marker::Model;
+use std::sync::Arc;
 
 /// Cells and functions that were frozen, a layer for each freezing, the earlier ones first. Stores that
-/// were forked share them.
+/// were forked share them, behind one pointer. It takes no memory before something is in it.
 #[derive(Drop)]
 pub(crate) struct Frozen {
-    layers: Vec<Layer>,
+    layers: Option<Arc<Vec<Layer>>>,
     cells: usize,
     functions: usize,
 }
 
 impl Model for Frozen {
     ghost use Rattle.dsl_value.specs.Contents.{Contained};
-    ghost use Rattle.dsl_value.specs.Parts.{all_of, AreCounted};
+    ghost use Rattle.dsl_value.specs.Parts.{all_of, layers_of, AreCounted};
     ghost use Rattle.dsl_syntax.specs.contracts.func.Func as func;
     ghost use Rattle.std.specs.Coded.{codes};
 
@@ -28,28 +30,44 @@ impl Model for Frozen {
 
     ghost coded = { Prim.hlevel (codes, func.the_row.coded) };
 
-    ghost view = { λ f. all_of f.layers.items };
+    ghost view = { λ f. all_of (layers_of f.layers) };
 
-    ghost invariant = { λ f. AreCounted f.layers.items f.cells f.functions };
+    ghost invariant = { λ f. AreCounted (layers_of f.layers) f.cells f.functions };
 }
 
 impl Frozen {
-    pub(crate) fn new(alloc: Global) -> Frozen
+    pub(crate) fn new() -> Frozen
         ensures { result ≡ record { cells = []; functions = [] } }
     {
         Frozen {
-            layers: Vec::new(alloc),
+            layers: None,
             cells: 0,
             functions: 0,
         }
     }
 
-    /// The same cells and functions, without a copy of any.
-    pub(crate) fn shared(&self, alloc: Global) -> Result<Frozen, OutOfMemory>
+    /// The same cells and functions, behind the same pointer.
+    pub(crate) fn shared(&self) -> Result<Frozen, OutOfMemory>
         ensures { IfOk result (λ f. f ≡ self.now) }
     {
+        let layers = match &self.layers {
+            Some(layers) => Some(layers.clone()?),
+            None => None,
+        };
         Ok(Frozen {
-            layers: all_shared(alloc, &self.layers)?,
+            layers,
+            cells: self.cells,
+            functions: self.functions,
+        })
+    }
+
+    /// The same cells and functions behind a pointer of their own, without a copy of any.
+    pub(crate) fn apart(&self, alloc: Global) -> Result<Frozen, OutOfMemory>
+        ensures { IfOk result (λ f. f ≡ self.now) }
+    {
+        let layers = own_layers(alloc, layers_in(&self.layers))?;
+        Ok(Frozen {
+            layers: Some(layers),
             cells: self.cells,
             functions: self.functions,
         })
@@ -66,7 +84,7 @@ impl Frozen {
         requires { cell < length self.now.cells }
         ensures { plain result.now ≡ cell_at self.now.cells cell }
     {
-        cell_among(&self.layers, cell)
+        cell_among(layers_in(&self.layers), cell)
     }
 
     /// The number of functions.
@@ -80,11 +98,11 @@ impl Frozen {
         requires { func < length self.now.functions }
         ensures { Some (function result.now) ≡ slice_get self.now.functions func }
     {
-        function_among(&self.layers, func)
+        function_among(layers_in(&self.layers), func)
     }
 
     /// Freezes a layer more. It is handed back for want of memory.
-    pub(crate) fn add(&mut self, layer: Layer) -> Result<(), Layer>
+    pub(crate) fn add(&mut self, alloc: Global, layer: Layer) -> Result<(), Layer>
         requires few { length self.old.cells + length layer.cells < 2 ^ 32 }
         requires few_functions { length self.old.functions + length layer.functions < 2 ^ 32 }
         ensures ok { OnOk result (self.new ≡ beside self.old layer) }
@@ -93,15 +111,46 @@ impl Frozen {
     {
         let cells = self.cells + layer.len();
         let functions = self.functions + layer.functions();
-        match self.layers.push(layer) {
-            Ok(()) => {
-                self.cells = cells;
-                self.functions = functions;
-                Ok(())
-            }
-            Err(refused) => Err(refused.value),
-        }
+        let layers = with_layer(alloc, layers_in(&self.layers), layer)?;
+        self.layers = Some(layers);
+        self.cells = cells;
+        self.functions = functions;
+        Ok(())
     }
+}
+
+/// The layers behind a pointer, where there is one.
+fn layers_in(layers: &Option<Arc<Vec<Layer>>>) -> &[Layer]
+    ensures { result.now ≡ layers_of layers.now }
+{
+    match layers {
+        Some(layers) => layers.as_slice(),
+        None => &[],
+    }
+}
+
+/// The same layers and one more behind them, behind a pointer of their own. That one is handed back for want of memory.
+fn with_layer(alloc: Global, layers: &[Layer], layer: Layer) -> Result<Arc<Vec<Layer>>, Layer>
+    ensures layers { IfOk result (λ a. (arc_value a).items ≡ layers.now ++ layer ∷ []) }
+    ensures back { IfErr result (λ l. l ≡ layer) }
+{
+    let Ok(mut all) = own_layers(alloc, layers) else {
+        return Err(layer);
+    };
+    let Some(own) = Arc::get_mut(&mut all) else {
+        return Err(layer);
+    };
+    match own.push(layer) {
+        Ok(()) => Ok(all),
+        Err(refused) => Err(refused.value),
+    }
+}
+
+/// The same layers behind a pointer of their own, without a copy of a cell or function.
+fn own_layers(alloc: Global, layers: &[Layer]) -> Result<Arc<Vec<Layer>>, OutOfMemory>
+    ensures { IfOk result (λ a. (arc_value a).items ≡ layers.now) }
+{
+    Ok(Arc::new(alloc, all_shared(alloc, layers)?)?)
 }
 
 /// The same layers, without a copy of a cell or function.

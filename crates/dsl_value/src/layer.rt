@@ -50,6 +50,18 @@ impl Layer {
         }
     }
 
+    /// A copy of the cells and functions.
+    pub(crate) fn apart(&self, alloc: Global) -> Result<Layer, OutOfMemory>
+        ensures { IfOk result (λ l. l ≡ self.now) }
+    {
+        match &self.part {
+            Some(part) => Ok(Layer {
+                part: Some(copy_of(alloc, part)?),
+            }),
+            None => Ok(Layer { part: None }),
+        }
+    }
+
     /// The number of cells.
     pub(crate) fn len(&self) -> usize
         ensures { result ≡ length self.now.cells }

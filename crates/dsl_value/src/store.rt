@@ -61,7 +61,7 @@ impl Store {
     {
         Store {
             alloc,
-            frozen: Frozen::new(alloc),
+            frozen: Frozen::new(),
             live: Layer::new(),
             base: 0,
         }
@@ -73,7 +73,7 @@ impl Store {
     {
         self.base = (self.frozen.len() + self.live.len()) as u32;
         let live = mem::replace(&mut self.live, Layer::new());
-        if let Err(live) = self.frozen.add(live) {
+        if let Err(live) = self.frozen.add(self.alloc, live) {
             self.live = live;
         }
     }
@@ -83,8 +83,23 @@ impl Store {
     pub fn fork(&self) -> Result<Store, OutOfMemory>
         ensures { IfOk result (λ s. s ≡ self.now) }
     {
-        let frozen = self.frozen.shared(self.alloc)?;
+        let frozen = self.frozen.shared()?;
         let live = self.live.shared()?;
+        Ok(Store {
+            alloc: self.alloc,
+            frozen,
+            live,
+            base: self.base,
+        })
+    }
+
+    /// An equal store that counts its forks in a place of its own. Each worker makes one of the store that all have, and forks
+    /// that for each task: so no two workers change the same counter. Cells that came after the last freezing are copied.
+    pub fn apart(&self) -> Result<Store, OutOfMemory>
+        ensures { IfOk result (λ s. s ≡ self.now) }
+    {
+        let frozen = self.frozen.apart(self.alloc)?;
+        let live = self.live.apart(self.alloc)?;
         Ok(Store {
             alloc: self.alloc,
             frozen,

@@ -27,6 +27,10 @@ pub(crate) fn push_answer(
             stores.fork()?;
             out.push_str("forked")
         }
+        "apart" => {
+            stores.apart()?;
+            out.push_str("apart")
+        }
         "other" => {
             stores.exchange();
             out.push_str("the other store")

@@ -4,7 +4,7 @@ use site_base::OutOfMemory;
 use std::alloc::Global;
 use std::mem;
 
-/// The store of the rows, and the one that a fork made beside it.
+/// The store of the rows, and the one that was made of it beside it.
 #[derive(Drop)]
 pub(crate) struct Stores {
     pub(crate) store: Store,
@@ -23,6 +23,12 @@ impl Stores {
     /// Makes the other one a fork of the store.
     pub(crate) fn fork(&mut self) -> Result<(), OutOfMemory> {
         self.other = self.store.fork()?;
+        Ok(())
+    }
+
+    /// Makes the other one a base of its own.
+    pub(crate) fn apart(&mut self) -> Result<(), OutOfMemory> {
+        self.other = self.store.apart()?;
         Ok(())
     }
 
