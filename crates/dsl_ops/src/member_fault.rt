@@ -6,7 +6,8 @@ use thiserror::Error;
 /// Why a member or an element isn't read or written.
 #[derive(Clone, Copy, Debug, PartialEq, Eq, Error)]
 pub enum MemberFault {
-    /// The value has no members, or takes no key of this type; or what is to be written lies outside of an array.
+    /// The value has no members and isn't null; the key has another type than the value takes, or is a number that isn't whole; or
+    /// what is to be written lies outside of an array, or in null.
     #[error("wrong type")]
     WrongType,
     /// The array or dictionary that is to be changed is frozen.

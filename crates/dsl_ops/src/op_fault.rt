@@ -6,7 +6,7 @@ use thiserror::Error;
 /// Why an operator gives no value.
 #[derive(Clone, Copy, Debug, PartialEq, Eq, Error)]
 pub enum OpFault {
-    /// The operator isn't for operands of these types.
+    /// The operator isn't for operands of these types, or it is for whole numbers and one isn't whole.
     #[error("operands of the wrong type")]
     WrongType,
     /// The number is out of range, or a shift isn't by 0 to 62 places.
