@@ -1,6 +1,6 @@
 -- Values that are kept.
-use Rattle.std.proofs.Common.{◌≡◌, ℕ, Bool, true, false, cond, ◌&&◌, List, [], ◌∷◌, ◌++◌, refl, sym, ap, ◌∙◌}
-use Rattle.std.specs.List.{filter, list_all}
+use Rattle.std.proofs.Common.{◌≡◌, ℕ, Bool, true, false, cond, ◌&&◌, List, [], ◌∷◌, ◌++◌, refl, ap, ◌∙◌}
+use Rattle.std.specs.List.{filter}
 use Rattle.dsl_value.specs.Contents.{PlainCell}
 use Rattle.dsl_value.specs.declared.value.Value.{Value}
 use Rattle.dsl_ops.specs.Seen.{IsSeen, found_in}
