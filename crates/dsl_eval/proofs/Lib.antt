@@ -1,0 +1,6 @@
+pub mod Chains
+pub mod Entering
+pub mod Same
+pub mod Turns
+pub mod Held
+pub mod Called
