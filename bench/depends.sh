@@ -5,30 +5,15 @@
 set -eu
 . "$(dirname "${BASH_SOURCE[0]}")/program.sh"
 
-# what shows that a site has a graph, and what makes sights, is that of the rows
-cases=$top/crates/depend_cases
-bench=$work/repository/crates/bench_program
-mkdir -p "$bench"/{src,proofs}
-for module in order sights; do
-    cp "$cases/src/$module.rt" "$bench/src/"
-    cp -r "$cases/proofs/$module" "$bench/proofs/"
-done
-cp "$cases"/proofs/{HostsFirst,Lib}.antt "$bench/proofs/"
-find "$bench" -name '*.antt' -exec sed -i 's/Rattle\.depend_cases/Rattle.bench_program/' {} +
-
-build_program 'site_base site_model run_meaning time_range depend_graph' <<'RATTLE'
+build_program 'site_base site_model time_range run_meaning depend_graph case_sites' <<'RATTLE'
 //! Builds the graphs of trees, asks one what holds a checkable back, and prints how long it took.
 #![tactic(auto)]
 
 ghost use Rattle.site_model.specs.PlainSite.{site_view};
 ghost use Rattle.depend_graph.specs.Graph.{IsGraphOf};
 
-mod order;
-mod sights;
-
+use case_sites::{has_parents, sights_of, unchecked};
 use depend_graph::{Graph, Purpose};
-use order::has_parents;
-use sights::{sights_of, unchecked};
 use site_base::{Moment, OutOfMemory, Row, Text};
 use site_model::{CheckSpec, DependSpec, Names, Site, State, StateSet, View};
 use std::alloc::Global;

@@ -3,9 +3,8 @@ ghost use Rattle.std.specs.Prelude.{◌<◌, length};
 ghost use Rattle.site_model.specs.PlainSite.{site_view};
 ghost use Rattle.depend_graph.specs.Graph.{IsGraphOf};
 
-use crate::order::has_parents;
-use crate::sights::sights_of;
 use crate::views::views_of;
+use case_sites::{has_parents, sights_of};
 use depend_graph::{Graph, GraphFault, Purpose, Reach};
 use site_base::{Moment, OutOfMemory, Text};
 use site_model::{Site, View};

@@ -7,8 +7,6 @@
 
 mod answers;
 mod dependencies;
-mod order;
-mod sights;
 mod sites;
 mod views;
 

@@ -1,7 +1,7 @@
 // What checkables show, as rows describe it.
-use crate::sights::unchecked;
+use case_sites::{state_of, unchecked_views};
 use site_base::OutOfMemory;
-use site_model::{Site, State, View};
+use site_model::{Site, View};
 use std::alloc::Global;
 
 /// What each checkable of a site shows: what these words say, and else a view without results; `None`
@@ -11,10 +11,7 @@ pub(crate) fn views_of(
     site: &Site,
     shown: &str,
 ) -> Result<Option<Vec<View>>, OutOfMemory> {
-    let mut views = Vec::new(alloc);
-    for spec in site.checkables.as_slice() {
-        views.push(unchecked(spec.host))?;
-    }
+    let mut views = unchecked_views(alloc, site)?;
     for words in shown.split(',') {
         if words.trim().is_empty() {
             continue;
@@ -32,16 +29,4 @@ pub(crate) fn views_of(
         }
     }
     Ok(Some(views))
-}
-
-fn state_of(word: &str) -> Option<State> {
-    match word {
-        "OK" => Some(State::Okay),
-        "Warning" => Some(State::Warning),
-        "Critical" => Some(State::Critical),
-        "Unknown" => Some(State::Unknown),
-        "Up" => Some(State::Up),
-        "Down" => Some(State::Down),
-        _ => None,
-    }
 }

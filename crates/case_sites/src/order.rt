@@ -8,7 +8,7 @@ ghost use Rattle.depend_graph.specs.Parents.{HasParents};
 use site_model::{CheckSpec, DependSpec, Site};
 
 /// Whether hosts stand before services, and every dependency joins two of them.
-pub(crate) fn has_parents(site: &Site) -> bool
+pub fn has_parents(site: &Site) -> bool
     ensures { IsTrue result → HasParents (site_view site.now) }
 {
     are_few(site) && are_in_order(site.checkables.as_slice()) && join_checkables(site)

@@ -1,5 +1,5 @@
-use Rattle.depend_cases.proofs.HostsFirst.{in_order}
-use Rattle.depend_cases.proofs.order.are_in_order.Goals as goal
+use Rattle.case_sites.proofs.HostsFirst.{in_order}
+use Rattle.case_sites.proofs.order.are_in_order.Goals as goal
 
 -- src/order.rt:26:1
 pub returns : goal.returns
