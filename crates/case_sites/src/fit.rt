@@ -1,5 +1,6 @@
 // What checkables need of a site.
-ghost use Rattle.std.specs.Prelude.{◌<◌, ◌^◌, IsTrue, All, length};
+ghost use Rattle.std.specs.Prelude.{◌≡◌, ◌<◌, ◌≤◌, ◌^◌, ℕ, IsTrue, All, Some, false, length, nat_eq, slice_get, take};
+ghost use Rattle.std.specs.List.{list_any};
 ghost use Rattle.site_model.specs.PlainSite.{site_view};
 ghost use Rattle.site_model.specs.Sound.{AreDistinct};
 ghost use Rattle.site_model.specs.declared.notify_spec.NotifySpec.{NotifySpec as Note};
@@ -26,11 +27,31 @@ fn tell_once(notes: &[NotifySpec]) -> bool
 fn are_distinct(users: &[u32]) -> bool
     ensures { IsTrue result → AreDistinct users.now }
 {
+    are_new(users)
+}
+
+/// Whether none is among those before it.
+fn are_new(users: &[u32]) -> bool
+    ensures { IsTrue result → (k u : ℕ) → slice_get users.now k ≡ Some u → list_any (nat_eq u) (take k users.now) ≡ false }
+{
     for (place, user) in users.iter().enumerate() {
-        let (before, _) = users.split_at(place);
-        if before.contains(user) {
+        if is_before(users, place, *user) {
             return false;
         }
     }
     true
+}
+
+/// Whether a user is among those before a place.
+fn is_before(users: &[u32], place: usize, user: u32) -> bool
+    requires { place ≤ length users.now }
+    ensures { result ≡ list_any (nat_eq user) (take place users.now) }
+{
+    is_among(users.split_at(place).0, user)
+}
+
+fn is_among(users: &[u32], user: u32) -> bool
+    ensures { result ≡ list_any (nat_eq user) users.now }
+{
+    users.iter().any(|other| user == *other)
 }

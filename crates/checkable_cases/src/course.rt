@@ -29,13 +29,14 @@ pub(crate) struct Course<'a> {
 }
 
 impl<'a> Model for Course<'a> {
+    ghost use Rattle.site_model.specs.PlainSite.{site_view};
     ghost use Rattle.checkable_cases.specs.Course.{IsCourse};
 
     ghost Value = { Unit {0} };
 
-    ghost view = { λ _. unit };
+    ghost view = { λ _. tt };
 
-    ghost invariant = { IsCourse };
+    ghost invariant = { λ c. IsCourse (site_view c.site.now) c.graph.now c.checkable c.book };
 }
 
 impl<'a> Course<'a> {
