@@ -12,7 +12,7 @@ use std::test::Fail;
 use std::time::{Duration, Instant};
 
 /// How many seconds one call may take on a busy machine. To compare each two of the elements would take minutes.
-const LIMIT: u64 = 2;
+const LIMIT: u64 = 10;
 
 const COUNT: i64 = 100_000;
 
