@@ -18,7 +18,7 @@ use dsl_value::{Store, Value};
 use site_base::{Num, OutOfMemory, Row};
 use std::alloc::Global;
 use std::io;
-use std::thread::{Threads, join};
+use std::thread::join;
 use std::time::Instant;
 
 const FORKS: u32 = 1_000_000;
