@@ -210,6 +210,7 @@ fn prepare(work: &Work, place: Place, value: &Value, args: Vec<Value>) -> Result
     }
 }
 
+/// The same of a function of the store.
 fn prepared_function(
     work: &Work,
     place: Place,

@@ -5,7 +5,7 @@ ghost use Rattle.std.specs.Arc.{arc_value};
 ghost use Rattle.dsl_syntax.specs.SyntaxView.{expr_view, exprs_view, entries_view, maybe_expr_view};
 ghost use Rattle.eval_meaning.specs.Evaluation.{expression_with};
 ghost use Rattle.eval_meaning.specs.Literals.{values_with, pairs_with};
-ghost use Rattle.eval_meaning.specs.Members.{index_with};
+ghost use Rattle.eval_meaning.specs.Members.{index_with, part_value};
 ghost use Rattle.eval_meaning.specs.Operators.{binary_with};
 ghost use Rattle.eval_work.specs.Works.{state_of, view_of, Gives};
 ghost use Rattle.eval_work.specs.Kept.{Named, NamedAll, IsFit, IsKept, AreKept, ArePairsKept, IsTold};
@@ -129,6 +129,7 @@ fn eval_pairs(
     Ok(all)
 }
 
+/// What a value has at the key that an expression gives.
 #[cycle(eval)]
 fn eval_index(
     view: &WorldView,
@@ -148,6 +149,7 @@ fn eval_index(
     work.part(place, &value, &key)
 }
 
+/// The left operand, and then the rest of the operator.
 #[cycle(eval)]
 fn eval_binary(
     view: &WorldView,
@@ -232,7 +234,7 @@ pub(crate) fn eval_maybe(
 /// What a value has under a name.
 fn member(work: &Work, place: Place, value: &Value, name: &Text) -> Result<Value, Stop>
     requires { Named work.now.store value.now }
-    ensures gives { Gives (λ v. v) result (state_of work.now) (Rattle.eval_meaning.specs.Members.part_value place value.now (Value.Str name.now) (state_of work.now)) }
+    ensures gives { Gives (λ v. v) result (state_of work.now) (part_value place value.now (Value.Str name.now) (state_of work.now)) }
     ensures named { IfOk result (Named work.now.store) }
 {
     let key = Value::Str(name.clone()?);

@@ -5,7 +5,8 @@ ghost use Rattle.dsl_syntax.specs.SyntaxView.{maybe_expr_view};
 ghost use Rattle.eval_work.specs.Works.{state_of, Gives};
 ghost use Rattle.eval_work.specs.Kept.{IsFit, IsFlowKept, IsTold};
 ghost use Rattle.dsl_eval.specs.Nodes.{parts};
-ghost use Rattle.dsl_eval.specs.Finishing.{valued_with};
+ghost use Rattle.dsl_eval.specs.Finishing.{admitted, finished, valued_with};
+ghost use Rattle.dsl_eval.specs.Values.{or_null as null_or, MaybeNamed};
 
 use crate::expressions::eval_maybe;
 use dsl_syntax::Expr;
@@ -44,10 +45,6 @@ pub(crate) fn run_value(
     finish(work, place, then, value)
 }
 
-ghost use Rattle.dsl_eval.specs.Finishing.{admitted, finished};
-ghost use Rattle.dsl_eval.specs.Values.{or_null as null_or, MaybeNamed};
-ghost use Rattle.eval_work.specs.Kept.{Named};
-
 /// Constants have a place only at a load.
 fn admit(work: &Work, place: Place, then: Then) -> Result<(), Stop>
     ensures { Gives (λ _. tt) result (state_of work.now) (admitted place then.entry (state_of work.now)) }
@@ -58,6 +55,7 @@ fn admit(work: &Work, place: Place, then: Then) -> Result<(), Stop>
     }
 }
 
+/// Does with the value what the statement says.
 fn finish(work: &mut Work, place: Place, then: Then, value: Option<Value>) -> Result<Flow, Stop>
     requires fit { IsFit work.old }
     requires value { MaybeNamed work.old.store value }
@@ -80,6 +78,7 @@ fn finish(work: &mut Work, place: Place, then: Then, value: Option<Value>) -> Re
     }
 }
 
+/// Without an expression the value is null.
 fn or_null(value: Option<Value>) -> Value
     ensures { result ≡ null_or value }
 {

@@ -155,6 +155,7 @@ fn turns_of(
     }
 }
 
+/// A turn for each element of an array.
 #[tactic(auto, using(std::proofs::Common::append_assoc))]
 fn element_turns(alloc: Global, items: &[Value]) -> Result<Vec<Turn>, Stop>
     ensures turns { IfOk result (λ v. v.items ≡ map element_turn items.now) }
@@ -170,6 +171,7 @@ fn element_turns(alloc: Global, items: &[Value]) -> Result<Vec<Turn>, Stop>
     Ok(turns)
 }
 
+/// A turn for each pair of a dictionary, by its order.
 #[tactic(auto, using(std::proofs::Common::append_assoc))]
 fn pair_turns(alloc: Global, pairs: &[(Text, Value)]) -> Result<Vec<Turn>, Stop>
     ensures turns { IfOk result (λ v. v.items ≡ map pair_turn pairs.now) }

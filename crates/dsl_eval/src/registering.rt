@@ -77,6 +77,7 @@ pub(crate) fn run_apply(
     Ok(Flow::On)
 }
 
+/// Registers what has a name, once that and what it captures are evaluated.
 fn register(
     view: &WorldView,
     work: &mut Work,

@@ -3,7 +3,7 @@ ghost use Rattle.std.specs.Prelude.{◌≡◌, IfOk, [], Some, None};
 ghost use Rattle.std.specs.Arc.{arc_value};
 ghost use Rattle.dsl_syntax.specs.SyntaxView.{expr_view, stmt_view, stmt_kind_view, stmts_view, arms_view};
 ghost use Rattle.eval_meaning.specs.Evaluation.{statement_kind_with};
-ghost use Rattle.eval_meaning.specs.Flow.{block_with, statement_with, arms_with};
+ghost use Rattle.eval_meaning.specs.Flow.{block_with, statement_with, arms_with, is_passed as passed_kind};
 ghost use Rattle.eval_work.specs.Works.{state_of, view_of, Gives};
 ghost use Rattle.eval_work.specs.Kept.{IsFit, IsFlowKept, IsTold};
 ghost use Rattle.dsl_eval.specs.Nodes.{parts};
@@ -66,7 +66,7 @@ fn run_statement(
 
 /// Whether a statement is passed over, as `assign` and `ignore` are.
 fn is_passed(kind: &StmtKind) -> bool
-    ensures { result ≡ Rattle.eval_meaning.specs.Flow.is_passed (stmt_kind_view kind.now) }
+    ensures { result ≡ passed_kind (stmt_kind_view kind.now) }
 {
     matches!(kind, StmtKind::Assign { .. } | StmtKind::Ignore { .. })
 }
