@@ -1,6 +1,6 @@
 -- A function of the store that is called.
-use Rattle.std.proofs.Common.{◌≡◌, ℕ, List, [], map, length, Bool, true, false, nat_eq, Option, Some, None, refl, ap, ◌∙◌}
-use Rattle.std.specs.Prelude.{slice_get, option_map}
+use Rattle.std.proofs.Common.{◌≡◌, ℕ, List, [], length, true, false, nat_eq, refl, ap, ◌∙◌}
+use Rattle.std.specs.Prelude.{option_map}
 use Rattle.std.proofs.lemmas.Option.{slice_get-map}
 use Rattle.site_base.specs.declared.place.Place.{Place}
 use Rattle.site_base.specs.declared.diag_kind.DiagKind.TheVariants.{Arity}
@@ -12,7 +12,7 @@ use Rattle.dsl_value.specs.PlainStores.{closure}
 use Rattle.dsl_value.specs.Pairs.{Pairs}
 use Rattle.dsl_value.specs.declared.value.Value.{Value}
 use Rattle.dsl_value.specs.declared.value.Value.TheVariants as value
-use Rattle.eval_meaning.specs.States.{State, Outcome, gives, faults}
+use Rattle.eval_meaning.specs.States.{State, gives, faults}
 use Rattle.eval_meaning.specs.Frames.{first_locals}
 use Rattle.eval_meaning.specs.Functions.{bound}
 use Rattle.eval_work.specs.Calling.{IsFunctionAt, captured_at}

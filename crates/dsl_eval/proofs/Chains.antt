@@ -1,5 +1,5 @@
 -- Evaluations one after another.
-use Rattle.std.proofs.Common.{◌≡◌, Result, Ok, Err, refl, sym, subst, ap, ◌∙◌}
+use Rattle.std.proofs.Common.{◌≡◌, Result, Err, refl, sym, subst, ap, ◌∙◌}
 use Rattle.eval_meaning.specs.States.{State, Outcome, gives, faults, blocked, ◌>>=◌}
 use Rattle.eval_work.specs.Works.{Gives}
 use Rattle.eval_work.specs.declared.stop.Stop.{Stop}

@@ -1,9 +1,9 @@
 -- Nodes are entered, and then evaluated.
-use Rattle.std.proofs.Common.{◌≡◌, ℕ, zero, suc, Bool, true, false, cond, refl, sym, ◌∙◌}
-use Rattle.dsl_syntax.specs.Syntax.{Expression, Statement, statement, StatementKind}
+use Rattle.std.proofs.Common.{◌≡◌, ℕ, zero, suc, Bool, true, false, refl, sym}
+use Rattle.dsl_syntax.specs.Syntax.{Expression, statement, StatementKind}
 use Rattle.site_base.specs.declared.place.Place.{Place}
 use Rattle.eval_meaning.specs.Views.{View}
-use Rattle.eval_meaning.specs.States.{State, Outcome, gives, ◌>>=◌, step}
+use Rattle.eval_meaning.specs.States.{State, gives, ◌>>=◌, step}
 use Rattle.eval_meaning.specs.Parts.{place_of}
 use Rattle.eval_meaning.specs.Calls.{callee_with}
 use Rattle.eval_meaning.specs.Flow.{statement_with, is_passed}

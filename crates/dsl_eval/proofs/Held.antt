@@ -1,12 +1,11 @@
 -- What the values name that an evaluation holds.
-use Rattle.std.proofs.Common.{◌≡◌, ℕ, zero, suc, ◌+◌, List, [], ◌∷◌, ◌++◌, drop, length, Bool, true, false, map, Option, Some, None, refl, sym, ap, ◌∙◌, subst, arith}
+use Rattle.std.proofs.Common.{◌≡◌, ℕ, zero, suc, ◌+◌, List, [], ◌∷◌, ◌++◌, drop, Bool, true, false, map, Option, Some, None, sym, ap, ◌∙◌, subst, arith}
 use Rattle.dsl_value.specs.Pairs.{Pairs}
 use Rattle.dsl_value.specs.Contents.{Contents}
 use Rattle.dsl_value.specs.declared.value.Value.{Value}
-use Rattle.eval_meaning.specs.declared.flow.Flow.{Flow}
-use Rattle.eval_work.specs.Kept.{Named, NamedAll, PairsNamed, IsFit, IsLater, IsStill, IsKept, AreKept, ArePairsKept, IsFlowKept, FlowNamed}
+use Rattle.eval_work.specs.Kept.{Named, NamedAll, PairsNamed, IsFit, IsLater, IsKept, AreKept, ArePairsKept}
 use Rattle.eval_work.specs.declared.work.Work.{Work}
-use Rattle.eval_work.proofs.Later.{names_later, all_later, pairs_later, later_later, same_later}
+use Rattle.eval_work.proofs.Later.{names_later, all_later, pairs_later, later_later}
 use Rattle.eval_meaning.specs.Calls.{own_value}
 use Rattle.eval_meaning.specs.declared.callee.Callee.{Callee}
 use Rattle.eval_meaning.specs.declared.callee.Callee.TheVariants as callees

@@ -1,5 +1,5 @@
 -- What the code does in one function is what the definition says in several.
-use Rattle.std.proofs.Common.{◌≡◌, ℕ, zero, suc, Bool, true, false, cond, nat_eq, List, [], ◌∷◌, length, map, Option, Some, None, refl, sym, ap, ◌∙◌}
+use Rattle.std.proofs.Common.{◌≡◌, ℕ, Bool, true, false, cond, nat_eq, List, [], ◌∷◌, length, map, Option, Some, None, refl, sym, ap, ◌∙◌}
 use Rattle.std.specs.Prelude.{slice_get, unwrap_or}
 use Rattle.std.specs.Borrow.{Bor}
 use Rattle.site_base.specs.declared.place.Place.{Place}
@@ -14,7 +14,7 @@ use Rattle.dsl_value.specs.declared.value.Value.{Value}
 use Rattle.dsl_value.specs.declared.value.Value.TheVariants as value
 use Rattle.eval_meaning.specs.Registered.{PlainFile, PlainTemplate}
 use Rattle.eval_meaning.specs.Views.{View, template_in}
-use Rattle.eval_meaning.specs.States.{State, Outcome, gives, fault, ◌>>=◌, Task, load, item, rule, Loading}
+use Rattle.eval_meaning.specs.States.{State, Outcome, gives, fault, ◌>>=◌, Task, load, item, rule}
 use Rattle.eval_meaning.specs.Parts.{Parts, place_of}
 use Rattle.eval_meaning.specs.Operators.{binary_with}
 use Rattle.eval_meaning.specs.Frames.{in_frame, first_locals, set_local}
@@ -34,10 +34,10 @@ use Rattle.eval_work.specs.Orders.{next_number, order_after}
 use Rattle.dsl_eval.specs.Values.{maybe_value, or_named, right_with}
 use Rattle.dsl_eval.specs.Frames.{called_of, called_by, prepared_by, closure_frame, frame_of, statements_in, in_call, in_import}
 use Rattle.eval_work.specs.Imports.{PlainImported}
-use Rattle.dsl_eval.specs.Visiting.{visited_by, visit_over, PlainVisited}
+use Rattle.dsl_eval.specs.Visiting.{visited_by, visit_over}
 use Rattle.dsl_eval.specs.Finishing.{valued_with, finished}
-use Rattle.dsl_eval.specs.Loops.{for_turns, turns_of, turns_of_cell, turn_set, element_turn, pair_turn}
-use Rattle.dsl_eval.specs.Registering.{named_with, registered, prefix_of}
+use Rattle.dsl_eval.specs.Loops.{for_turns, turns_of, turns_of_cell, element_turn, pair_turn}
+use Rattle.dsl_eval.specs.Registering.{named_with, prefix_of}
 use Rattle.dsl_eval.specs.declared.finishing.Then.TheVariants as thens
 use Rattle.dsl_eval.specs.declared.registering.Sort.TheVariants as sorts
 use Rattle.dsl_eval.proofs.Chains.{one_after, same_after, same_end}

@@ -1,10 +1,9 @@
 -- One turn of the loops.
-use Rattle.std.proofs.Common.{◌≡◌, ℕ, zero, suc, Bool, true, false, cond, Option, Some, None, Result, Ok, Err, refl, ◌+◌, ◌-◌, List, [], ◌∷◌, ◌++◌, drop, sym, subst, ap, ◌∙◌}
+use Rattle.std.proofs.Common.{◌≡◌, ℕ, suc, Bool, true, false, cond, Option, Some, Err, refl, ◌+◌, List, [], ◌∷◌, ◌++◌, drop, sym, subst, ap, ◌∙◌}
 use Rattle.std.specs.Bool.{beq}
 use Rattle.site_base.specs.declared.place.Place.{Place}
 use Rattle.dsl_syntax.specs.Syntax.{Expression, MaybeExpression, Statements}
 use Rattle.dsl_syntax.specs.SyntaxView.{expr_view, exprs_view, entries_view, uses_view, arms_view, stmt_view, stmts_view, steps_view, step_view, step_then, maybe_expr_view}
-use Rattle.dsl_syntax.specs.Lists.{OneStep, to_member, to_index}
 use Rattle.dsl_syntax.specs.declared.arm.Arm.{Arm}
 use Rattle.dsl_syntax.specs.declared.expr.Expr.{Expr}
 use Rattle.dsl_syntax.specs.declared.expr_kind.ExprKind.TheBlock.{Step::Member, Step::Index'}
@@ -24,7 +23,7 @@ use Rattle.eval_meaning.specs.Literals.{values_with, pairs_with}
 use Rattle.eval_meaning.specs.Functions.{captured_with, used_with, apply_with}
 use Rattle.eval_meaning.specs.Targets.{keys_with}
 use Rattle.eval_meaning.specs.Visits.{mapped, filtered, found}
-use Rattle.eval_meaning.specs.Flow.{block_with, statement_with, onward, arms_with, truth_with, turn_with, turns_with, around, loop_end}
+use Rattle.eval_meaning.specs.Flow.{block_with, statement_with, onward, arms_with, turn_with, turns_with, around, loop_end}
 use Rattle.eval_meaning.specs.Files.{files_with, file_with}
 use Rattle.eval_meaning.specs.Registration.{loading}
 use Rattle.eval_meaning.specs.declared.flow.Flow.{Flow}

@@ -1,7 +1,7 @@
 -- What is registered under a name.
 use Rattle.std.specs.Prelude.{ℕ, List, [], Option, Some, None}
 use Rattle.site_base.specs.declared.place.Place.{Place}
-use Rattle.dsl_syntax.specs.Syntax.{Expression, MaybeExpression, no_expression, some_expression, Uses, Statements}
+use Rattle.dsl_syntax.specs.Syntax.{Expression, MaybeExpression, some_expression, Uses, Statements}
 use Rattle.dsl_value.specs.Pairs.{Pairs}
 use Rattle.dsl_value.specs.declared.value.Value.{Value}
 use Rattle.eval_meaning.specs.Registered.{PlacedName}

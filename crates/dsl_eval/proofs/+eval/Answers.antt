@@ -1,19 +1,17 @@
 -- Answers for the goals of the evaluation that are left.
-use Rattle.std.proofs.Common.{rules, arith, tests, suc, zero, subst, length, ℕ, List, Vec, Global, Bool, true, false, cond, Option, Some, None, Result, Ok, Err, ◌≡◌, ◌+◌, ◌-◌, ◌++◌, [], ◌∷◌, drop, map, refl, sym, ap, ◌∙◌}
+use Rattle.std.proofs.Common.{rules, arith, suc, subst, length, ℕ, List, Vec, Global, Bool, true, false, Option, Some, Err, ◌≡◌, ◌+◌, ◌-◌, ◌++◌, [], ◌∷◌, drop, refl, sym, ap, ◌∙◌}
 use Rattle.std.specs.Prelude.{unwrap_or, option_map}
 use Rattle.std.specs.Arc.{arc_value}
-use Rattle.std.specs.Option.{option_copied}
-use Rattle.std.specs.Vec.Iter.{into_iter_items}
-use Rattle.std.proofs.lemmas.List.{drop_more, drop_all}
+use Rattle.std.proofs.lemmas.List.{drop_more}
 use Rattle.dsl_syntax.specs.Syntax.{expression}
-use Rattle.dsl_syntax.specs.SyntaxView.{expr_view, exprs_view, entries_view, uses_view, stmts_view, stmt_view, arms_view, steps_view, step_view, expr_kind_view, stmt_kind_view, maybe_expr_view, func_view, block_view, base_view, each_view, maybe_each_view}
-use Rattle.dsl_syntax.specs.declared.expr_kind.ExprKind.TheViews.{out-Use, out-Arm, out-Func, out-Block}
-use Rattle.dsl_syntax.proofs.SyntaxRows.{exprs_vec, entries_vec, stmts_vec, arms_vec, uses_vec, steps_vec, func_fields, block_fields}
-use Rattle.dsl_syntax.proofs.SyntaxKinds.{kind_array, kind_dict, kind_call, kind_object, kind_template, kind_apply, kind_const, kind_var, kind_set, kind_if, kind_while, kind_for, kind_define, kind_return, kind_throw, kind_eval, kind_import, kind_binary, kind_function, kind_member, kind_index, kind_unary}
+use Rattle.dsl_syntax.specs.SyntaxView.{expr_view, exprs_view, entries_view, uses_view, stmts_view, arms_view, steps_view, expr_kind_view, stmt_kind_view, maybe_expr_view, block_view, base_view, each_view, maybe_each_view}
+use Rattle.dsl_syntax.specs.declared.expr_kind.ExprKind.TheViews.{out-Use, out-Func, out-Block}
+use Rattle.dsl_syntax.proofs.SyntaxRows.{block_fields}
+use Rattle.dsl_syntax.proofs.SyntaxKinds.{kind_array, kind_dict, kind_call, kind_object, kind_template, kind_apply, kind_const, kind_set, kind_if, kind_while, kind_for}
 use Rattle.dsl_value.specs.declared.value.Value.{Value}
 use Rattle.dsl_value.specs.declared.value.Value.TheVariants as value
-use Rattle.dsl_value.specs.Pairs.{Pairs, put}
-use Rattle.eval_meaning.specs.States.{State, Outcome, gives, ◌>>=◌}
+use Rattle.dsl_value.specs.Pairs.{Pairs}
+use Rattle.eval_meaning.specs.States.{gives}
 use Rattle.eval_meaning.specs.Frames.{in_frame as framed}
 use Rattle.eval_meaning.specs.Calls.{call_with}
 use Rattle.eval_meaning.specs.Targets.{set_with}
@@ -33,23 +31,21 @@ use Rattle.dsl_eval.specs.Registering.{named_with}
 use Rattle.dsl_eval.specs.declared.calls.Called.TheVariants as called
 use Rattle.dsl_eval.specs.declared.loops.Turn.{Turn}
 use Rattle.dsl_eval.specs.declared.registering.Sort.TheVariants as sorts
-use Rattle.eval_meaning.specs.Evaluation.{evaluated, expression_with, statement_kind_with}
-use Rattle.eval_meaning.specs.Operators.{holds}
+use Rattle.eval_meaning.specs.Evaluation.{expression_with, statement_kind_with}
 use Rattle.eval_meaning.specs.Literals.{values_with, pairs_with}
 use Rattle.eval_meaning.specs.Functions.{captured_with, apply_with}
 use Rattle.eval_meaning.specs.Targets.{keys_with}
-use Rattle.eval_meaning.specs.Flow.{block_with, arms_with, turns_with, around, loop_end}
-use Rattle.eval_meaning.specs.Files.{files_with, file_with}
-use Rattle.eval_meaning.specs.Visits.{mapped, filtered, found}
-use Rattle.eval_work.specs.Works.{state_of, view_of, Gives}
-use Rattle.eval_work.specs.Kept.{Named, NamedAll, PairsNamed, IsFit, IsLater, IsKept, IsTold, IsStill, AreKept, ArePairsKept}
-use Rattle.eval_work.proofs.Handing.{err_then, handed_on}
-use Rattle.eval_work.proofs.Later.{names_later, all_later, pairs_later, told_later, same_later, later_later, kept_on, kept_same, still_on}
-use Rattle.dsl_eval.specs.Nodes.{parts, node}
-use Rattle.dsl_eval.specs.Loops.{for_turns, turn_set}
+use Rattle.eval_meaning.specs.Flow.{block_with, arms_with}
+use Rattle.eval_meaning.specs.Files.{files_with}
+use Rattle.eval_meaning.specs.Visits.{mapped, filtered}
+use Rattle.eval_work.specs.Works.{state_of, view_of}
+use Rattle.eval_work.specs.Kept.{Named, NamedAll}
+use Rattle.eval_work.proofs.Handing.{handed_on}
+use Rattle.eval_work.proofs.Later.{names_later, all_later, pairs_later, told_later, later_later}
+use Rattle.dsl_eval.specs.Nodes.{parts}
 use Rattle.dsl_eval.proofs.Chains.{goes_on, goes_to, by_same, as_stop}
-use Rattle.dsl_eval.proofs.Entering.{value_node, callee_node, passed_node, statement_node}
-use Rattle.dsl_eval.proofs.Same.{binary_same, called_same, apply_same, visits_same, var_same, return_same, throw_same, eval_same, const_same, each_same, object_same, template_same, prefix_same, import_same, file_same, include_same}
+use Rattle.dsl_eval.proofs.Entering.{value_node, callee_node, statement_node}
+use Rattle.dsl_eval.proofs.Same.{apply_same, visits_same, const_same, object_same, template_same, prefix_same}
 use Rattle.dsl_eval.proofs.Turns.{at_turn, turned, stopped, values_turn, pairs_turn, captured_turn, keys_turn, arm_turn, used_gives, used_stops_behind, mapped_turn, filtered_turn, while_turn, files_turn, array_turn, dict_turn, function_turn, arm_taken, arm_left, map_turn, filter_turn, any_turn, all_turn, for_start, rule_start, rule_turn, import_start, import_turn, include_start, file_turn}
 use Rattle.dsl_eval.proofs.Held.{kept_pushed, kept_filtered, pairs_pushed, named_at, own_named, called_named}
 use Rattle.dsl_eval.proofs.+eval.Goals as goal

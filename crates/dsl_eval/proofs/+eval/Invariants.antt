@@ -1,5 +1,5 @@
 -- The measures and the loops of the evaluation.
-use Rattle.std.proofs.Common.{◌≡◌, ◌≤◌, ◌+◌, ◌*◌, ◌-◌, drop, []}
+use Rattle.std.proofs.Common.{◌≡◌, ◌+◌, ◌*◌, ◌-◌, drop, []}
 use Rattle.std.specs.Vec.Iter.{into_iter_items}
 use Rattle.dsl_syntax.specs.SyntaxView.{expr_view, exprs_view, entries_view, uses_view, stmts_view, arms_view, steps_view}
 use Rattle.eval_meaning.specs.Literals.{values_with, pairs_with}
