@@ -21,9 +21,10 @@ use Rattle.commit_meaning.specs.Names.{full_name_by}
 
 -- ---- the evaluation
 
--- the frame of a body: what the item captured and then its bound names are locals; templates that are imported get the same bound values
+-- The frame of a body: what the item captured and then its bound names are locals. Templates that are imported get the same bound values,
+-- of which the last of each name counts here too.
 abbrev pub in_body : PlainItem → Pairs → Value → State → State
-in_body i bound this s = entered this (first_locals i.captured bound) false (record s { task = item i.kind bound })
+in_body i bound this s = entered this (first_locals i.captured bound) false (record s { task = item i.kind (dict_of bound []) })
 
 -- the body is run, and `this` is the object
 abbrev pub body_run : View → PlainItem → Pairs → Value → State → Outcome Data
