@@ -5,14 +5,15 @@
 set -eu
 . "$(dirname "${BASH_SOURCE[0]}")/program.sh"
 
-build_program 'site_base site_model time_range run_meaning depend_graph case_sites' <<'RATTLE'
+build_program 'site_base site_model time_range run_meaning depend_graph case_words case_sites' <<'RATTLE'
 //! Builds the graphs of trees, asks one what holds a checkable back, and prints how long it took.
 #![tactic(auto)]
 
 ghost use Rattle.site_model.specs.PlainSite.{site_view};
 ghost use Rattle.depend_graph.specs.Graph.{IsGraphOf};
 
-use case_sites::{has_parents, sights_of, unchecked};
+use case_sites::has_parents;
+use case_words::{sights_of, unchecked};
 use depend_graph::{Graph, Purpose};
 use site_base::{Moment, OutOfMemory, Row, Text};
 use site_model::{CheckSpec, DependSpec, Names, Site, State, StateSet, View};

@@ -1,36 +1,8 @@
-// States, kinds of notifications, and filters of these.
+// Filters of states and kinds.
+use case_words::{kind_of, state_of};
 use site_base::OutOfMemory;
-use site_model::{KindSet, NoteKind, State, StateSet};
+use site_model::{KindSet, StateSet};
 use std::alloc::Global;
-
-/// The state of this name.
-pub fn state_of(word: &str) -> Option<State> {
-    Some(match word {
-        "OK" => State::Okay,
-        "Warning" => State::Warning,
-        "Critical" => State::Critical,
-        "Unknown" => State::Unknown,
-        "Up" => State::Up,
-        "Down" => State::Down,
-        _ => return None,
-    })
-}
-
-/// The kind of this name.
-pub fn kind_of(word: &str) -> Option<NoteKind> {
-    Some(match word {
-        "Problem" => NoteKind::Problem,
-        "Recovery" => NoteKind::Recovery,
-        "Acknowledgement" => NoteKind::Acknowledgement,
-        "Custom" => NoteKind::Custom,
-        "DowntimeStart" => NoteKind::DowntimeStart,
-        "DowntimeEnd" => NoteKind::DowntimeEnd,
-        "DowntimeRemoved" => NoteKind::DowntimeRemoved,
-        "FlappingStart" => NoteKind::FlappingStart,
-        "FlappingEnd" => NoteKind::FlappingEnd,
-        _ => return None,
-    })
-}
 
 /// The states of these names, with `+` between.
 pub(crate) fn states_of(alloc: Global, names: &str) -> Result<Option<StateSet>, OutOfMemory> {

@@ -1,4 +1,4 @@
-//! Small sites in plain text, as rows of tables write them, and what rows say of what happens in them.
+//! Small sites in plain text, as rows of tables write them.
 //!
 //! A site is a list of statements with `;` between. Names stand before what names them.
 //!
@@ -13,33 +13,24 @@
 //!
 //! What isn't set is as the defaults are.
 //!
-//! In reading order: numbers and filters (`numbers`, `filters`), a site that is being read (`draft`), its periods, checkables,
-//! users, notifications and dependencies, and the site (`sites`); what a graph and checkables need of one (`order`, `fit`); what
-//! stands in it under a name (`named`), events (`events`) and what checkables show (`views`, `sights`).
+//! In reading order: filters (`filters`), a site that is being read (`draft`), its periods, checkables, users, notifications and
+//! dependencies, and the site (`sites`); what a graph and checkables need of one (`order`, `fit`); and what stands in it under a
+//! name (`named`).
 #![tactic(auto)]
 
 mod checkables;
 mod dependencies;
 mod draft;
-mod events;
 mod filters;
 mod fit;
 mod named;
 mod notifications;
-mod numbers;
 mod order;
 mod periods;
-mod sights;
 mod sites;
 mod users;
-mod views;
 
-pub use events::{event_of, result};
-pub use filters::{kind_of, state_of};
 pub use fit::is_fit;
 pub use named::{depend_named, notify_named, user_named};
-pub use numbers::{moment_in, number_in, place_in};
 pub use order::has_parents;
-pub use sights::sights_of;
 pub use sites::site_of;
-pub use views::{unchecked, unchecked_views, view_in};

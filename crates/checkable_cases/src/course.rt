@@ -1,11 +1,10 @@
 // A checkable on its way through the steps of a row.
-ghost use Rattle.std.specs.Prelude.{◌≡◌, ◌<◌, ◌≤◌, length};
+ghost use Rattle.std.specs.Prelude.{◌≡◌, ◌<◌, length};
 ghost use Rattle.site_model.specs.PlainSite.{site_view};
-ghost use Rattle.run_meaning.specs.Dealing.{last_moment};
 ghost use Rattle.depend_graph.specs.Graph.{IsGraphOf};
 
 use crate::answers::{push_made, push_shown};
-use case_sites::{event_of, moment_in, place_in, result, sights_of, unchecked_views, view_in};
+use case_words::{event_of, moment_in, place_in, result, sights_of, unchecked_views, view_in};
 use checkable_core::Checkable;
 use depend_graph::Graph;
 use site_base::{Moment, OutOfMemory, Text};

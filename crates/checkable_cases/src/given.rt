@@ -1,6 +1,6 @@
 // Entries that a checkable has from the start.
 use crate::outcomes::decision_of;
-use case_sites::{event_of, moment_in, number_in};
+use case_words::{event_of, moment_in, number_in};
 use site_base::{OutOfMemory, Row};
 use site_model::{Entry, Sight, Site, State};
 use std::alloc::Global;

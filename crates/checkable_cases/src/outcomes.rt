@@ -1,6 +1,7 @@
 // Decisions of entries that a checkable has from the start.
 use crate::given::place_or;
-use case_sites::{depend_named, kind_of, notify_named, number_in, user_named};
+use case_sites::{depend_named, notify_named, user_named};
+use case_words::{kind_of, number_in};
 use site_base::{OutOfMemory, Row};
 use site_model::{Decision, Outcome, Site};
 use std::alloc::Global;

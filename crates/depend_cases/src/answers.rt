@@ -4,7 +4,8 @@ ghost use Rattle.site_model.specs.PlainSite.{site_view};
 ghost use Rattle.depend_graph.specs.Graph.{IsGraphOf};
 
 use crate::views::views_of;
-use case_sites::{has_parents, sights_of};
+use case_sites::has_parents;
+use case_words::sights_of;
 use depend_graph::{Graph, GraphFault, Purpose, Reach};
 use site_base::{Moment, OutOfMemory, Text};
 use site_model::{Site, View};

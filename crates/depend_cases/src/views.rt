@@ -1,5 +1,5 @@
 // What checkables show, as rows describe it.
-use case_sites::{state_of, unchecked_views};
+use case_words::{state_of, unchecked_views};
 use site_base::OutOfMemory;
 use site_model::{Site, View};
 use std::alloc::Global;

@@ -1,5 +1,5 @@
 // What checkables show, as rows describe it.
-use crate::filters::state_of;
+use crate::names::state_of;
 use crate::numbers::number_in;
 use site_base::{Moment, OutOfMemory};
 use site_model::{Ack, Site, State, View};
