@@ -18,3 +18,4 @@ pub mod TargetLaws
 pub mod ArrayLaws
 pub mod HeadLaws
 pub mod ArmLaws
+pub mod Shorter

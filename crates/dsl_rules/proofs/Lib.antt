@@ -10,3 +10,4 @@ pub mod Loops
 pub mod Shape
 pub mod Deep
 pub mod Turning
+pub mod Shorter
