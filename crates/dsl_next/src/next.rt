@@ -1,5 +1,5 @@
 // The next token.
-ghost use Rattle.std.specs.Prelude.{◌≡◌, ◌<◌, [], ◌∷◌, drop, length};
+ghost use Rattle.std.specs.Prelude.{◌≡◌, ◌<◌, ◌≤◌, [], ◌∷◌, drop, length};
 ghost use Rattle.dsl_rules.specs.Alphabet.{at, same, skip};
 ghost use Rattle.dsl_rules.specs.Reading.{got, one_read};
 ghost use Rattle.dsl_grammar.specs.Codes.{sorts, kind_sort, word_sort, sign_sort, ident_sort, string_sort, line_sort};
@@ -172,9 +172,10 @@ pub fn skip_lines(tokens: &[Token]) -> &[Token]
     rest
 }
 
-/// The tokens behind newlines, of which at most `most` are read.
+/// The tokens behind all newlines, as productions read them.
 #[tactic(auto, unfolding(dsl_grammar::specs::Terms::nl))]
 pub fn newlines(most: usize, tokens: &[Token]) -> &[Token]
+    requires { length tokens.now ≤ most }
     ensures { read_by most nl tokens.now ≡ got 0 result.now }
 {
     let mut rest = tokens;
