@@ -46,18 +46,6 @@ thing_is most cs g e ss ts h = rw (e, h) (by (read_by most g ts))
 pub thing_absent : (most : ℕ) (cs : List Sort) (g : Rule Statement) → first sorts starts false g ≡ cs → (ss : Statements) (ts : List Token) → at sorts cs ts ≡ false → read_by most (made (add_turn add_statement ss) (maybe thing nothing g)) ts ≡ got ss ts
 thing_absent most cs g e ss ts h = rw (e, h) refl
 
--- With no token left in the bound, and with some.
-
-pub reads_none : (n : ℕ) (k : Name) (ts : List Token) → n ≡ 0 → reads n k ts ≡ bad ts
-unfolding reads
-reads_none zero k ts h = refl
-reads_none (suc n) k ts h = absurd cc
-
-pub reads_on : (n : ℕ) (k : Name) (ts : List Token) → n ≢ 0 → reads n k ts ≡ read_by n (production k) ts
-unfolding reads
-reads_on zero k ts h = absurd (h refl)
-reads_on (suc n) k ts h = let e : suc n - 1 ≡ n = omega arith in rw e refl
-
 -- The name of an apply rule.
 
 abbrev pub name_sorts : List Sort

@@ -1,11 +1,13 @@
 // Inclusions of other files.
-ghost use Rattle.std.specs.Prelude.{◌≡◌, codes};
+ghost use Rattle.std.specs.Prelude.{◌≡◌, ◌≤◌, [], ◌∷◌, codes, length};
 ghost use Rattle.dsl_lexer.specs.declared.sign.Sign.TheVariants as signs;
+ghost use Rattle.dsl_rules.specs.Reading.{one_read};
 ghost use Rattle.dsl_next.specs.Gives.{Gives};
-ghost use Rattle.dsl_grammar.specs.Grammar.{AngledName, Dashed, Included, IncludedAll, Inclusion, LibraryName, LocatedString, included as included_plain, included_library, included_all as included_all_plain};
+ghost use Rattle.dsl_grammar.specs.Codes.{sorts, string_sort};
+ghost use Rattle.dsl_grammar.specs.Grammar.{AngledName, Dashed, Included, IncludedAll, Inclusion, LibraryName, included as included_plain, included_library, included_all as included_all_plain, located};
 ghost use Rattle.dsl_statements.specs.NamedView.{located_view};
 ghost use Rattle.dsl_grammar.specs.Reading.{read_by};
-ghost use Rattle.dsl_grammar.specs.Terms.{STRING, behind, maybe, sign as sign_plain};
+ghost use Rattle.dsl_grammar.specs.Terms.{STRING, behind, maybe, sign as sign_plain, text};
 ghost use Rattle.dsl_syntax.specs.SyntaxView.{stmt_kind_view};
 
 use dsl_lexer::{Sign, Token, TokenKind, Word};
@@ -29,6 +31,7 @@ pub fn inclusion<'a>(
     most: usize,
     tokens: &'a [Token],
 ) -> Result<(StmtKind, &'a [Token]), Stop<'a>>
+    requires { length tokens.now ≤ most }
     ensures { Gives stmt_kind_view result (read_by most Inclusion tokens.now) }
 {
     if at_word(Word::Include, tokens) {
@@ -40,11 +43,12 @@ pub fn inclusion<'a>(
 /// One file: `"include" STRING | "include" "<" IDENT { "-" IDENT } ">"`.
 #[tactic(auto, unfolding(dsl_grammar::specs::Grammar::Included, dsl_grammar::specs::Grammar::LocatedString))]
 fn included<'a>(most: usize, tokens: &'a [Token]) -> Result<(StmtKind, &'a [Token]), Stop<'a>>
+    requires { length tokens.now ≤ most }
     ensures { Gives stmt_kind_view result (read_by most Included tokens.now) }
 {
     let (_, begin) = word(Word::Include, tokens)?;
     if at_string(begin) {
-        let (file, rest) = located_string(most, begin)?;
+        let (file, rest) = located_string(begin)?;
         return Ok((include_of(file), rest));
     }
     let (library, rest) = library_name(most, begin)?;
@@ -52,16 +56,17 @@ fn included<'a>(most: usize, tokens: &'a [Token]) -> Result<(StmtKind, &'a [Toke
 }
 
 /// All files of a folder: `"include_recursive" STRING [ "," STRING ]`.
-#[tactic(auto, unfolding(dsl_grammar::specs::Grammar::IncludedAll))]
+#[tactic(auto, unfolding(dsl_grammar::specs::Grammar::IncludedAll, dsl_grammar::specs::Grammar::LocatedString))]
 fn included_all<'a>(
     alloc: Global,
     most: usize,
     tokens: &'a [Token],
 ) -> Result<(StmtKind, &'a [Token]), Stop<'a>>
+    requires { length tokens.now ≤ most }
     ensures { Gives stmt_kind_view result (read_by most IncludedAll tokens.now) }
 {
     let (_, begin) = word(Word::IncludeRecursive, tokens)?;
-    let (folder, begin) = located_string(most, begin)?;
+    let (folder, begin) = located_string(begin)?;
     let (names, rest) = pattern(alloc, most, begin)?;
     Ok((include_all_of(folder, names), rest))
 }
@@ -72,6 +77,7 @@ fn pattern<'a>(
     most: usize,
     tokens: &'a [Token],
 ) -> Result<(Text, &'a [Token]), Stop<'a>>
+    requires { length tokens.now ≤ most }
     ensures { Gives (λ t. t) result (read_by most (maybe (λ n. n) (codes "*.conf") (behind (sign_plain signs.Comma) STRING)) tokens.now) }
 {
     if at_sign(Sign::Comma, tokens) {
@@ -83,6 +89,7 @@ fn pattern<'a>(
 /// A library's name, with the place of its `<`: `"<" IDENT { "-" IDENT } ">"`.
 #[tactic(auto, unfolding(dsl_grammar::specs::Grammar::LibraryName, dsl_grammar::specs::Grammar::AngledName))]
 fn library_name<'a>(most: usize, tokens: &'a [Token]) -> Result<(Located, &'a [Token]), Stop<'a>>
+    requires { length tokens.now ≤ most }
     ensures { Gives located_view result (read_by most LibraryName tokens.now) }
 {
     let [first, ..] = tokens else {
@@ -98,6 +105,7 @@ fn library_name<'a>(most: usize, tokens: &'a [Token]) -> Result<(Located, &'a [T
 /// A name with dashes: `IDENT { "-" IDENT }`.
 #[tactic(auto, unfolding(dsl_grammar::specs::Grammar::Dashed))]
 fn dashed_name<'a>(most: usize, tokens: &'a [Token]) -> Result<(Text, &'a [Token]), Stop<'a>>
+    requires { length tokens.now ≤ most }
     ensures { Gives (λ t. t) result (read_by most Dashed tokens.now) }
 {
     let (mut name, mut rest) = ident(tokens)?;
@@ -114,9 +122,8 @@ fn dashed_name<'a>(most: usize, tokens: &'a [Token]) -> Result<(Text, &'a [Token
 }
 
 /// A string, with its place.
-#[tactic(auto, unfolding(dsl_grammar::specs::Grammar::LocatedString))]
-fn located_string<'a>(most: usize, tokens: &'a [Token]) -> Result<(Located, &'a [Token]), Stop<'a>>
-    ensures { Gives located_view result (read_by most LocatedString tokens.now) }
+fn located_string<'a>(tokens: &'a [Token]) -> Result<(Located, &'a [Token]), Stop<'a>>
+    ensures { Gives located_view result (one_read sorts (string_sort ∷ []) (λ t. located t.place (text t)) tokens.now) }
 {
     match tokens {
         [
