@@ -1,5 +1,5 @@
 // Functions: their parameters, the names that they capture, and their definitions.
-ghost use Rattle.std.specs.Prelude.{◌≡◌, IfOk, []};
+ghost use Rattle.std.specs.Prelude.{◌≡◌, ◌≤◌, IfOk, [], length};
 ghost use Rattle.dsl_syntax.specs.Syntax.{define, expression, function, function_value, statement, return, some_expression, more_statements, no_statements};
 ghost use Rattle.dsl_syntax.specs.SyntaxView.{expr_view, func_view, maybe_expr_view, stmt_kind_view, stmts_view, uses_view};
 ghost use Rattle.dsl_syntax.specs.Lists.{add_use};
@@ -31,6 +31,7 @@ pub fn params<'a>(
     most: usize,
     tokens: &'a [Token],
 ) -> Result<(Texts, &'a [Token]), Stop<'a>>
+    requires { length tokens.now ≤ most }
     ensures { Gives (λ ps. ps) result (read_by most Params tokens.now) }
 {
     let (_, inner) = sign(Sign::OpenParen, tokens)?;
@@ -46,6 +47,7 @@ fn names<'a>(
     most: usize,
     tokens: &'a [Token],
 ) -> Result<(Texts, &'a [Token]), Stop<'a>>
+    requires { length tokens.now ≤ most }
     ensures { Gives (λ ps. ps) result (read_by most (maybe (λ ns. ns) [] Names) tokens.now) }
 {
     let mut list = Texts::new(alloc);

@@ -1,5 +1,5 @@
 // The operators of expressions.
-ghost use Rattle.std.specs.Prelude.{◌≡◌, ◌≤◌};
+ghost use Rattle.std.specs.Prelude.{◌≡◌, ◌≤◌, length};
 ghost use Rattle.dsl_rules.specs.Alphabet.{among, at};
 ghost use Rattle.dsl_grammar.specs.Codes.{sorts, kind_sort, sign_sort};
 ghost use Rattle.dsl_next.specs.Gives.{Gives};
@@ -20,7 +20,8 @@ pub fn operator<'a>(
     level: usize,
     tokens: &'a [Token],
 ) -> Result<(BinOp, &'a [Token]), Stop<'a>>
-    requires { level ≤ 10 }
+    requires within { level ≤ 10 }
+    requires bound { length tokens.now ≤ most }
     ensures { Gives (λ o. o) result (read_by most (Operator level) tokens.now) }
 {
     match tokens {

@@ -1,5 +1,5 @@
 // The operators before an operand.
-ghost use Rattle.std.specs.Prelude.{◌≡◌, IfOk};
+ghost use Rattle.std.specs.Prelude.{◌≡◌, ◌≤◌, IfOk, length};
 ghost use Rattle.dsl_syntax.specs.SyntaxView.{expr_view};
 ghost use Rattle.dsl_syntax.specs.Syntax.{expression, unary};
 ghost use Rattle.dsl_rules.specs.Grammar.{made};
@@ -29,6 +29,7 @@ pub fn prefixes<'a>(
     most: usize,
     tokens: &'a [Token],
 ) -> Result<(Vec<PrefixSign>, &'a [Token]), Stop<'a>>
+    requires { length tokens.now ≤ most }
     ensures { Gives (λ os. prefixes_view os.items) result (read_by most Prefixes tokens.now) }
 {
     let (mut signs, mut rest) = more_prefixes(Vec::new(alloc), tokens)?;
