@@ -1,9 +1,21 @@
 -- The statements of walked files by a walk's order.
-use Rattle.std.specs.Prelude.{ℕ, zero, suc, List, [], ◌∷◌, ◌++◌, Option, Some, None, slice_get, if◌then◌else◌}
+use Rattle.std.specs.Prelude.{ℕ, zero, suc, ◌≡◌, List, [], ◌∷◌, ◌++◌, Option, Some, None, true, slice_get, if◌then◌else◌}
 use Rattle.dsl_syntax.specs.Syntax.{Statement, statement, Statements, no_statements, more_statements}
-use Rattle.walk_order.specs.Orders.{is_inclusion}
+use Rattle.walk_order.specs.Orders.{is_inclusion, IsInclusion}
 
--- what was made of the statements, and the numbers that are left; or that some statement wasn't taken or the numbers fit no walk
+-- such numbers stand first
+pub record Begins (Piece : List ℕ → Type 0) (order : List ℕ) : Type 0 where
+  pub own : List ℕ
+  pub behind : List ℕ
+  pub whole : order ≡ own ++ behind
+  pub is : Piece own
+
+-- where a statement is an inclusion, its files stand next
+abbrev pub BeginsAt : (ℕ → List ℕ → Type 0) → Statement → List ℕ → Type 0
+BeginsAt P (statement p k) order = is_inclusion k ≡ true → Begins (IsInclusion P) order
+
+-- What was made of the statements, and the numbers that are left; or that some statement wasn't taken. Numbers that are no order of
+-- these trees are stuck too, but whatever goes through an order rests on `IsOrder` and meets none.
 pub data Went (S : Type 0) : Type 0 where
   went : List ℕ → S → Went S
   stuck : Went S

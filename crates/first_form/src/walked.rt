@@ -1,11 +1,11 @@
 // The objects of walked files.
-ghost use Rattle.std.specs.Prelude.{◌≡◌, true, map, IfOk};
+ghost use Rattle.std.specs.Prelude.{◌≡◌, ◌<◌, Some, true, length, map, IfOk};
 ghost use Rattle.dsl_syntax.specs.SyntaxView.{stmt_view, stmts_view, file_view};
-ghost use Rattle.walk_order.specs.Orders.{IsOrder};
+ghost use Rattle.walk_order.specs.Orders.{IsOrder, IsPart, IsInclusion, AreMany, inclusion_count};
 ghost use Rattle.first_form.specs.FirstSites.{first_site as first_site_of, fits};
 ghost use Rattle.first_form.specs.Gathering.{Gives, Goes};
 ghost use Rattle.first_form.specs.Gathering.{gathering_view, with_statement, objects_view, gathered};
-ghost use Rattle.first_form.specs.Orders.{part as part_of, statement_by, statements_by, inclusion_by, first_number as first_in};
+ghost use Rattle.first_form.specs.Orders.{Begins, BeginsAt, part as part_of, statement_by, statements_by, inclusion_by, first_number as first_in};
 
 use crate::form_error::FormError;
 use crate::gathering::{FirstSite, Gathering};
@@ -28,16 +28,13 @@ pub fn first_site(alloc: Global, trees: &[File], order: &[u32]) -> Result<FirstS
 
 #[tactic(auto, unfolding(crate::specs::Gathering::gathered))]
 fn gathered_site(alloc: Global, trees: &[File], order: &[u32]) -> Result<FirstSite, FormError>
+    requires { IsOrder (map file_view trees.now) order.now }
     ensures { Gives objects_view result (gathered (map file_view trees.now) order.now) }
 {
-    match order {
-        [root, rest @ ..] => {
-            let mut gathering = Gathering::new(alloc);
-            part(alloc, &mut gathering, trees, MOST_FILES, *root, rest)?;
-            gathering.finish()
-        }
-        [] => Err(FormError::OtherForm),
-    }
+    let (root, rest) = first_number(order);
+    let mut gathering = Gathering::new(alloc);
+    part(alloc, &mut gathering, trees, MOST_FILES, root, rest)?;
+    gathering.finish()
 }
 
 /// Gathers the part of a file, where files may stand so deep in one another, and gives the rest of the
@@ -51,16 +48,12 @@ fn part<'a>(
     index: u32,
     order: &'a [u32],
 ) -> Result<&'a [u32], FormError>
+    requires { Begins (IsPart (map file_view trees.now) depth index) order.now }
     ensures { Goes result (gathering_view site.new) (part_of with_statement (map file_view trees.now) depth index order.now (gathering_view site.old)) }
 {
-    if depth == 0 {
-        return Err(FormError::OtherForm);
-    }
-    let (_, own) = first_number(order)?;
-    match trees.get(index as usize) {
-        Some(file) => statements(alloc, site, trees, depth - 1, &file.statements, own),
-        None => Err(FormError::OtherForm),
-    }
+    let (_, own) = first_number(order);
+    let file = &trees[index as usize];
+    statements(alloc, site, trees, depth - 1, &file.statements, own)
 }
 
 /// Gathers the statements of a file.
@@ -73,6 +66,7 @@ fn statements<'a>(
     statements: &[Stmt],
     order: &'a [u32],
 ) -> Result<&'a [u32], FormError>
+    requires { Begins (AreMany (IsInclusion (IsPart (map file_view trees.now) depth)) (inclusion_count (stmts_view statements.now))) order.now }
     ensures { Goes result (gathering_view site.new) (statements_by with_statement (part_of with_statement (map file_view trees.now) depth) (stmts_view statements.now) order.now (gathering_view site.old)) }
 {
     let mut rest = order;
@@ -92,6 +86,7 @@ fn one_statement<'a>(
     statement: &Stmt,
     order: &'a [u32],
 ) -> Result<&'a [u32], FormError>
+    requires { BeginsAt (IsPart (map file_view trees.now) depth) (stmt_view statement.now) order.now }
     ensures { Goes result (gathering_view site.new) (statement_by with_statement (part_of with_statement (map file_view trees.now) depth) (stmt_view statement.now) order.now (gathering_view site.old)) }
 {
     if is_inclusion(statement) {
@@ -110,22 +105,22 @@ fn inclusion<'a>(
     depth: u32,
     order: &'a [u32],
 ) -> Result<&'a [u32], FormError>
+    requires { Begins (IsInclusion (IsPart (map file_view trees.now) depth)) order.now }
     ensures { Goes result (gathering_view site.new) (inclusion_by (part_of with_statement (map file_view trees.now) depth) order.now (gathering_view site.old)) }
 {
-    let (count, mut rest) = first_number(order)?;
+    let (count, mut rest) = first_number(order);
     for _ in 0..count {
-        let (index, more) = first_number(rest)?;
+        let (index, more) = first_number(rest);
         rest = part(alloc, site, trees, depth, index, more)?;
     }
     Ok(rest)
 }
 
 /// The first number and those behind it.
-fn first_number(order: &[u32]) -> Result<(u32, &[u32]), FormError>
-    ensures { Gives (λ p. (p.0, p.1.now)) result (first_in order.now) }
+fn first_number(order: &[u32]) -> (u32, &[u32])
+    requires { 0 < length order.now }
+    ensures { first_in order.now ≡ Some (result.0, result.1.now) }
 {
-    match order {
-        [first, rest @ ..] => Ok((*first, rest)),
-        [] => Err(FormError::OtherForm),
-    }
+    let (first, rest) = order.split_at(1);
+    (first[0], rest)
 }
