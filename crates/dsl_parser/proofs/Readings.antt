@@ -1,35 +1,51 @@
 -- What expressions read, by what stands next.
-use Rattle.std.proofs.Common.{◌≡◌, ◌≢◌, ◌-◌, ℕ, suc, List, [], ◌∷◌, Bool, true, false, refl, ◌∙◌}
+use Rattle.std.proofs.Common.{◌≡◌, ◌≤◌, ◌-◌, ℕ, zero, suc, List, [], ◌∷◌, length, Bool, true, false, Result, Ok, Err, refl, sym, ap, subst, ◌∙◌, arith}
 use Rattle.dsl_syntax.specs.declared.set_op.SetOp.{SetOp}
 use Rattle.dsl_syntax.specs.Syntax.{Expression, Expressions}
 use Rattle.dsl_rules.specs.Alphabet.{Sort, at, and, over}
 use Rattle.dsl_rules.specs.Rules.{may}
 use Rattle.dsl_rules.specs.Reading.{Read, got, bad, ◌>>=◌, one_read, turns}
-use Rattle.dsl_grammar.specs.Codes.{sorts}
+use Rattle.site_base.specs.declared.place.Place.{Place}
+use Rattle.dsl_lexer.specs.declared.sign.Sign.TheVariants as signs
+use Rattle.dsl_grammar.specs.Codes.{sorts, sign_sort}
 use Rattle.dsl_grammar.specs.Operators.{set_sorts, set_of}
 use Rattle.dsl_statements.specs.Parts.{set_of_left}
 use Rattle.dsl_lexer.specs.declared.token.Token.{Token}
 use Rattle.dsl_rules.specs.Grammar.{made}
-use Rattle.dsl_grammar.specs.Grammar.{Arguments, Listed, Whole, Lambda, Level, begun_expression, begins_lambda, SetTo, setting}
+use Rattle.std.specs.Borrow.{Bor}
+use Rattle.std.specs.Result.{IsErrAnd}
+use Rattle.dsl_next.specs.Gives.{Gives}
+use Rattle.dsl_next.specs.declared.stop.Stop.{Stop}
+use Rattle.dsl_next.specs.declared.stop.Stop.TheVariants as stops
+use Rattle.dsl_grammar.specs.Grammar.{Arguments, Braced, Listed, Whole, Lambda, Level, Begun, OneTail, index_tail, with_tail, begun_expression, begins_lambda, SetTo, setting}
 use Rattle.dsl_grammar.specs.Reading.{reads, read_by}
-use Rattle.dsl_grammar.specs.Terms.{expr, nl, starts}
-use Rattle.dsl_grammar.proofs.LevelReads.{expr_on}
+use Rattle.dsl_grammar.specs.Terms.{block, expr, nl, starts}
+use Rattle.dsl_grammar.proofs.LevelReads.{name_is, expr_is}
+use Rattle.dsl_statements.specs.Leads.{braced_in}
+use Rattle.dsl_statements.specs.declared.leads.Within.TheVariants as within
+
+-- a block
+pub block_is : (n : ℕ) (ts : List Token) → length ts ≤ n → reads n block ts ≡ read_by n (braced_in within.Block) ts
+unfolding reads Braced
+block_is zero [] le = refl
+block_is zero (t ∷ ts) le = absurd (omega arith)
+block_is (suc n) ts le = name_is (suc n) block ts (omega arith)
 
 -- a function with "=>"
 whole_lambda : (n : ℕ) (ts : List Token) → begins_lambda ts ≡ true → read_by n Whole ts ≡ read_by n Lambda ts
 unfolding Whole
 whole_lambda n ts h = rw h refl
 
-pub expr_lambda : (n : ℕ) (ts : List Token) → n ≢ 0 → begins_lambda ts ≡ true → reads n expr ts ≡ read_by n Lambda ts
-expr_lambda n ts some h = expr_on n ts some ∙ whole_lambda n ts h
+pub expr_lambda : (n : ℕ) (ts : List Token) → length ts ≤ n → begins_lambda ts ≡ true → reads n expr ts ≡ read_by n Lambda ts
+expr_lambda n ts le h = expr_is n ts le ∙ whole_lambda n ts h
 
 -- operands between operators
 whole_levels : (n : ℕ) (ts : List Token) → begins_lambda ts ≡ false → read_by n Whole ts ≡ read_by n (made begun_expression (Level 11)) ts
 unfolding Whole
 whole_levels n ts h = rw h refl
 
-pub expr_levels : (n : ℕ) (ts : List Token) → n ≢ 0 → begins_lambda ts ≡ false → reads n expr ts ≡ read_by n (made begun_expression (Level 11)) ts
-expr_levels n ts some h = expr_on n ts some ∙ whole_levels n ts h
+pub expr_levels : (n : ℕ) (ts : List Token) → length ts ≤ n → begins_lambda ts ≡ false → reads n expr ts ≡ read_by n (made begun_expression (Level 11)) ts
+expr_levels n ts le h = expr_is n ts le ∙ whole_levels n ts h
 
 -- what is assigned
 pub set_got : (n : ℕ) (e x : Expression) (o : SetOp) (ts mid inner rest : List Token) → one_read sorts set_sorts (λ t. set_of t.kind) ts ≡ got o mid → read_by n nl mid ≡ got 0 inner → reads (n - 1) expr inner ≡ got x rest → read_by n (made (set_of_left e) SetTo) ts ≡ got (set_of_left e (setting o x)) rest
@@ -61,3 +77,22 @@ arguments_are n ts h = rw h (by (read_by n Listed ts))
     by : (r : Read Token Expressions) → (r >>= λ x rest. got x rest) ≡ r
     by (got x rest) = refl
     by (bad s) = refl
+
+-- an element of an operand
+pub index_read : (n : ℕ) (b : Begun) (i : Expression) (p : Place) (ts inner after : List Token) → at sorts (sign_sort signs.Dot ∷ []) ts ≡ false → at sorts (sign_sort signs.OpenBracket ∷ []) ts ≡ true → one_read sorts (sign_sort signs.OpenBracket ∷ []) (λ t. t.place) ts ≡ got p inner → reads (n - 1) expr inner ≡ got i after
+    → read_by n (made (with_tail b) OneTail) ts ≡ (one_read sorts (sign_sort signs.CloseBracket ∷ []) (λ t. t.place) after >>= λ q rest. got (with_tail b (index_tail i)) rest)
+unfolding OneTail
+index_read n b i p ts inner after away here opened read = rw (away, here, opened, read) (by (one_read sorts (sign_sort signs.CloseBracket ∷ []) (λ t. t.place) after))
+  where
+    by : (r : Read Token Place) → ((((r >>= λ q rest. got i rest) >>= λ x rest. got x rest) >>= λ x rest. got (index_tail x) rest) >>= λ x rest. got (with_tail b x) rest) ≡ (r >>= λ q rest. got (with_tail b (index_tail i)) rest)
+    by (got q rest) = refl
+    by (bad s) = refl
+
+-- what stops a part stops the whole
+pub stopped : {A B C D : Type 0} (v : A → D) (w : B → C) (result : Result (A × Bor (List Token)) Stop) (e : Stop) (r : Read Token C) (f : C → List Token → Read Token D) → IsErrAnd result (λ x. x ≡ e) → Gives {A = B} w (Err e) r → Gives v result (r >>= f)
+stopped v w (Ok x) e r f h q = absurd h
+stopped {A} {B} v w (Err x) e r f h q = subst (λ s. Gives {A = A} v (Err s) (r >>= f)) (sym h) (by e q)
+  where
+    by : (s : Stop) → Gives {A = B} w (Err s) r → Gives {A = A} v (Err s) (r >>= f)
+    by (stops.Fault g) q = ap (λ z. z >>= f) q
+    by stops.Memory q = tt

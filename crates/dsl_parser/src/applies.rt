@@ -1,5 +1,5 @@
 // Apply rules.
-ghost use Rattle.std.specs.Prelude.{◌<◌};
+ghost use Rattle.std.specs.Prelude.{◌<◌, length};
 ghost use Rattle.dsl_rules.specs.Grammar.{made};
 ghost use Rattle.dsl_next.specs.Gives.{Gives};
 ghost use Rattle.dsl_grammar.specs.Grammar.{AnyHead, ApplyHeads, ApplyName, ApplyStatement, add_head};
@@ -29,7 +29,7 @@ pub(crate) fn apply_statement<'a>(
     most: usize,
     tokens: &'a [Token],
 ) -> Result<(StmtKind, &'a [Token]), Stop<'a>>
-    requires { 0 < most }
+    requires { length tokens.now < most }
     ensures { Gives stmt_kind_view result (read_by most ApplyStatement tokens.now) }
 {
     let (_, begin) = word(Word::Apply, tokens)?;
@@ -49,7 +49,7 @@ fn apply_name<'a>(
     most: usize,
     tokens: &'a [Token],
 ) -> Result<(Option<Expr>, &'a [Token]), Stop<'a>>
-    requires { 0 < most }
+    requires { length tokens.now < most }
     ensures { Gives maybe_expr_view result (read_by most ApplyName tokens.now) }
 {
     if !at_apply_name(tokens) {
@@ -67,7 +67,7 @@ fn apply_heads<'a>(
     most: usize,
     tokens: &'a [Token],
 ) -> Result<(Heads, &'a [Token]), Stop<'a>>
-    requires { 0 < most }
+    requires { length tokens.now < most }
     ensures { Gives heads_view result (read_by most ApplyHeads tokens.now) }
 {
     let mut heads = Heads {
@@ -95,7 +95,7 @@ fn more_heads<'a>(
     heads: Heads,
     tokens: &'a [Token],
 ) -> Result<(Heads, &'a [Token]), Stop<'a>>
-    requires { 0 < most }
+    requires { length tokens.now < most }
     ensures { Gives heads_view result (read_by most (made (add_head (heads_view heads)) AnyHead) tokens.now) }
 {
     if at_word(Word::To, tokens) {

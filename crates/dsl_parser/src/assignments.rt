@@ -1,5 +1,5 @@
 // Assignments, and expressions as statements.
-ghost use Rattle.std.specs.Prelude.{◌<◌};
+ghost use Rattle.std.specs.Prelude.{◌<◌, length};
 ghost use Rattle.dsl_syntax.specs.SyntaxView.{stmt_kind_view};
 ghost use Rattle.dsl_next.specs.Gives.{Gives};
 ghost use Rattle.dsl_grammar.specs.Grammar.{SetOrEval};
@@ -21,7 +21,7 @@ pub(crate) fn set_or_eval<'a>(
     most: usize,
     tokens: &'a [Token],
 ) -> Result<(StmtKind, &'a [Token]), Stop<'a>>
-    requires { 0 < most }
+    requires { length tokens.now < most }
     ensures { Gives stmt_kind_view result (read_by most SetOrEval tokens.now) }
 {
     if tokens.is_empty() {

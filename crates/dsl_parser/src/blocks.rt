@@ -1,5 +1,5 @@
 // Statements of files, of blocks, and of the bodies of objects, templates and apply rules.
-ghost use Rattle.std.specs.Prelude.{◌<◌};
+ghost use Rattle.std.specs.Prelude.{◌<◌, ◌≤◌, length};
 ghost use Rattle.dsl_rules.specs.Grammar.{made};
 ghost use Rattle.dsl_next.specs.Gives.{Gives};
 ghost use Rattle.dsl_syntax.specs.Lists.{add_statement};
@@ -16,18 +16,16 @@ use dsl_statements::leads::{Within, added, next_lead, separates};
 use dsl_syntax::Stmt;
 use std::alloc::Global;
 
-/// A block, of which at most `most` tokens are read: `"{" {sep} [ stmt { sep {sep} stmt } {sep} ] "}"`.
+/// A block, `"{" {sep} [ stmt { sep {sep} stmt } {sep} ] "}"`.
 #[cycle(parse)]
 pub(crate) fn block<'a>(
     alloc: Global,
     most: usize,
     tokens: &'a [Token],
 ) -> Result<(Vec<Stmt>, &'a [Token]), Stop<'a>>
+    requires { length tokens.now ≤ most }
     ensures { Gives (λ b. stmts_view b.items) result (reads most block_name tokens.now) }
 {
-    if most == 0 {
-        return Err(Stop::Fault(tokens));
-    }
     braced(alloc, most, Within::Block, tokens)
 }
 
@@ -39,7 +37,7 @@ pub(crate) fn braced<'a>(
     within: Within,
     tokens: &'a [Token],
 ) -> Result<(Vec<Stmt>, &'a [Token]), Stop<'a>>
-    requires { 0 < most }
+    requires { length tokens.now ≤ most }
     ensures { Gives (λ b. stmts_view b.items) result (read_by most (braced_in within) tokens.now) }
 {
     let (_, inner) = sign(Sign::OpenBrace, tokens)?;
@@ -56,7 +54,7 @@ pub(crate) fn statements<'a>(
     within: Within,
     tokens: &'a [Token],
 ) -> Result<(Vec<Stmt>, &'a [Token]), Stop<'a>>
-    requires { 0 < most }
+    requires { length tokens.now < most }
     ensures { Gives (λ b. stmts_view b.items) result (read_by most (all_in within) tokens.now) }
 {
     let (mut list, mut rest) = with_statement(alloc, most, within, Vec::new(alloc), tokens)?;
@@ -80,7 +78,7 @@ fn with_statement<'a>(
     list: Vec<Stmt>,
     tokens: &'a [Token],
 ) -> Result<(Vec<Stmt>, &'a [Token]), Stop<'a>>
-    requires { 0 < most }
+    requires { length tokens.now < most }
     ensures { Gives (λ b. stmts_view b.items) result
         (read_by most (made (add_turn add_statement (stmts_view list.items)) (maybe_in within)) tokens.now) }
 {

@@ -1,5 +1,5 @@
 // The arms of an `if`.
-ghost use Rattle.std.specs.Prelude.{◌<◌};
+ghost use Rattle.std.specs.Prelude.{◌<◌, length};
 ghost use Rattle.dsl_syntax.specs.SyntaxView.{armed_view};
 ghost use Rattle.dsl_next.specs.Gives.{Gives};
 ghost use Rattle.dsl_grammar.specs.Grammar.{Choices, Else, Guarded, add_else};
@@ -25,7 +25,7 @@ pub(crate) fn choices<'a>(
     most: usize,
     tokens: &'a [Token],
 ) -> Result<(Choice, &'a [Token]), Stop<'a>>
-    requires { 0 < most }
+    requires { length tokens.now < most }
     ensures { Gives choice_view result (read_by most Choices tokens.now) }
 {
     let (_, begin) = word(Word::If, tokens)?;
@@ -52,7 +52,7 @@ fn more_choice<'a>(
     choice: Choice,
     tokens: &'a [Token],
 ) -> Result<(Choice, &'a [Token]), Stop<'a>>
-    requires { 0 < most }
+    requires { length tokens.now < most }
     ensures { Gives choice_view result (read_by most (made (add_else (choice_view choice)) Else) tokens.now) }
 {
     let (_, begin) = word(Word::Else, tokens)?;
@@ -74,7 +74,7 @@ pub(crate) fn guarded<'a>(
     most: usize,
     tokens: &'a [Token],
 ) -> Result<(Arm, &'a [Token]), Stop<'a>>
-    requires { 0 < most }
+    requires { length tokens.now < most }
     ensures { Gives armed_view result (read_by most Guarded tokens.now) }
 {
     let (_, inner) = sign(Sign::OpenParen, tokens)?;

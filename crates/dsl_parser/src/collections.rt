@@ -1,5 +1,5 @@
 // Arrays and dictionaries.
-ghost use Rattle.std.specs.Prelude.{◌<◌, true};
+ghost use Rattle.std.specs.Prelude.{◌<◌, ◌≤◌, true, length};
 ghost use Rattle.dsl_syntax.specs.SyntaxView.{expr_view, maybe_expr_view, entries_view};
 ghost use Rattle.dsl_rules.specs.Grammar.{made};
 ghost use Rattle.dsl_parts.specs.ExprParts.{slots_view};
@@ -27,7 +27,7 @@ pub(crate) fn array<'a>(
     most: usize,
     tokens: &'a [Token],
 ) -> Result<(Expr, &'a [Token]), Stop<'a>>
-    requires { 0 < most }
+    requires { length tokens.now ≤ most }
     ensures { Gives expr_view result (read_by most Array tokens.now) }
 {
     let [first, ..] = tokens else {
@@ -48,7 +48,7 @@ fn elements<'a>(
     most: usize,
     tokens: &'a [Token],
 ) -> Result<(Slots, &'a [Token]), Stop<'a>>
-    requires { 0 < most }
+    requires { length tokens.now < most }
     ensures { Gives slots_view result (read_by most Elements tokens.now) }
 {
     let none = Slots {
@@ -77,7 +77,7 @@ pub(crate) fn slot<'a>(
     most: usize,
     tokens: &'a [Token],
 ) -> Result<(Option<Expr>, &'a [Token]), Stop<'a>>
-    requires { 0 < most }
+    requires { length tokens.now < most }
     ensures { Gives maybe_expr_view result (read_by most Slot tokens.now) }
 {
     if at_expr(tokens) {
@@ -96,7 +96,7 @@ pub(crate) fn dictionary<'a>(
     most: usize,
     tokens: &'a [Token],
 ) -> Result<(Expr, &'a [Token]), Stop<'a>>
-    requires { 0 < most }
+    requires { length tokens.now ≤ most }
     ensures { Gives expr_view result (read_by most Dict tokens.now) }
 {
     let [first, ..] = tokens else {
@@ -117,7 +117,7 @@ fn pairs<'a>(
     most: usize,
     tokens: &'a [Token],
 ) -> Result<(Vec<(Text, Expr)>, &'a [Token]), Stop<'a>>
-    requires { 0 < most }
+    requires { length tokens.now < most }
     ensures { Gives (λ ps. entries_view ps.items) result (read_by most Pairs tokens.now) }
 {
     let (mut entries, mut rest) = with_pair(alloc, most, Vec::new(alloc), tokens)?;
@@ -141,7 +141,7 @@ fn with_pair<'a>(
     entries: Vec<(Text, Expr)>,
     tokens: &'a [Token],
 ) -> Result<(Vec<(Text, Expr)>, &'a [Token]), Stop<'a>>
-    requires { 0 < most }
+    requires { length tokens.now < most }
     ensures { Gives (λ ps. entries_view ps.items) result
         (read_by most (made (add_turn add_pair (entries_view entries.items)) MaybePair) tokens.now) }
 {

@@ -1,5 +1,5 @@
 // Expressions, and the levels of operators in them.
-ghost use Rattle.std.specs.Prelude.{◌<◌, ◌≤◌};
+ghost use Rattle.std.specs.Prelude.{◌<◌, ◌≤◌, length};
 ghost use Rattle.dsl_syntax.specs.SyntaxView.{expr_view, stmts_view};
 ghost use Rattle.dsl_parts.specs.ExprParts.{operand_view};
 ghost use Rattle.dsl_next.specs.Gives.{Gives};
@@ -21,16 +21,17 @@ use dsl_parts::prefixes::{applied, prefixes};
 use dsl_syntax::{Expr, Stmt};
 use std::alloc::Global;
 
-/// An expression, of which at most `most` tokens are read: a function with `=>`, or operands between operators.
+/// An expression: a function with `=>`, or operands between operators. There is none at the end of the tokens.
 #[cycle(parse)]
 pub(crate) fn expr<'a>(
     alloc: Global,
     most: usize,
     tokens: &'a [Token],
 ) -> Result<(Expr, &'a [Token]), Stop<'a>>
+    requires { length tokens.now ≤ most }
     ensures { Gives expr_view result (reads most expr_name tokens.now) }
 {
-    if most == 0 {
+    if tokens.is_empty() {
         return Err(Stop::Fault(tokens));
     }
     if begins_lambda(tokens) {
@@ -48,7 +49,7 @@ fn lambda<'a>(
     most: usize,
     tokens: &'a [Token],
 ) -> Result<(Expr, &'a [Token]), Stop<'a>>
-    requires { 0 < most }
+    requires { length tokens.now ≤ most }
     ensures { Gives expr_view result (read_by most Lambda tokens.now) }
 {
     let [first, ..] = tokens else {
@@ -70,7 +71,7 @@ fn lambda_body<'a>(
     most: usize,
     tokens: &'a [Token],
 ) -> Result<(Vec<Stmt>, &'a [Token]), Stop<'a>>
-    requires { 0 < most }
+    requires { length tokens.now < most }
     ensures { Gives (λ b. stmts_view b.items) result (read_by most LambdaBody tokens.now) }
 {
     if at_sign(Sign::OpenBrace, tokens) {
@@ -95,6 +96,7 @@ fn operation<'a>(
     tokens: &'a [Token],
 ) -> Result<(Operand, &'a [Token]), Stop<'a>>
     requires some { 0 < most }
+    requires bound { length tokens.now ≤ most }
     requires within { level ≤ 11 }
     ensures { Gives operand_view result (read_by most (Level level) tokens.now) }
 {
@@ -106,7 +108,8 @@ fn operation<'a>(
     while let Some(next) = climbed(most, level, climb, rest) {
         let (op, middle) = operator(most, next.level, rest)?;
         let (right, after) = operation(alloc, most, next.level, middle)?;
-        left = joined(alloc, left, op, right)?;
+        let longer = joined(alloc, left, op, right)?;
+        left = longer;
         rest = after;
         climb = next;
     }
@@ -121,7 +124,7 @@ fn unary<'a>(
     most: usize,
     tokens: &'a [Token],
 ) -> Result<(Operand, &'a [Token]), Stop<'a>>
-    requires { 0 < most }
+    requires { length tokens.now ≤ most }
     ensures { Gives operand_view result (read_by most Unary tokens.now) }
 {
     let [first, ..] = tokens else {

@@ -1,5 +1,5 @@
 // Functions: their parameters and the names that they capture.
-ghost use Rattle.std.specs.Prelude.{◌<◌};
+ghost use Rattle.std.specs.Prelude.{◌<◌, length};
 ghost use Rattle.dsl_syntax.specs.SyntaxView.{func_view, uses_view};
 ghost use Rattle.dsl_rules.specs.Grammar.{made};
 ghost use Rattle.dsl_next.specs.Gives.{Gives};
@@ -23,7 +23,7 @@ pub(crate) fn func<'a>(
     most: usize,
     tokens: &'a [Token],
 ) -> Result<(Func, &'a [Token]), Stop<'a>>
-    requires { 0 < most }
+    requires { length tokens.now < most }
     ensures { Gives func_view result (read_by most FuncRule tokens.now) }
 {
     let (names, after) = params(alloc, most, tokens)?;
@@ -40,7 +40,7 @@ pub(crate) fn captured<'a>(
     most: usize,
     tokens: &'a [Token],
 ) -> Result<(Vec<Use>, &'a [Token]), Stop<'a>>
-    requires { 0 < most }
+    requires { length tokens.now < most }
     ensures { Gives (λ us. uses_view us.items) result (read_by most MaybeUse tokens.now) }
 {
     if !at_word(Word::Use, tokens) {
@@ -61,7 +61,7 @@ fn use_names<'a>(
     most: usize,
     tokens: &'a [Token],
 ) -> Result<(Vec<Use>, &'a [Token]), Stop<'a>>
-    requires { 0 < most }
+    requires { length tokens.now < most }
     ensures { Gives (λ us. uses_view us.items) result (read_by most UseNames tokens.now) }
 {
     let (mut uses, mut rest) = with_captured(alloc, most, Vec::new(alloc), tokens)?;
@@ -85,7 +85,7 @@ fn with_captured<'a>(
     uses: Vec<Use>,
     tokens: &'a [Token],
 ) -> Result<(Vec<Use>, &'a [Token]), Stop<'a>>
-    requires { 0 < most }
+    requires { length tokens.now < most }
     ensures { Gives (λ us. uses_view us.items) result (read_by most (made (add_captured (uses_view uses.items)) OneUse) tokens.now) }
 {
     let (name, middle) = ident(tokens)?;

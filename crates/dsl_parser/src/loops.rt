@@ -1,5 +1,5 @@
 // The statement `for`, and the heads of loops.
-ghost use Rattle.std.specs.Prelude.{◌<◌};
+ghost use Rattle.std.specs.Prelude.{◌<◌, length};
 ghost use Rattle.dsl_syntax.specs.SyntaxView.{each_view, stmt_kind_view};
 ghost use Rattle.dsl_next.specs.Gives.{Gives};
 ghost use Rattle.dsl_grammar.specs.Grammar.{LoopHead, ForStatement};
@@ -22,7 +22,7 @@ pub(crate) fn for_statement<'a>(
     most: usize,
     tokens: &'a [Token],
 ) -> Result<(StmtKind, &'a [Token]), Stop<'a>>
-    requires { 0 < most }
+    requires { length tokens.now < most }
     ensures { Gives stmt_kind_view result (read_by most ForStatement tokens.now) }
 {
     let (_, begin) = word(Word::For, tokens)?;
@@ -39,7 +39,7 @@ pub(crate) fn loop_head<'a>(
     most: usize,
     tokens: &'a [Token],
 ) -> Result<(Each, &'a [Token]), Stop<'a>>
-    requires { 0 < most }
+    requires { length tokens.now < most }
     ensures { Gives each_view result (read_by most LoopHead tokens.now) }
 {
     let (_, rest) = sign(Sign::OpenParen, tokens)?;

@@ -1,5 +1,5 @@
 // Objects and templates.
-ghost use Rattle.std.specs.Prelude.{◌<◌};
+ghost use Rattle.std.specs.Prelude.{◌<◌, length};
 ghost use Rattle.dsl_syntax.specs.SyntaxView.{stmt_kind_view};
 ghost use Rattle.dsl_rules.specs.Grammar.{made};
 ghost use Rattle.dsl_next.specs.Gives.{Gives};
@@ -28,7 +28,7 @@ pub(crate) fn named_statement<'a>(
     first: Word,
     tokens: &'a [Token],
 ) -> Result<(StmtKind, &'a [Token]), Stop<'a>>
-    requires { 0 < most }
+    requires { length tokens.now < most }
     ensures { Gives stmt_kind_view result (read_by most (behind (word_rule first) (made (named_plain first) NamedBody)) tokens.now) }
 {
     let (_, begin) = word(first, tokens)?;

@@ -1,5 +1,5 @@
 // What statements are.
-ghost use Rattle.std.specs.Prelude.{◌<◌};
+ghost use Rattle.std.specs.Prelude.{◌<◌, length};
 ghost use Rattle.dsl_syntax.specs.SyntaxView.{stmt_kind_view};
 ghost use Rattle.dsl_next.specs.Gives.{Gives};
 ghost use Rattle.dsl_grammar.specs.Grammar.{ConstStatement, VarStatement, Define};
@@ -36,7 +36,7 @@ pub(crate) fn statement_kind<'a>(
     lead: Lead,
     tokens: &'a [Token],
 ) -> Result<(StmtKind, &'a [Token]), Stop<'a>>
-    requires { 0 < most }
+    requires { length tokens.now < most }
     ensures { Gives stmt_kind_view result (read_by most (led lead) tokens.now) }
 {
     match lead {
@@ -82,7 +82,7 @@ fn var_statement<'a>(
     most: usize,
     tokens: &'a [Token],
 ) -> Result<(StmtKind, &'a [Token]), Stop<'a>>
-    requires { 0 < most }
+    requires { length tokens.now < most }
     ensures { Gives stmt_kind_view result (read_by most VarStatement tokens.now) }
 {
     let (_, begin) = word(Word::Var, tokens)?;
@@ -104,7 +104,7 @@ fn const_statement<'a>(
     most: usize,
     tokens: &'a [Token],
 ) -> Result<(StmtKind, &'a [Token]), Stop<'a>>
-    requires { 0 < most }
+    requires { length tokens.now < most }
     ensures { Gives stmt_kind_view result (read_by most ConstStatement tokens.now) }
 {
     let (_, begin) = word(Word::Const, tokens)?;
@@ -122,7 +122,7 @@ fn worded_statement<'a>(
     first: Word,
     tokens: &'a [Token],
 ) -> Result<(StmtKind, &'a [Token]), Stop<'a>>
-    requires { 0 < most }
+    requires { length tokens.now < most }
     ensures { Gives stmt_kind_view result (read_by most (led (leads.Worded first)) tokens.now) }
 {
     let (_, begin) = heading(first, tokens)?;
@@ -138,7 +138,7 @@ fn define_statement<'a>(
     most: usize,
     tokens: &'a [Token],
 ) -> Result<(StmtKind, &'a [Token]), Stop<'a>>
-    requires { 0 < most }
+    requires { length tokens.now < most }
     ensures { Gives stmt_kind_view result (read_by most Define tokens.now) }
 {
     let (_, begin) = word(Word::Function, tokens)?;

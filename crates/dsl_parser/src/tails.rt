@@ -1,5 +1,5 @@
 // Primary expressions, and the members, elements and calls behind them.
-ghost use Rattle.std.specs.Prelude.{◌<◌};
+ghost use Rattle.std.specs.Prelude.{◌<◌, ◌≤◌, length};
 ghost use Rattle.dsl_syntax.specs.SyntaxView.{expr_view, exprs_view};
 ghost use Rattle.dsl_rules.specs.Grammar.{made};
 ghost use Rattle.dsl_parts.specs.ExprParts.{operand_view};
@@ -29,7 +29,7 @@ pub(crate) fn postfix<'a>(
     most: usize,
     tokens: &'a [Token],
 ) -> Result<(Operand, &'a [Token]), Stop<'a>>
-    requires { 0 < most }
+    requires { length tokens.now ≤ most }
     ensures { Gives operand_view result (read_by most Postfix tokens.now) }
 {
     let [first, ..] = tokens else {
@@ -57,7 +57,7 @@ fn primary<'a>(
     most: usize,
     tokens: &'a [Token],
 ) -> Result<(Expr, &'a [Token]), Stop<'a>>
-    requires { 0 < most }
+    requires { length tokens.now ≤ most }
     ensures { Gives expr_view result (read_by most Prim tokens.now) }
 {
     if at_literal(tokens) {
@@ -91,7 +91,7 @@ fn with_next_tail<'a>(
     operand: Operand,
     tokens: &'a [Token],
 ) -> Result<(Operand, &'a [Token]), Stop<'a>>
-    requires { 0 < most }
+    requires { length tokens.now ≤ most }
     ensures { Gives operand_view result (read_by most (made (with_tail (operand_view operand)) OneTail) tokens.now) }
 {
     if at_sign(Sign::Dot, tokens) {
@@ -119,7 +119,7 @@ fn arguments<'a>(
     most: usize,
     tokens: &'a [Token],
 ) -> Result<(Vec<Expr>, &'a [Token]), Stop<'a>>
-    requires { 0 < most }
+    requires { length tokens.now < most }
     ensures { Gives (λ es. exprs_view es.items) result (read_by most Arguments tokens.now) }
 {
     if !at_expr(tokens) {

@@ -1,4 +1,4 @@
-use Rattle.std.proofs.Common.{◌≡◌, ◌+◌, ◌-◌, ◌*◌, [], ◌∷◌, false, true}
+use Rattle.std.proofs.Common.{◌≡◌, ◌<◌, ◌≤◌, ◌+◌, ◌-◌, ◌*◌, [], ◌∷◌, length, false, true}
 use Rattle.dsl_syntax.specs.Lists.{add_expression}
 use Rattle.dsl_syntax.specs.SyntaxView.{exprs_view, entries_view, uses_view, stmts_view}
 use Rattle.dsl_lexer.specs.declared.sign.Sign.TheVariants as signs
@@ -20,157 +20,176 @@ use Rattle.dsl_parser.proofs.+parse.Given as goal
 -- How deep each function calls others with the same bound.
 
 abbrev pub decreases-exprs::expr : goal.decreases-exprs::expr
-decreases-exprs::expr l = 100 * l.most
+decreases-exprs::expr l = 100 * l.most + 40
 
 abbrev pub decreases-exprs::lambda : goal.decreases-exprs::lambda
-decreases-exprs::lambda l = 100 * l.most - 1
+decreases-exprs::lambda l = 100 * l.most + 39
 
 abbrev pub decreases-exprs::lambda_body : goal.decreases-exprs::lambda_body
-decreases-exprs::lambda_body l = 100 * l.most - 2
+decreases-exprs::lambda_body l = 100 * l.most + 38
 
 abbrev pub decreases-exprs::operation : goal.decreases-exprs::operation
-decreases-exprs::operation l = 100 * l.most - 20 + l.level
+decreases-exprs::operation l = 100 * l.most + 20 + l.level
 
 abbrev pub decreases-exprs::unary : goal.decreases-exprs::unary
-decreases-exprs::unary l = 100 * l.most - 21
+decreases-exprs::unary l = 100 * l.most + 19
 
 abbrev pub decreases-tails::postfix : goal.decreases-tails::postfix
-decreases-tails::postfix l = 100 * l.most - 22
+decreases-tails::postfix l = 100 * l.most + 18
 
 abbrev pub decreases-tails::primary : goal.decreases-tails::primary
-decreases-tails::primary l = 100 * l.most - 23
+decreases-tails::primary l = 100 * l.most + 17
 
 abbrev pub decreases-tails::with_next_tail : goal.decreases-tails::with_next_tail
-decreases-tails::with_next_tail l = 100 * l.most - 24
+decreases-tails::with_next_tail l = 100 * l.most + 16
 
 abbrev pub decreases-tails::arguments : goal.decreases-tails::arguments
-decreases-tails::arguments l = 100 * l.most - 25
+decreases-tails::arguments l = 100 * l.most + 15
 
 abbrev pub decreases-collections::array : goal.decreases-collections::array
-decreases-collections::array l = 100 * l.most - 24
+decreases-collections::array l = 100 * l.most + 16
 
 abbrev pub decreases-collections::elements : goal.decreases-collections::elements
-decreases-collections::elements l = 100 * l.most - 25
+decreases-collections::elements l = 100 * l.most + 15
 
 abbrev pub decreases-collections::slot : goal.decreases-collections::slot
-decreases-collections::slot l = 100 * l.most - 30
+decreases-collections::slot l = 100 * l.most + 10
 
 abbrev pub decreases-collections::dictionary : goal.decreases-collections::dictionary
-decreases-collections::dictionary l = 100 * l.most - 24
+decreases-collections::dictionary l = 100 * l.most + 16
 
 abbrev pub decreases-collections::pairs : goal.decreases-collections::pairs
-decreases-collections::pairs l = 100 * l.most - 25
+decreases-collections::pairs l = 100 * l.most + 15
 
 abbrev pub decreases-collections::with_pair : goal.decreases-collections::with_pair
-decreases-collections::with_pair l = 100 * l.most - 26
+decreases-collections::with_pair l = 100 * l.most + 14
 
 abbrev pub decreases-functions::func : goal.decreases-functions::func
-decreases-functions::func l = 100 * l.most - 26
+decreases-functions::func l = 100 * l.most + 14
 
 abbrev pub decreases-functions::captured : goal.decreases-functions::captured
-decreases-functions::captured l = 100 * l.most - 27
+decreases-functions::captured l = 100 * l.most + 13
 
 abbrev pub decreases-functions::use_names : goal.decreases-functions::use_names
-decreases-functions::use_names l = 100 * l.most - 28
+decreases-functions::use_names l = 100 * l.most + 12
 
 abbrev pub decreases-functions::with_captured : goal.decreases-functions::with_captured
-decreases-functions::with_captured l = 100 * l.most - 29
+decreases-functions::with_captured l = 100 * l.most + 11
 
 abbrev pub decreases-blocks::block : goal.decreases-blocks::block
-decreases-blocks::block l = 100 * l.most
+decreases-blocks::block l = 100 * l.most + 40
 
 abbrev pub decreases-blocks::braced : goal.decreases-blocks::braced
-decreases-blocks::braced l = 100 * l.most - 20 + 10 * room l.within
+decreases-blocks::braced l = 100 * l.most + 20 + 10 * room l.within
 
 abbrev pub decreases-blocks::statements : goal.decreases-blocks::statements
-decreases-blocks::statements l = 100 * l.most - 21 + 10 * room l.within
+decreases-blocks::statements l = 100 * l.most + 19 + 10 * room l.within
 
 abbrev pub decreases-blocks::with_statement : goal.decreases-blocks::with_statement
-decreases-blocks::with_statement l = 100 * l.most - 22 + 10 * room l.within
+decreases-blocks::with_statement l = 100 * l.most + 18 + 10 * room l.within
 
 abbrev pub decreases-statements::statement_kind : goal.decreases-statements::statement_kind
-decreases-statements::statement_kind l = 100 * l.most - 23 + 10 * rank l.lead
+decreases-statements::statement_kind l = 100 * l.most + 17 + 10 * rank l.lead
 
 abbrev pub decreases-objects::named_statement : goal.decreases-objects::named_statement
-decreases-objects::named_statement l = 100 * l.most - 14
+decreases-objects::named_statement l = 100 * l.most + 26
 
 abbrev pub decreases-applies::apply_statement : goal.decreases-applies::apply_statement
-decreases-applies::apply_statement l = 100 * l.most - 14
+decreases-applies::apply_statement l = 100 * l.most + 26
 
 abbrev pub decreases-applies::apply_name : goal.decreases-applies::apply_name
-decreases-applies::apply_name l = 100 * l.most - 15
+decreases-applies::apply_name l = 100 * l.most + 25
 
 abbrev pub decreases-applies::apply_heads : goal.decreases-applies::apply_heads
-decreases-applies::apply_heads l = 100 * l.most - 15
+decreases-applies::apply_heads l = 100 * l.most + 25
 
 abbrev pub decreases-applies::more_heads : goal.decreases-applies::more_heads
-decreases-applies::more_heads l = 100 * l.most - 16
+decreases-applies::more_heads l = 100 * l.most + 24
 
 abbrev pub decreases-statements::const_statement : goal.decreases-statements::const_statement
-decreases-statements::const_statement l = 100 * l.most - 24
+decreases-statements::const_statement l = 100 * l.most + 16
 
 abbrev pub decreases-statements::var_statement : goal.decreases-statements::var_statement
-decreases-statements::var_statement l = 100 * l.most - 24
+decreases-statements::var_statement l = 100 * l.most + 16
 
 abbrev pub decreases-statements::worded_statement : goal.decreases-statements::worded_statement
-decreases-statements::worded_statement l = 100 * l.most - 24
+decreases-statements::worded_statement l = 100 * l.most + 16
 
 abbrev pub decreases-statements::define_statement : goal.decreases-statements::define_statement
-decreases-statements::define_statement l = 100 * l.most - 24
+decreases-statements::define_statement l = 100 * l.most + 16
 
 abbrev pub decreases-assignments::set_or_eval : goal.decreases-assignments::set_or_eval
-decreases-assignments::set_or_eval l = 100 * l.most - 24
+decreases-assignments::set_or_eval l = 100 * l.most + 16
 
 abbrev pub decreases-choices::choices : goal.decreases-choices::choices
-decreases-choices::choices l = 100 * l.most - 24
+decreases-choices::choices l = 100 * l.most + 16
 
 abbrev pub decreases-choices::more_choice : goal.decreases-choices::more_choice
-decreases-choices::more_choice l = 100 * l.most - 25
+decreases-choices::more_choice l = 100 * l.most + 15
 
 abbrev pub decreases-choices::guarded : goal.decreases-choices::guarded
-decreases-choices::guarded l = 100 * l.most - 26
+decreases-choices::guarded l = 100 * l.most + 14
 
 abbrev pub decreases-loops::for_statement : goal.decreases-loops::for_statement
-decreases-loops::for_statement l = 100 * l.most - 24
+decreases-loops::for_statement l = 100 * l.most + 16
 
 abbrev pub decreases-loops::loop_head : goal.decreases-loops::loop_head
-decreases-loops::loop_head l = 100 * l.most - 30
+decreases-loops::loop_head l = 100 * l.most + 10
 
 abbrev pub decreases-exprs::operation-loop-next : goal.decreases-exprs::operation-loop-next
 decreases-exprs::operation-loop-next l = height l.most l.level l.climb
 
--- What is still to be read gives the whole.
+-- What is still to be read gives the whole, and it is within the bound.
 abbrev pub invariant-exprs::operation-loop-next : goal.invariant-exprs::operation-loop-next
-invariant-exprs::operation-loop-next l = climbs l.most l.level l.climb (operand_view l.left) l.rest ≡ read_by l.most (Level l.level) l.fn.tokens
+invariant-exprs::operation-loop-next l = record {
+  reads : climbs l.most l.level l.climb (operand_view l.left) l.rest ≡ read_by l.most (Level l.level) l.fn.tokens;
+  bound : length l.rest ≤ l.most;
+}
 
 abbrev pub invariant-tails::postfix-loop : goal.invariant-tails::postfix-loop
-invariant-tails::postfix-loop l =
-    turns sorts false tail_sorts always with_tail (read_by l.most OneTail) (l.most - l.counter) (operand_view l.operand) l.rest ≡ read_by l.most Postfix l.fn.tokens
+invariant-tails::postfix-loop l = record {
+  reads : turns sorts false tail_sorts always with_tail (read_by l.most OneTail) (l.most - l.counter) (operand_view l.operand) l.rest ≡ read_by l.most Postfix l.fn.tokens;
+  bound : length l.rest ≤ l.most;
+}
 
 abbrev pub invariant-tails::arguments-loop : goal.invariant-tails::arguments-loop
-invariant-tails::arguments-loop l =
-    turns sorts false (sign_sort signs.Comma ∷ []) always add_expression (read_by l.most (behind (sign signs.Comma) Expr)) (l.most - l.counter) (exprs_view l.list.items) l.rest ≡ read_by l.most Listed l.tokens
+invariant-tails::arguments-loop l = record {
+  reads : turns sorts false (sign_sort signs.Comma ∷ []) always add_expression (read_by l.most (behind (sign signs.Comma) Expr)) (l.most - l.counter) (exprs_view l.list.items) l.rest ≡ read_by l.most Listed l.tokens;
+  bound : length l.rest < l.most;
+}
 
 abbrev pub invariant-collections::elements-loop : goal.invariant-collections::elements-loop
-invariant-collections::elements-loop l =
-    turns sorts false (sign_sort signs.Comma ∷ []) may_follow add_slot (read_by l.most CommaSlot) (l.most - l.counter) (slots_view l.slots) l.rest ≡ read_by l.most Elements l.fn.tokens
+invariant-collections::elements-loop l = record {
+  reads : turns sorts false (sign_sort signs.Comma ∷ []) may_follow add_slot (read_by l.most CommaSlot) (l.most - l.counter) (slots_view l.slots) l.rest ≡ read_by l.most Elements l.fn.tokens;
+  bound : length l.rest < l.most;
+}
 
 abbrev pub invariant-collections::pairs-loop : goal.invariant-collections::pairs-loop
-invariant-collections::pairs-loop l =
-    turns sorts false bsep always (add_turn add_pair) (read_by l.most (behind (one bsep (λ t. t.place)) MaybePair)) (l.most - l.counter) (entries_view l.entries.items) l.rest ≡ read_by l.most Pairs l.fn.tokens
+invariant-collections::pairs-loop l = record {
+  reads : turns sorts false bsep always (add_turn add_pair) (read_by l.most (behind (one bsep (λ t. t.place)) MaybePair)) (l.most - l.counter) (entries_view l.entries.items) l.rest ≡ read_by l.most Pairs l.fn.tokens;
+  bound : length l.rest < l.most;
+}
 
 abbrev pub invariant-functions::use_names-loop : goal.invariant-functions::use_names-loop
-invariant-functions::use_names-loop l =
-    turns sorts false (sign_sort signs.Comma ∷ []) always add_captured (read_by l.most (behind (sign signs.Comma) OneUse)) (l.most - l.counter) (uses_view l.uses.items) l.rest ≡ read_by l.most UseNames l.fn.tokens
+invariant-functions::use_names-loop l = record {
+  reads : turns sorts false (sign_sort signs.Comma ∷ []) always add_captured (read_by l.most (behind (sign signs.Comma) OneUse)) (l.most - l.counter) (uses_view l.uses.items) l.rest ≡ read_by l.most UseNames l.fn.tokens;
+  bound : length l.rest < l.most;
+}
 
 abbrev pub invariant-blocks::statements-loop : goal.invariant-blocks::statements-loop
-invariant-blocks::statements-loop l =
-    row_from l.most (separators l.within) (maybe_in l.within) (l.most - l.counter) (stmts_view l.list.items) l.rest ≡ read_by l.most (all_in l.within) l.fn.tokens
+invariant-blocks::statements-loop l = record {
+  reads : row_from l.most (separators l.within) (maybe_in l.within) (l.most - l.counter) (stmts_view l.list.items) l.rest ≡ read_by l.most (all_in l.within) l.fn.tokens;
+  bound : length l.rest < l.most;
+}
 
 abbrev pub invariant-choices::choices-loop : goal.invariant-choices::choices-loop
-invariant-choices::choices-loop l =
-    turns sorts true (word_sort words.Else ∷ []) may_else add_else (read_by l.most Else) (l.most - l.counter) (choice_view l.choice) l.rest ≡ read_by l.most Choices l.fn.tokens
+invariant-choices::choices-loop l = record {
+  reads : turns sorts true (word_sort words.Else ∷ []) may_else add_else (read_by l.most Else) (l.most - l.counter) (choice_view l.choice) l.rest ≡ read_by l.most Choices l.fn.tokens;
+  bound : length l.rest < l.most;
+}
 
 abbrev pub invariant-applies::apply_heads-loop : goal.invariant-applies::apply_heads-loop
-invariant-applies::apply_heads-loop l =
-    turns sorts false head_sorts may_head add_head (read_by l.most AnyHead) (l.most - l.counter) (heads_view l.heads) l.rest ≡ read_by l.most ApplyHeads l.fn.tokens
+invariant-applies::apply_heads-loop l = record {
+  reads : turns sorts false head_sorts may_head add_head (read_by l.most AnyHead) (l.most - l.counter) (heads_view l.heads) l.rest ≡ read_by l.most ApplyHeads l.fn.tokens;
+  bound : length l.rest < l.most;
+}
