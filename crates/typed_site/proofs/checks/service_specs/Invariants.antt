@@ -1,0 +1,13 @@
+-- The services so far, and those that are left, are all.
+use Rattle.std.proofs.Common.{◌≡◌, ◌++◌, map, drop}
+use Rattle.std.specs.List.{flat_map}
+use Rattle.std.specs.Option.{option_to_list}
+use Rattle.site_model.specs.PlainSite.{check_view}
+use Rattle.typed_site.specs.Checks.{service_check}
+use Rattle.typed_site.specs.Listed.{lent_view}
+use Rattle.typed_site.proofs.checks.service_specs.Given as goal
+
+abbrev pub invariant-loop-service : goal.invariant-loop-service
+invariant-loop-service l =
+    map check_view l.specs.items ++ flat_map (λ o. option_to_list (service_check l.known.commands.now l.known.periods.now l.hosts o)) (lent_view (drop l.service-index l.services))
+    ≡ flat_map (λ o. option_to_list (service_check l.known.commands.now l.known.periods.now l.hosts o)) (lent_view l.services)

@@ -1,0 +1,14 @@
+use Rattle.std.proofs.Common.{map, ap, ◌∙◌}
+use Rattle.site_model.specs.PlainSite.{object_view}
+use Rattle.typed_site.specs.Listed.{lent_view}
+use Rattle.typed_site.proofs.SiteLaws.{depends_from, memberships_are, notifies_from}
+use Rattle.typed_site.proofs.sites.around_of.Goals as goal
+
+pub returns-clause-notifies : goal.returns-clause-notifies
+returns-clause-notifies c =
+    notifies_from (map object_view c.args.objects.now) _ _ _ _ _ _ _ c.requires.periods c.requires.checkables c.in_ok-users.ensures.names
+    (memberships_are (map object_view c.args.objects.now) (lent_view c.deref.result.now) (ap lent_view c.deref.ensures.value ∙ c.in_ok-users.ensures.objects))
+    c.deref-3.ensures.value c.in_ok-notifies.ensures.objects (c.in_ok-notify_specs.ensures _ c.in_ok-groups.ensures)
+
+pub returns-clause-depends : goal.returns-clause-depends
+returns-clause-depends c = depends_from (map object_view c.args.objects.now) _ _ _ _ _ c.requires.periods c.requires.checkables c.deref-4.ensures.value c.in_ok-depends.ensures.objects c.in_ok-depend_specs.ensures
