@@ -1,0 +1,4 @@
+pub mod Bounded
+pub mod CycleLaws
+pub mod PhaseLaws
+pub mod ZoneLaws
