@@ -3,7 +3,6 @@ pub mod Apart
 pub mod Calls
 pub mod Chars
 pub mod Joins
-pub mod Kept
 pub mod Limits
 pub mod Matched
 pub mod Parts
@@ -14,5 +13,4 @@ pub mod Replaced
 pub mod Sorts
 pub mod Stand
 pub mod Steps
-pub mod Taken
 pub mod Unions

@@ -10,7 +10,6 @@ mod call;
 mod characters;
 mod cutting;
 mod dicts;
-mod distinct;
 mod joining;
 mod laws;
 mod lib_fault;
