@@ -5,5 +5,6 @@ pub mod Numbers
 pub mod Order
 pub mod Quoted
 pub mod Reading
+pub mod Texts
 pub mod View
 pub mod Weight

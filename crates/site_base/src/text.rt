@@ -7,19 +7,23 @@ use std::alloc::{AllocError, Global};
 use std::cmp::Ordering;
 use std::fmt::Write;
 use std::marker::Model;
+use std::sync::Arc;
 
-/// A text in UTF-8. Clauses see it as the list of its bytes, by which it is compared.
+/// A text in UTF-8. Clauses see it as the list of its bytes, by which it is compared. Clones share the bytes; one that is changed
+/// copies them first.
 #[derive(Debug, Drop)]
 pub struct Text {
-    string: String,
+    alloc: Global,
+    shared: Option<Arc<String>>,
 }
 
 impl Model for Text {
-    ghost use Rattle.std.specs.Prelude.{List, ℕ, string_bytes};
+    ghost use Rattle.std.specs.Prelude.{List, ℕ};
+    ghost use Rattle.site_base.specs.Texts.{shared_bytes};
 
     ghost Value = { List ℕ };
 
-    ghost view = { λ t. string_bytes t.string };
+    ghost view = { λ t. shared_bytes t.shared };
 }
 
 impl Text {
@@ -28,40 +32,51 @@ impl Text {
         ensures { result ≡ [] }
     {
         Text {
-            string: String::new(alloc),
+            alloc,
+            shared: None,
         }
     }
 
+    /// A text of its own with these bytes. One of an empty text takes no memory.
     pub fn copy_of(alloc: Global, text: &str) -> Result<Text, OutOfMemory>
         ensures { IfOk result (λ t. t ≡ text.now) }
     {
+        if text.is_empty() {
+            return Ok(Text::new(alloc));
+        }
         let string = String::from_str(alloc, text)?;
-        Ok(Text { string })
+        Ok(Text {
+            alloc,
+            shared: Some(Arc::new(alloc, string)?),
+        })
     }
 
     pub fn as_str(&self) -> &str
         ensures { result.now ≡ self.now }
     {
-        self.string.as_str()
+        match &self.shared {
+            Some(string) => string.as_str(),
+            None => "",
+        }
     }
 
     pub fn as_bytes(&self) -> &[u8]
         ensures { result.now ≡ self.now }
     {
-        self.string.as_bytes()
+        self.as_str().as_bytes()
     }
 
     /// The number of bytes.
     pub fn len(&self) -> usize
         ensures { result ≡ length self.now }
     {
-        self.string.len()
+        self.as_str().len()
     }
 
     pub fn is_empty(&self) -> bool
         ensures { result ≡ (length self.now == 0) }
     {
-        self.string.is_empty()
+        self.as_str().is_empty()
     }
 
     /// Adds a character at the end.
@@ -70,7 +85,14 @@ impl Text {
         ensures ascii { c < 128 → encode_utf8 c ≡ c ∷ [] }
         ensures err { OnErr result (self.new ≡ self.old) }
     {
-        self.string.push(c)?;
+        match &mut self.shared {
+            Some(string) => Arc::make_mut(string)?.push(c)?,
+            None => {
+                let mut string = String::new(self.alloc);
+                string.push(c)?;
+                self.shared = Some(Arc::new(self.alloc, string)?);
+            }
+        }
         Ok(())
     }
 
@@ -79,7 +101,13 @@ impl Text {
         ensures ok { OnOk result (self.new ≡ self.old ++ more.now) }
         ensures err { OnErr result (self.new ≡ self.old) }
     {
-        self.string.push_str(more)?;
+        match &mut self.shared {
+            Some(string) => Arc::make_mut(string)?.push_str(more)?,
+            None => {
+                let string = String::from_str(self.alloc, more)?;
+                self.shared = Some(Arc::new(self.alloc, string)?);
+            }
+        }
         Ok(())
     }
 
@@ -87,7 +115,14 @@ impl Text {
     pub fn push_decimal(&mut self, number: u64) -> Result<(), OutOfMemory>
         ensures { OnOk result (self.new ≡ self.old ++ decimal number) }
     {
-        write!(&mut self.string, "{number}")?;
+        match &mut self.shared {
+            Some(string) => write!(Arc::make_mut(string)?, "{number}")?,
+            None => {
+                let mut string = String::new(self.alloc);
+                write!(&mut string, "{number}")?;
+                self.shared = Some(Arc::new(self.alloc, string)?);
+            }
+        }
         Ok(())
     }
 }
@@ -102,7 +137,7 @@ impl PartialEq for Text {
     ghost laws = { Prim.search (comparing, rules) };
 
     fn eq(&self, other: &Text) -> bool {
-        self.string == other.string
+        self.as_str() == other.as_str()
     }
 }
 
@@ -144,7 +179,7 @@ impl Ord for Text {
     ghost matches_eq = { Prim.search (comparing, rules) };
 
     fn cmp(&self, other: &Text) -> Ordering {
-        self.string.cmp(&other.string)
+        self.as_str().cmp(other.as_str())
     }
 }
 
@@ -154,7 +189,13 @@ impl Clone for Text {
     ghost is_clone = { λ s t. t ≡ s };
 
     fn clone(&self) -> Result<Text, AllocError> {
-        let string = self.string.clone()?;
-        Ok(Text { string })
+        let shared = match &self.shared {
+            Some(string) => Some(string.clone()?),
+            None => None,
+        };
+        Ok(Text {
+            alloc: self.alloc,
+            shared,
+        })
     }
 }

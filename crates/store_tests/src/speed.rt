@@ -1,4 +1,4 @@
-//! Forks of large stores, cells that are met again, a large dictionary, and a deep value.
+//! Forks of large stores, cells that are met again, a large dictionary, a long text, and a deep value.
 ghost use Rattle.std.specs.Prelude.{◌<◌, IfOk, IfSome, length};
 ghost use Rattle.dsl_value.specs.Whole.{NamesAll};
 
@@ -109,6 +109,25 @@ fn a_large_dictionary_is_sorted_in_time(rt: HostRuntime) -> Result<(), Fail> {
     assert!(rt; start.elapsed(&rt)? < Duration::from_secs(LIMIT));
     assert_eq!(rt; store.get(0, "7919"), Some(&Value::Bool(true)));
     assert_eq!(rt; store.get(0, "100003"), None);
+    Ok(())
+}
+
+/// A text of 8 MiB stands a hundred thousand times among the elements of an array. Copies would take 800 GB.
+#[test]
+fn a_long_text_is_shared(rt: HostRuntime) -> Result<(), Fail> {
+    let mut text = Text::copy_of(rt.alloc(), "a")?;
+    for _ in 0..23u32 {
+        let copy = text.clone()?;
+        text.push_str(copy.as_str())?;
+    }
+    assert_eq!(rt; text.len(), 8 * 1024 * 1024);
+    let start = Instant::now(&rt)?;
+    let mut items = Row::new(rt.alloc());
+    for _ in 0..100_000u32 {
+        items.push(Value::Str(text.clone()?))?;
+    }
+    assert!(rt; start.elapsed(&rt)? < Duration::from_secs(LIMIT));
+    assert_eq!(rt; items.len(), 100_000);
     Ok(())
 }
 
