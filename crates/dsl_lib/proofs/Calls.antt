@@ -1,5 +1,5 @@
 -- What calls do and answer.
-use Rattle.std.proofs.Common.{◌≡◌, ◌+◌, List, [], ◌∷◌, length, Result, Ok, Err, IfOk, refl, sym, ap, subst, ◌∙◌, arith, length-append, length-set}
+use Rattle.std.proofs.Common.{◌≡◌, List, [], ◌∷◌, length, Result, Ok, Err, IfOk, refl, sym, ap, subst, ◌∙◌, arith, length-append, length-set}
 use Rattle.std.specs.List.{AllByRecursion}
 use Rattle.dsl_value.specs.Outcomes.{made_units, texts_units, act_outcome, act_value, act_store, answer, after, StandsAct}
 use Rattle.dsl_value.specs.Whole.{Names}

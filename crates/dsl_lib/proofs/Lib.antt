@@ -3,6 +3,7 @@ pub mod Apart
 pub mod Calls
 pub mod Chars
 pub mod Joins
+pub mod Kept
 pub mod Limits
 pub mod Matched
 pub mod Parts
@@ -13,4 +14,5 @@ pub mod Replaced
 pub mod Sorts
 pub mod Stand
 pub mod Steps
+pub mod Taken
 pub mod Unions

@@ -1,5 +1,5 @@
 -- The methods of dictionaries.
-use Rattle.std.specs.Prelude.{ℕ, List, length, map, Option, Some, None, is_some}
+use Rattle.std.specs.Prelude.{ℕ, List, length, map, is_some}
 use Rattle.dsl_value.specs.Pairs.{find}
 use Rattle.dsl_value.specs.Contents.{Contents, array, cell_at, with_pair, without_pair}
 use Rattle.dsl_value.specs.declared.value.Value.{Value}

@@ -2,6 +2,7 @@ pub mod Answers
 pub mod Arguments
 pub mod Arrays
 pub mod Dicts
+pub mod Distinct
 pub mod Laws
 pub mod Library
 pub mod Limits

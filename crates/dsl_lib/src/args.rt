@@ -49,6 +49,16 @@ pub(crate) fn text(value: &Value) -> Result<&str, LibFault>
     }
 }
 
+/// The text that a value is, as the value holds it.
+pub(crate) fn held_text(value: &Value) -> Result<&Text, LibFault>
+    ensures { MatchResult result (λ t. text_in value.now ≡ Some t.now) (λ e. (text_in value.now ≡ None) × (e ≡ LibFault.WrongType)) }
+{
+    match value {
+        Value::Str(text) => Ok(text),
+        _ => Err(LibFault::WrongType),
+    }
+}
+
 /// The number that a value is.
 pub(crate) fn number(value: &Value) -> Result<Num, LibFault>
     ensures { MatchResult result (λ n. number_in value.now ≡ Some n) (λ e. (number_in value.now ≡ None) × (e ≡ LibFault.WrongType)) }

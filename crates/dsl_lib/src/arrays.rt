@@ -54,7 +54,7 @@ pub(crate) fn get(args: &[Value], store: &Store) -> Result<Value, LibFault>
 {
     let (of, index) = two(args)?;
     let items = items(of, store)?;
-    element(items, cutting::whole(number(index)?)?)
+    element(items, cutting::whole_number(number(index)?)?)
 }
 
 fn element(items: &[Value], index: i64) -> Result<Value, LibFault>

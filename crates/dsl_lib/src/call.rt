@@ -21,9 +21,9 @@ use std::alloc::Global;
 ///
 /// - `Arity` comes exactly for a number of arguments that the function doesn't take, before their types
 ///   are looked at.
-/// - `WrongType` comes exactly for an argument of another type than the function takes, a text that
-///   `number` can't read, a number of `substr` or `get` that isn't whole, a place of `substr` inside a
-///   character, and a step of `range` that isn't above 0.
+/// - `WrongType` comes exactly for an argument of another type than the function takes, an element of `match`, `join` or
+///   `sort` of another type, a text that `number` can't read, a number of `substr` or `get` that isn't whole, an end of the
+///   window of `substr` inside a character, and a step of `range` that isn't above 0.
 /// - `Frozen` comes exactly for an array or dictionary below the base that `add`, `set` or `remove` is to
 ///   change.
 /// - `Overflow` never comes.
@@ -120,7 +120,7 @@ fn act_of<'a>(
         Plain::DictLen => made(dicts::len(args, store)),
         Plain::DictContains => made(dicts::contains(args, store)),
         Plain::DictGet => kept(dicts::get(args, store)),
-        Plain::DictSet => dicts::set(alloc, args, store),
+        Plain::DictSet => dicts::set(args, store),
         Plain::DictRemove => dicts::remove(args, store),
         Plain::DictValues => array(dicts::values(alloc, args, store)),
     }

@@ -19,13 +19,13 @@ pub(crate) fn substr(alloc: Global, args: &[Value]) -> Result<Value, LibFault>
 {
     let (of, start, len) = three(args)?;
     let text = text(of)?;
-    let (start, len) = (whole(number(start)?)?, whole(number(len)?)?);
+    let (start, len) = (whole_number(number(start)?)?, whole_number(number(len)?)?);
     let part = part(text, start, len)?;
     Ok(Value::Str(Text::copy_of(alloc, part)?))
 }
 
 /// The whole number that a number is.
-pub(crate) fn whole(number: Num) -> Result<i64, LibFault>
+pub(crate) fn whole_number(number: Num) -> Result<i64, LibFault>
     ensures { MatchResult result (λ n. whole_part number ≡ Some n) (λ e. (whole_part number ≡ None) × (e ≡ LibFault.WrongType)) }
 {
     let thousandths = number.thousandths();

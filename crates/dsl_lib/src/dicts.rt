@@ -8,7 +8,7 @@ ghost use Rattle.dsl_lib.specs.Dicts.{key_of, value_of, keys as keys_answer, val
 
 use crate::LibFault;
 use crate::answers::copied;
-use crate::args::{dict, is_frozen, one, pairs, text, three, two};
+use crate::args::{dict, held_text, is_frozen, one, pairs, text, three, two};
 use crate::scalars::whole;
 use dsl_value::{Act, Change, Store, Value};
 use site_base::{OutOfMemory, Row, Text};
@@ -87,19 +87,18 @@ pub(crate) fn get(args: &[Value], store: &Store) -> Result<Value, LibFault>
 }
 
 /// `dictionary.set(key, value)`
-pub(crate) fn set(alloc: Global, args: &[Value], store: &Store) -> Result<Act<'static>, LibFault>
+pub(crate) fn set(args: &[Value], store: &Store) -> Result<Act<'static>, LibFault>
     requires { AllByRecursion (Names (length store.now.cells) (length store.now.functions)) args.now }
     ensures acts { Acts store.now (set_answer store.now args.now) (made_units (set_answer store.now args.now)) result }
     ensures stands { IfOk result (StandsAct store.now) }
 {
     let (of, key, value) = three(args)?;
     let cell = dict(of, store)?;
-    let key = text(key)?;
+    let key = held_text(key)?;
     if is_frozen(cell, store) {
         return Err(LibFault::Frozen);
     }
-    let key = Text::copy_of(alloc, key)?;
-    Ok(Act::Write(cell, Change::Set(key, copied(value)?)))
+    Ok(Act::Write(cell, Change::Set(key.clone()?, copied(value)?)))
 }
 
 /// `dictionary.remove(key)`

@@ -10,6 +10,7 @@ mod call;
 mod characters;
 mod cutting;
 mod dicts;
+mod distinct;
 mod joining;
 mod laws;
 mod lib_fault;

@@ -9,8 +9,9 @@ pub enum LibFault {
     /// The function takes another number of arguments.
     #[error("wrong number of arguments")]
     Arity,
-    /// An argument has another type than the function takes, or a value that the function has no use
-    /// for: a number that isn't whole, a place inside a character, a step that isn't above 0.
+    /// An argument, or an element of `match`, `join` or `sort`, has another type than the function takes; a text spells no
+    /// number for `number`; a number of `get` or `substr` isn't whole; an end of the window of `substr` lies inside a character; the
+    /// step of `range` isn't above 0.
     #[error("wrong type")]
     WrongType,
     /// A number is out of range. No function of the library answers so.

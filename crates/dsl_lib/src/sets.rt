@@ -1,16 +1,19 @@
 // Arrays of what lies in several.
-ghost use Rattle.std.specs.Prelude.{◌≡◌, ◌<◌, List, [], filter, length, Some, None, MatchResult, IfOk, OnOk};
+ghost use Rattle.std.specs.Prelude.{◌≡◌, List, [], ◌∷◌, ◌++◌, filter, length, Some, MatchResult, IfOk, OnOk};
 ghost use Rattle.std.specs.List.{AllByRecursion, flat_map};
 ghost use Rattle.dsl_value.specs.Whole.{Names};
 ghost use Rattle.dsl_value.specs.declared.value.Value.{Value};
+ghost use Rattle.dsl_ops.specs.Seen.{found_in};
 ghost use Rattle.dsl_lib.specs.Answers.{ReturnsArray, IsWrong};
 ghost use Rattle.dsl_lib.specs.Arguments.{items_in};
-ghost use Rattle.dsl_lib.specs.Arrays.{all_in};
-ghost use Rattle.dsl_lib.specs.Sets.{with_distinct, distinct, union as union_answer, is_common, intersection as intersection_answer};
+ghost use Rattle.dsl_lib.specs.Arrays.{all_in, has_equal};
+ghost use Rattle.dsl_lib.specs.Sets.{distinct as distinct_of, union as union_answer, is_common, intersection as intersection_answer};
 
 use crate::LibFault;
+use crate::answers::copies;
 use crate::args::items;
-use crate::arrays::has;
+use crate::distinct::Distinct;
+use dsl_ops::{Seen, seen_of};
 use dsl_value::{Store, Value};
 use site_base::{OutOfMemory, Row};
 use std::alloc::Global;
@@ -24,48 +27,20 @@ pub(crate) fn union(alloc: Global, args: &[Value], store: &Store) -> Result<Row<
     if args.is_empty() {
         return Err(LibFault::Arity);
     }
-    let mut taken = Row::new(alloc);
-    take_arrays(&mut taken, args, store)?;
-    Ok(taken)
+    united(alloc, args, store)
 }
 
-/// Takes the distinct elements of arrays.
-fn take_arrays(taken: &mut Row<Value>, args: &[Value], store: &Store) -> Result<(), LibFault>
-    requires args { AllByRecursion (Names (length store.now.cells) (length store.now.functions)) args.now }
-    requires taken { AllByRecursion (Names (length store.now.cells) (length store.now.functions)) taken.old }
-    ensures taken { MatchResult result (λ _. (xss : List (List Value)) × (all_in (items_in store.now.cells) args.now ≡ Some xss) × (taken.new ≡ distinct store.now.cells taken.old (flat_map (λ xs. xs) xss))) (IsWrong (all_in (items_in store.now.cells) args.now)) }
-    ensures stands { AllByRecursion (Names (length store.now.cells) (length store.now.functions)) taken.new }
+/// The distinct elements of arrays.
+fn united(alloc: Global, arrays: &[Value], store: &Store) -> Result<Row<Value>, LibFault>
+    requires { AllByRecursion (Names (length store.now.cells) (length store.now.functions)) arrays.now }
+    ensures items { MatchResult result (λ row. (xss : List (List Value)) × (all_in (items_in store.now.cells) arrays.now ≡ Some xss) × (row ≡ distinct_of store.now.cells [] (flat_map (λ xs. xs) xss))) (IsWrong (all_in (items_in store.now.cells) arrays.now)) }
+    ensures stands { IfOk result (AllByRecursion (Names (length store.now.cells) (length store.now.functions))) }
 {
-    for arg in args {
-        take_all(taken, items(arg, store)?, store)?;
+    let mut taken = Distinct::new(alloc);
+    for array in arrays {
+        taken.take_all(items(array, store)?, store)?;
     }
-    Ok(())
-}
-
-/// Takes the distinct ones of some values.
-fn take_all(taken: &mut Row<Value>, values: &[Value], store: &Store) -> Result<(), OutOfMemory>
-    requires values { AllByRecursion (Names (length store.now.cells) (length store.now.functions)) values.now }
-    requires taken { AllByRecursion (Names (length store.now.cells) (length store.now.functions)) taken.old }
-    ensures taken { OnOk result (taken.new ≡ distinct store.now.cells taken.old values.now) }
-    ensures stands { AllByRecursion (Names (length store.now.cells) (length store.now.functions)) taken.new }
-{
-    for value in values {
-        take(taken, value, store)?;
-    }
-    Ok(())
-}
-
-/// Takes a value, unless one that was taken is equal to it.
-fn take(taken: &mut Row<Value>, value: &Value, store: &Store) -> Result<(), OutOfMemory>
-    requires value { Names (length store.now.cells) (length store.now.functions) value.now }
-    requires taken { AllByRecursion (Names (length store.now.cells) (length store.now.functions)) taken.old }
-    ensures taken { OnOk result (taken.new ≡ with_distinct store.now.cells taken.old value.now) }
-    ensures stands { AllByRecursion (Names (length store.now.cells) (length store.now.functions)) taken.new }
-{
-    if has(taken.as_slice(), value, store) {
-        return Ok(());
-    }
-    taken.push(value.clone()?)
+    Ok(taken.into_items())
 }
 
 /// `intersection(array, ..)`: a new array of the distinct ones of the first array's elements that are in all.
@@ -81,23 +56,27 @@ pub(crate) fn intersection(
     let [first, others @ ..] = args else {
         return Err(LibFault::Arity);
     };
-    check_arrays(others, store)?;
-    common(alloc, items(first, store)?, others, store)
+    let kept = kept_in_all(alloc, items(first, store)?, others, store)?;
+    Ok(without_repeats(alloc, kept.as_slice(), store)?)
 }
 
-/// Each of some values has to be an array.
-fn check_arrays(values: &[Value], store: &Store) -> Result<(), LibFault>
+/// The distinct ones of some values.
+fn without_repeats(
+    alloc: Global,
+    values: &[Value],
+    store: &Store,
+) -> Result<Row<Value>, OutOfMemory>
     requires { AllByRecursion (Names (length store.now.cells) (length store.now.functions)) values.now }
-    ensures { MatchResult result (λ _. (xss : List (List Value)) × (all_in (items_in store.now.cells) values.now ≡ Some xss)) (λ e. (all_in (items_in store.now.cells) values.now ≡ None) × (e ≡ LibFault.WrongType)) }
+    ensures items { IfOk result (λ row. row ≡ distinct_of store.now.cells [] values.now) }
+    ensures stands { IfOk result (AllByRecursion (Names (length store.now.cells) (length store.now.functions))) }
 {
-    for value in values {
-        items(value, store)?;
-    }
-    Ok(())
+    let mut taken = Distinct::new(alloc);
+    taken.take_all(values, store)?;
+    Ok(taken.into_items())
 }
 
-/// The distinct ones of some values that are in all of some arrays.
-fn common(
+/// The ones of some values that are in all of some arrays.
+fn kept_in_all(
     alloc: Global,
     values: &[Value],
     arrays: &[Value],
@@ -105,28 +84,51 @@ fn common(
 ) -> Result<Row<Value>, LibFault>
     requires values { AllByRecursion (Names (length store.now.cells) (length store.now.functions)) values.now }
     requires arrays { AllByRecursion (Names (length store.now.cells) (length store.now.functions)) arrays.now }
-    ensures common { MatchResult result (λ row. (xss : List (List Value)) → all_in (items_in store.now.cells) arrays.now ≡ Some xss → row ≡ distinct store.now.cells [] (filter (is_common store.now.cells xss) values.now)) (IsWrong (all_in (items_in store.now.cells) arrays.now)) }
+    ensures kept { MatchResult result (λ row. (xss : List (List Value)) × (all_in (items_in store.now.cells) arrays.now ≡ Some xss) × (row ≡ filter (is_common store.now.cells xss) values.now)) (IsWrong (all_in (items_in store.now.cells) arrays.now)) }
     ensures stands { IfOk result (AllByRecursion (Names (length store.now.cells) (length store.now.functions))) }
 {
-    let mut taken = Row::new(alloc);
-    for value in values {
-        if lies_in_all(value, arrays, store)? {
-            take(&mut taken, value, store)?;
-        }
+    let mut kept = copies(alloc, values)?;
+    for array in arrays {
+        let fewer = kept_in(alloc, kept.as_slice(), items(array, store)?, store)?;
+        kept = fewer;
     }
-    Ok(taken)
+    Ok(kept)
 }
 
-/// Whether a value is in each of some arrays.
-fn lies_in_all(value: &Value, arrays: &[Value], store: &Store) -> Result<bool, LibFault>
-    requires value { Names (length store.now.cells) (length store.now.functions) value.now }
-    requires arrays { AllByRecursion (Names (length store.now.cells) (length store.now.functions)) arrays.now }
-    ensures { MatchResult result (λ b. (xss : List (List Value)) → all_in (items_in store.now.cells) arrays.now ≡ Some xss → b ≡ is_common store.now.cells xss value.now) (λ e. (all_in (items_in store.now.cells) arrays.now ≡ None) × (e ≡ LibFault.WrongType)) }
+/// The ones of some values that equal one of others.
+#[tactic(auto, using(dsl_ops::proofs::Among::seen_cells))]
+fn kept_in(
+    alloc: Global,
+    values: &[Value],
+    others: &[Value],
+    store: &Store,
+) -> Result<Row<Value>, OutOfMemory>
+    requires values { AllByRecursion (Names (length store.now.cells) (length store.now.functions)) values.now }
+    requires others { AllByRecursion (Names (length store.now.cells) (length store.now.functions)) others.now }
+    ensures kept { IfOk result (λ row. row ≡ filter (has_equal store.now.cells others.now) values.now) }
+    ensures stands { IfOk result (AllByRecursion (Names (length store.now.cells) (length store.now.functions))) }
 {
-    for array in arrays {
-        if !has(items(array, store)?, value, store) {
-            return Ok(false);
-        }
+    let seen = seen_of(alloc, others, store)?;
+    let mut kept = Row::new(alloc);
+    for value in values {
+        keep_seen(&mut kept, value, &seen, store)?;
     }
-    Ok(true)
+    Ok(kept)
+}
+
+/// Keeps a value behind others, where one that was seen is equal to it.
+fn keep_seen(
+    kept: &mut Row<Value>,
+    value: &Value,
+    seen: &Seen,
+    store: &Store,
+) -> Result<(), OutOfMemory>
+    requires value { Names (length store.now.cells) (length store.now.functions) value.now }
+    requires cells { AllByRecursion (Names (length store.now.cells) (length store.now.functions)) seen.now.cells }
+    ensures { OnOk result (kept.new ≡ kept.old ++ filter (found_in store.now.cells seen.now) (value.now ∷ [])) }
+{
+    if seen.contains(value, store) {
+        kept.push(value.clone()?)?;
+    }
+    Ok(())
 }

@@ -10,7 +10,7 @@ ghost use Rattle.dsl_lib.specs.Arguments.{text_in, number_in};
 ghost use Rattle.dsl_lib.specs.Arrays.{all_in, sorted as sorted_list, sorted_values, sort as sort_answer};
 
 use crate::LibFault;
-use crate::args::{items, number, one, text};
+use crate::args::{held_text, items, number, one};
 use dsl_value::{Store, Value};
 use site_base::{Num, OutOfMemory, Row, Text};
 use std::alloc::Global;
@@ -41,7 +41,7 @@ fn sorted_texts(alloc: Global, items: &[Value]) -> Result<Vec<Text>, LibFault>
 {
     let mut texts = Vec::new(alloc);
     for item in items {
-        texts.push(Text::copy_of(alloc, text(item)?)?)?;
+        texts.push(held_text(item)?.clone()?)?;
     }
     texts.sort()?;
     Ok(texts)

@@ -1,4 +1,4 @@
-use Rattle.std.proofs.Common.{◌≡◌, ◌+◌, ◌≤◌, drop, length}
+use Rattle.std.proofs.Common.{◌+◌, ◌≤◌, drop, length}
 use Rattle.dsl_lib.specs.Limits.{separated_bytes}
 use Rattle.dsl_lib.proofs.over.joined_is_over.Given as goal
 
