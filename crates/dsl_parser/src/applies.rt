@@ -75,10 +75,7 @@ fn apply_heads<'a>(
         each: None,
     };
     let mut rest = tokens;
-    for _ in 0..most {
-        if !at_head(&heads, rest) {
-            break;
-        }
+    while at_head(&heads, rest) {
         let (more, after) = more_heads(alloc, most, heads, rest)?;
         heads = more;
         rest = after;

@@ -58,10 +58,7 @@ pub(crate) fn statements<'a>(
     ensures { Gives (λ b. stmts_view b.items) result (read_by most (all_in within) tokens.now) }
 {
     let (mut list, mut rest) = with_statement(alloc, most, within, Vec::new(alloc), tokens)?;
-    for _ in 0..most {
-        if !separates(within, rest) {
-            break;
-        }
+    while separates(within, rest) {
         let (more, after) = with_statement(alloc, most, within, list, after_first(rest))?;
         list = more;
         rest = after;

@@ -31,11 +31,8 @@ pub(crate) fn choices<'a>(
     let (_, begin) = word(Word::If, tokens)?;
     let (arm, mut rest) = guarded(alloc, most, begin)?;
     let mut choice = choice_of(alloc, arm)?;
-    for _ in 0..most {
+    while goes_on(&choice, skip_lines(rest)) {
         let behind = skip_lines(rest);
-        if !goes_on(&choice, behind) {
-            break;
-        }
         let (next, after) = more_choice(alloc, most, choice, behind)?;
         choice = next;
         rest = after;

@@ -57,10 +57,7 @@ fn elements<'a>(
     };
     let (begin, mut rest) = slot(alloc, most, tokens)?;
     let mut slots = with_slot(none, begin)?;
-    for _ in 0..most {
-        if !at_slot(&slots, rest) {
-            break;
-        }
+    while at_slot(&slots, rest) {
         let (next, after) = slot(alloc, most, after_first(rest))?;
         let longer = with_slot(slots, next)?;
         slots = longer;
@@ -121,10 +118,7 @@ fn pairs<'a>(
     ensures { Gives (λ ps. entries_view ps.items) result (read_by most Pairs tokens.now) }
 {
     let (mut entries, mut rest) = with_pair(alloc, most, Vec::new(alloc), tokens)?;
-    for _ in 0..most {
-        if !at_body_separator(rest) {
-            break;
-        }
+    while at_body_separator(rest) {
         let (longer, after) = with_pair(alloc, most, entries, after_first(rest))?;
         entries = longer;
         rest = after;

@@ -65,10 +65,7 @@ fn use_names<'a>(
     ensures { Gives (λ us. uses_view us.items) result (read_by most UseNames tokens.now) }
 {
     let (mut uses, mut rest) = with_captured(alloc, most, Vec::new(alloc), tokens)?;
-    for _ in 0..most {
-        if !at_sign(Sign::Comma, rest) {
-            break;
-        }
+    while at_sign(Sign::Comma, rest) {
         let (longer, after) = with_captured(alloc, most, uses, after_first(rest))?;
         uses = longer;
         rest = after;

@@ -38,10 +38,7 @@ pub(crate) fn postfix<'a>(
     let start = first.place;
     let (expr, mut rest) = primary(alloc, most, tokens)?;
     let mut operand = Operand { start, expr };
-    for _ in 0..most {
-        if !at_tail(rest) {
-            break;
-        }
+    while at_tail(rest) {
         let (longer, after) = with_next_tail(alloc, most, operand, rest)?;
         operand = longer;
         rest = after;
@@ -127,10 +124,7 @@ fn arguments<'a>(
     }
     let (first, mut rest) = expr(alloc, most - 1, tokens)?;
     let mut list = with_expr(Vec::new(alloc), first)?;
-    for _ in 0..most {
-        if !at_sign(Sign::Comma, rest) {
-            break;
-        }
+    while at_sign(Sign::Comma, rest) {
         let (next, after) = expr(alloc, most - 1, after_first(rest))?;
         let longer = with_expr(list, next)?;
         list = longer;

@@ -25,9 +25,9 @@ use Rattle.dsl_statements.specs.Leads.{heading, maybe_in, separators}
 use Rattle.dsl_statements.proofs.Leading.{all_begun, all_from, lead_absent, lead_got, lead_is}
 use Rattle.dsl_grammar.proofs.LevelReads.{expr_end}
 use Rattle.dsl_grammar.proofs.Shorter.{name_shorter, shorter, one_shorter, sign_shorter, word_shorter, ident_shorter, rest_shorter, lines_shorter}
+use Rattle.dsl_parser.proofs.LoopTurns.{one_more, next_shorter, tail_shorter, else_shorter, head_shorter}
 use Rattle.dsl_parser.proofs.Readings.{block_is, expr_lambda, index_read, stopped, expr_levels, set_got, may_first, turn_made, arguments_are}
 use Rattle.dsl_parser.proofs.+parse.Goals as goal
-use Rattle.dsl_parser.proofs.+parse.Goals.{tails::arguments-else-loop-test, tails::arguments-then-loop-test+then-not-at_sign}
 
 -- Expressions.
 pub exprs::expr-returns-then-is_empty : goal.exprs::expr-returns-then-is_empty
@@ -69,19 +69,23 @@ exprs::operation-loop-next-preserved t c =
           omega (arith, x, y, c.loop-next.invariant.bound));
     }
 
-pub tails::postfix-loop-init : goal.tails::postfix-loop-init
+pub tails::postfix-loop-alloc-init : goal.tails::postfix-loop-alloc-init
 unfolding Postfix BegunPrim
-tails::postfix-loop-init t c = record {
+tails::postfix-loop-alloc-init t c = record {
   reads = search rules;
+  turns = c.args.most;
+  fits = (let x = shorter c.args.most Prim _ c.args.tokens.now c.in_ok-expr.rest.now c.in_ok-expr.ensures in omega (arith, x, c.requires));
   bound = (let x = shorter c.args.most Prim _ c.args.tokens.now c.in_ok-expr.rest.now c.in_ok-expr.ensures in omega (arith, x, c.requires));
 }
 
-pub tails::postfix-loop-preserved : goal.tails::postfix-loop-preserved
-tails::postfix-loop-preserved t c =
-    let held : at sorts (tail_sorts) c.loop.rest.now ≡ true = search rules in
+pub tails::postfix-loop-alloc-preserved : goal.tails::postfix-loop-alloc-preserved
+tails::postfix-loop-alloc-preserved t c =
+    let held : at sorts (tail_sorts) c.loop-alloc.rest.now ≡ true = search rules in
     record {
-      reads = step_at c.args.most _ (c.args.most - (c.loop.counter + 1)) (tail_sorts) with_tail OneTail (operand_view c.loop.operand) (operand_view c.in_ok-longer.longer) c.loop.rest.now c.in_ok-longer.after.now _ (omega arith) held c.in_ok-longer.ensures c.loop.invariant.reads;
-      bound = (let x = shorter c.args.most (made (with_tail (operand_view c.loop.operand)) OneTail) _ c.loop.rest.now c.in_ok-longer.after.now c.in_ok-longer.ensures in omega (arith, x, c.loop.invariant.bound));
+      reads = step_at c.args.most _ (c.loop-alloc.invariant.turns - 1) (tail_sorts) with_tail OneTail (operand_view c.loop-alloc.operand) (operand_view c.in_ok-longer.longer) c.loop-alloc.rest.now c.in_ok-longer.after.now _ (one_more c.loop-alloc.invariant.turns tail_sorts c.loop-alloc.rest.now c.loop-alloc.invariant.fits held) held c.in_ok-longer.ensures c.loop-alloc.invariant.reads;
+      turns = c.loop-alloc.invariant.turns - 1;
+      fits = (let x = tail_shorter c.args.most tail_sorts (with_tail (operand_view c.loop-alloc.operand)) _ c.loop-alloc.rest.now c.in_ok-longer.after.now held c.in_ok-longer.ensures in omega (arith, x, c.loop-alloc.invariant.fits));
+      bound = (let x = shorter c.args.most (made (with_tail (operand_view c.loop-alloc.operand)) OneTail) _ c.loop-alloc.rest.now c.in_ok-longer.after.now c.in_ok-longer.ensures in omega (arith, x, c.loop-alloc.invariant.bound));
     }
 
 pub tails::with_next_tail-returns-in_err-rest : goal.tails::with_next_tail-returns-in_err-rest
@@ -94,18 +98,21 @@ tails::with_next_tail-returns-in_err-rest t c =
     (λ q rest. got (with_tail (operand_view c.args.operand) (index_tail (expr_view c.in_ok-index.index))) rest) c.from_residual-in_err-rest.ensures.1 c.in_err-rest.ensures)
 
 -- Blocks and bodies.
-pub applies::apply_heads-loop-init : goal.applies::apply_heads-loop-init
+pub applies::apply_heads-loop-alloc-init : goal.applies::apply_heads-loop-alloc-init
 unfolding ApplyHeads
-applies::apply_heads-loop-init t c = record { reads = search rules; bound = c.requires }
+applies::apply_heads-loop-alloc-init t c = record { turns = c.args.most; reads = search rules; fits = omega (arith, c.requires); bound = c.requires }
 
-pub applies::apply_heads-loop-preserved : goal.applies::apply_heads-loop-preserved
-applies::apply_heads-loop-preserved t c =
-    let counts : c.args.most - c.loop.counter ≡ suc (c.args.most - (c.loop.counter + 1)) = omega arith in
-    let held : may sorts head_sorts (may_head (heads_view c.loop.heads)) c.loop.rest.now ≡ true = search rules in
+pub applies::apply_heads-loop-alloc-preserved : goal.applies::apply_heads-loop-alloc-preserved
+applies::apply_heads-loop-alloc-preserved t c =
+    let held : may sorts head_sorts (may_head (heads_view c.loop-alloc.heads)) c.loop-alloc.rest.now ≡ true = search rules in
+    let first = may_first head_sorts (may_head (heads_view c.loop-alloc.heads)) c.loop-alloc.rest.now held in
+    let counts = one_more c.loop-alloc.invariant.turns head_sorts c.loop-alloc.rest.now c.loop-alloc.invariant.fits first in
     record {
-      reads = sym (turned _ _ false head_sorts may_head add_head (read_by c.args.most AnyHead) (heads_view c.loop.heads) (heads_view c.in_ok-more.more) c.loop.rest.now c.in_ok-more.after.now counts held c.in_ok-more.ensures)
-          ∙ c.loop.invariant.reads;
-      bound = (let x = shorter c.args.most (made (add_head (heads_view c.loop.heads)) AnyHead) _ c.loop.rest.now c.in_ok-more.after.now c.in_ok-more.ensures in omega (arith, x, c.loop.invariant.bound));
+      reads = sym (turned _ _ false head_sorts may_head add_head (read_by c.args.most AnyHead) (heads_view c.loop-alloc.heads) (heads_view c.in_ok-more.more) c.loop-alloc.rest.now c.in_ok-more.after.now counts held c.in_ok-more.ensures)
+          ∙ c.loop-alloc.invariant.reads;
+      turns = c.loop-alloc.invariant.turns - 1;
+      fits = (let x = head_shorter c.args.most head_sorts (add_head (heads_view c.loop-alloc.heads)) _ c.loop-alloc.rest.now c.in_ok-more.after.now first c.in_ok-more.ensures in omega (arith, x, c.loop-alloc.invariant.fits));
+      bound = (let x = shorter c.args.most (made (add_head (heads_view c.loop-alloc.heads)) AnyHead) _ c.loop-alloc.rest.now c.in_ok-more.after.now c.in_ok-more.ensures in omega (arith, x, c.loop-alloc.invariant.bound));
     }
 
 pub applies::apply_name-returns-then-not-at_apply_name : goal.applies::apply_name-returns-then-not-at_apply_name
@@ -123,81 +130,99 @@ applies::apply_name-returns t c =
     let held : at sorts name_sorts c.args.tokens.now ≡ true = search rules in
     name_read c.args.most (expr_view c.in_ok-name.name) c.args.tokens.now c.in_ok-name.rest.now held c.in_ok-name.ensures
 
-pub collections::pairs-loop-init : goal.collections::pairs-loop-init
+pub collections::pairs-loop-alloc-init : goal.collections::pairs-loop-alloc-init
 unfolding Pairs
-collections::pairs-loop-init t c = record {
+collections::pairs-loop-alloc-init t c = record {
   reads = search rules;
+  turns = c.args.most;
+  fits = (let x = shorter c.args.most (made (add_turn add_pair (entries_view c.new.result.items)) MaybePair) _ c.args.tokens.now c.in_ok-entries.rest.now c.in_ok-entries.ensures in omega (arith, x, c.requires));
   bound = (let x = shorter c.args.most (made (add_turn add_pair (entries_view c.new.result.items)) MaybePair) _ c.args.tokens.now c.in_ok-entries.rest.now c.in_ok-entries.ensures in omega (arith, x, c.requires));
 }
 
-pub collections::pairs-loop-preserved : goal.collections::pairs-loop-preserved
-collections::pairs-loop-preserved t c =
-    let held : at sorts (bsep) c.loop.rest.now ≡ true = search rules in
+pub collections::pairs-loop-alloc-preserved : goal.collections::pairs-loop-alloc-preserved
+collections::pairs-loop-alloc-preserved t c =
+    let held : at sorts (bsep) c.loop-alloc.rest.now ≡ true = search rules in
     let read = (let q = c.in_ok-longer.ensures in rw c.after_first.ensures at q) in
     record {
-      reads = step_behind c.args.most _ (c.args.most - (c.loop.counter + 1)) (bsep) (add_turn add_pair) MaybePair (entries_view c.loop.entries.items) (entries_view c.in_ok-longer.longer.items) c.loop.rest.now c.in_ok-longer.after.now _ (omega arith) held read c.loop.invariant.reads;
-      bound = (let x = shorter c.args.most (made (add_turn add_pair (entries_view c.loop.entries.items)) MaybePair) _ c.after_first.result.now c.in_ok-longer.after.now c.in_ok-longer.ensures in let y = rest_shorter c.loop.rest.now c.after_first.result.now c.after_first.ensures in omega (arith, x, y, c.loop.invariant.bound));
+      reads = step_behind c.args.most _ (c.loop-alloc.invariant.turns - 1) (bsep) (add_turn add_pair) MaybePair (entries_view c.loop-alloc.entries.items) (entries_view c.in_ok-longer.longer.items) c.loop-alloc.rest.now c.in_ok-longer.after.now _ (one_more c.loop-alloc.invariant.turns bsep c.loop-alloc.rest.now c.loop-alloc.invariant.fits held) held read c.loop-alloc.invariant.reads;
+      turns = c.loop-alloc.invariant.turns - 1;
+      fits = (let x = shorter c.args.most (made (add_turn add_pair (entries_view c.loop-alloc.entries.items)) MaybePair) _ c.after_first.result.now c.in_ok-longer.after.now c.in_ok-longer.ensures in let y = next_shorter bsep c.loop-alloc.rest.now c.after_first.result.now c.after_first.ensures held in omega (arith, x, y, c.loop-alloc.invariant.fits));
+      bound = (let x = shorter c.args.most (made (add_turn add_pair (entries_view c.loop-alloc.entries.items)) MaybePair) _ c.after_first.result.now c.in_ok-longer.after.now c.in_ok-longer.ensures in let y = rest_shorter c.loop-alloc.rest.now c.after_first.result.now c.after_first.ensures in omega (arith, x, y, c.loop-alloc.invariant.bound));
     }
 
-pub functions::use_names-loop-init : goal.functions::use_names-loop-init
+pub functions::use_names-loop-alloc-init : goal.functions::use_names-loop-alloc-init
 unfolding UseNames
-functions::use_names-loop-init t c = record {
+functions::use_names-loop-alloc-init t c = record {
   reads = search rules;
+  turns = c.args.most;
+  fits = (let x = shorter c.args.most (made (add_captured (uses_view c.new.result.items)) OneUse) _ c.args.tokens.now c.in_ok-uses.rest.now c.in_ok-uses.ensures in omega (arith, x, c.requires));
   bound = (let x = shorter c.args.most (made (add_captured (uses_view c.new.result.items)) OneUse) _ c.args.tokens.now c.in_ok-uses.rest.now c.in_ok-uses.ensures in omega (arith, x, c.requires));
 }
 
-pub functions::use_names-loop-preserved : goal.functions::use_names-loop-preserved
-functions::use_names-loop-preserved t c =
-    let held : at sorts (sign_sort signs.Comma ∷ []) c.loop.rest.now ≡ true = search rules in
+pub functions::use_names-loop-alloc-preserved : goal.functions::use_names-loop-alloc-preserved
+functions::use_names-loop-alloc-preserved t c =
+    let held : at sorts (sign_sort signs.Comma ∷ []) c.loop-alloc.rest.now ≡ true = search rules in
     let read = (let q = c.in_ok-longer.ensures in rw c.after_first.ensures at q) in
     record {
-      reads = step_behind c.args.most _ (c.args.most - (c.loop.counter + 1)) (sign_sort signs.Comma ∷ []) add_captured OneUse (uses_view c.loop.uses.items) (uses_view c.in_ok-longer.longer.items) c.loop.rest.now c.in_ok-longer.after.now _ (omega arith) held read c.loop.invariant.reads;
-      bound = (let x = shorter c.args.most (made (add_captured (uses_view c.loop.uses.items)) OneUse) _ c.after_first.result.now c.in_ok-longer.after.now c.in_ok-longer.ensures in let y = rest_shorter c.loop.rest.now c.after_first.result.now c.after_first.ensures in omega (arith, x, y, c.loop.invariant.bound));
+      reads = step_behind c.args.most _ (c.loop-alloc.invariant.turns - 1) (sign_sort signs.Comma ∷ []) add_captured OneUse (uses_view c.loop-alloc.uses.items) (uses_view c.in_ok-longer.longer.items) c.loop-alloc.rest.now c.in_ok-longer.after.now _ (one_more c.loop-alloc.invariant.turns (sign_sort signs.Comma ∷ []) c.loop-alloc.rest.now c.loop-alloc.invariant.fits held) held read c.loop-alloc.invariant.reads;
+      turns = c.loop-alloc.invariant.turns - 1;
+      fits = (let x = shorter c.args.most (made (add_captured (uses_view c.loop-alloc.uses.items)) OneUse) _ c.after_first.result.now c.in_ok-longer.after.now c.in_ok-longer.ensures in let y = next_shorter (sign_sort signs.Comma ∷ []) c.loop-alloc.rest.now c.after_first.result.now c.after_first.ensures held in omega (arith, x, y, c.loop-alloc.invariant.fits));
+      bound = (let x = shorter c.args.most (made (add_captured (uses_view c.loop-alloc.uses.items)) OneUse) _ c.after_first.result.now c.in_ok-longer.after.now c.in_ok-longer.ensures in let y = rest_shorter c.loop-alloc.rest.now c.after_first.result.now c.after_first.ensures in omega (arith, x, y, c.loop-alloc.invariant.bound));
     }
 
-pub collections::elements-loop-init : goal.collections::elements-loop-init
+pub collections::elements-loop-alloc-init : goal.collections::elements-loop-alloc-init
 unfolding Elements
-collections::elements-loop-init t c = record {
+collections::elements-loop-alloc-init t c = record {
   reads = search rules;
+  turns = c.args.most;
+  fits = (let x = shorter c.args.most Slot _ c.args.tokens.now c.in_ok-begin.rest.now c.in_ok-begin.ensures in omega (arith, x, c.requires));
   bound = (let x = shorter c.args.most Slot _ c.args.tokens.now c.in_ok-begin.rest.now c.in_ok-begin.ensures in omega (arith, x, c.requires));
 }
 
-pub collections::elements-loop-preserved : goal.collections::elements-loop-preserved
+pub collections::elements-loop-alloc-preserved : goal.collections::elements-loop-alloc-preserved
 unfolding CommaSlot
-collections::elements-loop-preserved t c =
-    let held : may sorts (sign_sort signs.Comma ∷ []) (may_follow (slots_view c.loop.slots)) c.loop.rest.now ≡ true = search rules in
+collections::elements-loop-alloc-preserved t c =
+    let held : may sorts (sign_sort signs.Comma ∷ []) (may_follow (slots_view c.loop-alloc.slots)) c.loop-alloc.rest.now ≡ true = search rules in
     let next = (let q = c.in_ok-next.ensures in rw c.after_first.ensures at q) in
-    let read : read_by c.args.most (made (add_slot (slots_view c.loop.slots)) Slot) (drop 1 c.loop.rest.now) ≡ got (add_slot (slots_view c.loop.slots) (maybe_expr_view c.in_ok-next.next)) c.in_ok-next.after.now = rw next refl in
-    let q = made_behind c.args.most (sign_sort signs.Comma ∷ []) (add_slot (slots_view c.loop.slots)) Slot c.loop.rest.now (may_first (sign_sort signs.Comma ∷ []) (may_follow (slots_view c.loop.slots)) c.loop.rest.now held) ∙ read ∙ ap (λ z. got z c.in_ok-next.after.now) (sym c.in_ok-longer.ensures) in
+    let read : read_by c.args.most (made (add_slot (slots_view c.loop-alloc.slots)) Slot) (drop 1 c.loop-alloc.rest.now) ≡ got (add_slot (slots_view c.loop-alloc.slots) (maybe_expr_view c.in_ok-next.next)) c.in_ok-next.after.now = rw next refl in
+    let q = made_behind c.args.most (sign_sort signs.Comma ∷ []) (add_slot (slots_view c.loop-alloc.slots)) Slot c.loop-alloc.rest.now (may_first (sign_sort signs.Comma ∷ []) (may_follow (slots_view c.loop-alloc.slots)) c.loop-alloc.rest.now held) ∙ read ∙ ap (λ z. got z c.in_ok-next.after.now) (sym c.in_ok-longer.ensures) in
     record {
-      reads = step_may c.args.most _ (c.args.most - (c.loop.counter + 1)) (sign_sort signs.Comma ∷ []) may_follow add_slot CommaSlot (slots_view c.loop.slots) (slots_view c.in_ok-longer.longer) c.loop.rest.now c.in_ok-next.after.now _ (omega arith) held q c.loop.invariant.reads;
-      bound = (let x = shorter c.args.most Slot _ c.after_first.result.now c.in_ok-next.after.now c.in_ok-next.ensures in let y = rest_shorter c.loop.rest.now c.after_first.result.now c.after_first.ensures in omega (arith, x, y, c.loop.invariant.bound));
+      reads = step_may c.args.most _ (c.loop-alloc.invariant.turns - 1) (sign_sort signs.Comma ∷ []) may_follow add_slot CommaSlot (slots_view c.loop-alloc.slots) (slots_view c.in_ok-longer.longer) c.loop-alloc.rest.now c.in_ok-next.after.now _ (one_more c.loop-alloc.invariant.turns (sign_sort signs.Comma ∷ []) c.loop-alloc.rest.now c.loop-alloc.invariant.fits (may_first (sign_sort signs.Comma ∷ []) (may_follow (slots_view c.loop-alloc.slots)) c.loop-alloc.rest.now held)) held q c.loop-alloc.invariant.reads;
+      turns = c.loop-alloc.invariant.turns - 1;
+      fits = (let x = shorter c.args.most Slot _ c.after_first.result.now c.in_ok-next.after.now c.in_ok-next.ensures in let y = next_shorter (sign_sort signs.Comma ∷ []) c.loop-alloc.rest.now c.after_first.result.now c.after_first.ensures (may_first (sign_sort signs.Comma ∷ []) (may_follow (slots_view c.loop-alloc.slots)) c.loop-alloc.rest.now held) in omega (arith, x, y, c.loop-alloc.invariant.fits));
+      bound = (let x = shorter c.args.most Slot _ c.after_first.result.now c.in_ok-next.after.now c.in_ok-next.ensures in let y = rest_shorter c.loop-alloc.rest.now c.after_first.result.now c.after_first.ensures in omega (arith, x, y, c.loop-alloc.invariant.bound));
     }
 
-pub choices::choices-loop-init : goal.choices::choices-loop-init
+pub choices::choices-loop-alloc-init : goal.choices::choices-loop-alloc-init
 unfolding Choices FirstChoice
-choices::choices-loop-init t c = record {
+choices::choices-loop-alloc-init t c = record {
   reads = search rules;
+  turns = c.args.most;
+  fits = (let x = shorter c.args.most Guarded _ c.in_ok-begin.begin.now c.in_ok-arm.rest.now c.in_ok-arm.ensures in
+      let y = one_shorter (word_sort words.If ∷ []) (λ t. t.place) _ c.args.tokens.now c.in_ok-begin.begin.now c.in_ok-begin.ensures in
+      omega (arith, x, y, c.requires));
   bound = (let x = shorter c.args.most Guarded _ c.in_ok-begin.begin.now c.in_ok-arm.rest.now c.in_ok-arm.ensures in
       let y = one_shorter (word_sort words.If ∷ []) (λ t. t.place) _ c.args.tokens.now c.in_ok-begin.begin.now c.in_ok-begin.ensures in
       omega (arith, x, y, c.requires));
 }
 
-pub choices::choices-loop-preserved : goal.choices::choices-loop-preserved
-choices::choices-loop-preserved t c =
-    let before = choice_view c.loop.choice in
+pub choices::choices-loop-alloc-preserved : goal.choices::choices-loop-alloc-preserved
+choices::choices-loop-alloc-preserved t c =
+    let before = choice_view c.loop-alloc.choice in
     let next = choice_view c.in_ok-next.next in
-    let counts : c.args.most - c.loop.counter ≡ suc (c.args.most - (c.loop.counter + 1)) = omega arith in
-    let held : may sorts (word_sort words.Else ∷ []) (may_else before) (over sorts true c.loop.rest.now) ≡ true =
-    ap (may sorts (word_sort words.Else ∷ []) (may_else before)) (sym c.skip_lines-behind.ensures) ∙ sym c.goes_on.ensures ∙ c.if-not-goes_on.false
-    in
+    let held : may sorts (word_sort words.Else ∷ []) (may_else before) (over sorts true c.loop-alloc.rest.now) ≡ true = ap (may sorts (word_sort words.Else ∷ []) (may_else before)) (sym c.skip_lines.ensures) ∙ sym c.goes_on.ensures ∙ c.loop-alloc-test.true in
+    let first = may_first (word_sort words.Else ∷ []) (may_else before) (over sorts true c.loop-alloc.rest.now) held in
+    let fewer = lines_shorter c.loop-alloc.rest.now (over sorts true c.loop-alloc.rest.now) refl in
+    let counts = one_more c.loop-alloc.invariant.turns (word_sort words.Else ∷ []) (over sorts true c.loop-alloc.rest.now) (omega (arith, fewer, c.loop-alloc.invariant.fits)) first in
     let here : (read_by c.args.most Else c.skip_lines-behind.result.now >>= λ x rest. got (add_else before x) rest) ≡ got next c.in_ok-next.after.now = c.in_ok-next.ensures in
     let turn = subst (λ z. (read_by c.args.most Else z >>= λ x rest. got (add_else before x) rest) ≡ got next c.in_ok-next.after.now) c.skip_lines-behind.ensures here in
     record {
       reads = sym
-          (turned (c.args.most - c.loop.counter) (c.args.most - (c.loop.counter + 1)) true (word_sort words.Else ∷ []) may_else add_else (read_by c.args.most Else) before next c.loop.rest.now c.in_ok-next.after.now counts held turn) ∙
-          c.loop.invariant.reads;
-      bound = (let x = shorter c.args.most (made (add_else before) Else) _ c.skip_lines-behind.result.now c.in_ok-next.after.now c.in_ok-next.ensures in let y = lines_shorter c.loop.rest.now c.skip_lines-behind.result.now c.skip_lines-behind.ensures in omega (arith, x, y, c.loop.invariant.bound));
+          (turned c.loop-alloc.invariant.turns (c.loop-alloc.invariant.turns - 1) true (word_sort words.Else ∷ []) may_else add_else (read_by c.args.most Else) before next c.loop-alloc.rest.now c.in_ok-next.after.now counts held turn) ∙
+          c.loop-alloc.invariant.reads;
+      turns = c.loop-alloc.invariant.turns - 1;
+      fits = (let x = else_shorter c.args.most (word_sort words.Else ∷ []) (add_else before) _ (over sorts true c.loop-alloc.rest.now) c.in_ok-next.after.now first turn in omega (arith, x, fewer, c.loop-alloc.invariant.fits));
+      bound = (let x = shorter c.args.most (made (add_else before) Else) _ c.skip_lines-behind.result.now c.in_ok-next.after.now c.in_ok-next.ensures in let y = lines_shorter c.loop-alloc.rest.now c.skip_lines-behind.result.now c.skip_lines-behind.ensures in omega (arith, x, y, c.loop-alloc.invariant.bound));
     }
 
 -- Assignments.
@@ -227,79 +252,83 @@ assignments::set_or_eval-returns t c =
 
 pub choices::choices-returns-in_err-next : goal.choices::choices-returns-in_err-next
 choices::choices-returns-in_err-next t c =
-    let before = choice_view c.loop.choice in
-    let counts : c.args.most - c.loop.counter ≡ suc (c.args.most - (c.loop.counter + 1)) = omega arith in
-    let held : may sorts (word_sort words.Else ∷ []) (may_else before) (over sorts true c.loop.rest.now) ≡ true =
-    ap (may sorts (word_sort words.Else ∷ []) (may_else before)) (sym c.skip_lines-behind.ensures) ∙ sym c.goes_on.ensures ∙ c.if-not-goes_on.false
-    in
-    let all = sym (turn_made (c.args.most - c.loop.counter) (c.args.most - (c.loop.counter + 1)) true (word_sort words.Else ∷ []) may_else add_else (read_by c.args.most Else) before c.loop.rest.now counts held) ∙ c.loop.invariant.reads in
-    let there = subst (λ z. ((read_by c.args.most Else z >>= λ x rest. got (add_else before x) rest) >>= turns sorts true (word_sort words.Else ∷ []) may_else add_else (read_by c.args.most Else) (c.args.most - (c.loop.counter + 1))) ≡ read_by c.args.most Choices c.args.tokens.now) (sym c.skip_lines-behind.ensures) all in
+    let before = choice_view c.loop-alloc.choice in
+    let held : may sorts (word_sort words.Else ∷ []) (may_else before) (over sorts true c.loop-alloc.rest.now) ≡ true = ap (may sorts (word_sort words.Else ∷ []) (may_else before)) (sym c.skip_lines.ensures) ∙ sym c.goes_on.ensures ∙ c.loop-alloc-test.true in
+    let first = may_first (word_sort words.Else ∷ []) (may_else before) (over sorts true c.loop-alloc.rest.now) held in
+    let fewer = lines_shorter c.loop-alloc.rest.now (over sorts true c.loop-alloc.rest.now) refl in
+    let counts = one_more c.loop-alloc.invariant.turns (word_sort words.Else ∷ []) (over sorts true c.loop-alloc.rest.now) (omega (arith, fewer, c.loop-alloc.invariant.fits)) first in
+    let all = sym (turn_made c.loop-alloc.invariant.turns (c.loop-alloc.invariant.turns - 1) true (word_sort words.Else ∷ []) may_else add_else (read_by c.args.most Else) before c.loop-alloc.rest.now counts held) ∙ c.loop-alloc.invariant.reads in
+    let there = subst (λ z. ((read_by c.args.most Else z >>= λ x rest. got (add_else before x) rest) >>= turns sorts true (word_sort words.Else ∷ []) may_else add_else (read_by c.args.most Else) (c.loop-alloc.invariant.turns - 1)) ≡ read_by c.args.most Choices c.args.tokens.now) (sym c.skip_lines-behind.ensures) all in
     subst (Gives choice_view c.from_residual-in_err-next.result) there (search rules)
 
 -- The arguments of a call.
 pub tails::arguments-returns-in_err-next : goal.tails::arguments-returns-in_err-next
 tails::arguments-returns-in_err-next t c =
-    let before = exprs_view c.loop.list.items in
-    let counts : c.args.most - c.loop.counter ≡ suc (c.args.most - (c.loop.counter + 1)) = omega arith in
-    let held : at sorts (sign_sort signs.Comma ∷ []) c.loop.rest.now ≡ true = search rules in
+    let before = exprs_view c.loop-alloc.list.items in
+    let held : at sorts (sign_sort signs.Comma ∷ []) c.loop-alloc.rest.now ≡ true = search rules in
+    let counts = one_more c.loop-alloc.invariant.turns (sign_sort signs.Comma ∷ []) c.loop-alloc.rest.now c.loop-alloc.invariant.fits held in
     let some : at sorts (starts expr) c.args.tokens.now ≡ true = sym c.at_expr.ensures ∙ c.if-not-at_expr.false in
-    let all = sym (turn_made (c.args.most - c.loop.counter) (c.args.most - (c.loop.counter + 1)) false (sign_sort signs.Comma ∷ []) always add_expression (read_by c.args.most (behind (sign signs.Comma) Expr)) before c.loop.rest.now counts (may_at (sign_sort signs.Comma ∷ []) c.loop.rest.now ∙ held)) ∙ c.loop.invariant.reads in
-    let next = subst (λ r. (r >>= turns sorts false (sign_sort signs.Comma ∷ []) always add_expression (read_by c.args.most (behind (sign signs.Comma) Expr)) (c.args.most - (c.loop.counter + 1))) ≡ read_by c.args.most Listed c.args.tokens.now) (made_behind c.args.most (sign_sort signs.Comma ∷ []) (add_expression before) Expr c.loop.rest.now held) all in
-    let there = subst (λ z. (read_by c.args.most (made (add_expression before) Expr) z >>= turns sorts false (sign_sort signs.Comma ∷ []) always add_expression (read_by c.args.most (behind (sign signs.Comma) Expr)) (c.args.most - (c.loop.counter + 1))) ≡ read_by c.args.most Listed c.args.tokens.now) (sym c.after_first.ensures) next in
+    let all = sym (turn_made c.loop-alloc.invariant.turns (c.loop-alloc.invariant.turns - 1) false (sign_sort signs.Comma ∷ []) always add_expression (read_by c.args.most (behind (sign signs.Comma) Expr)) before c.loop-alloc.rest.now counts (may_at (sign_sort signs.Comma ∷ []) c.loop-alloc.rest.now ∙ held)) ∙ c.loop-alloc.invariant.reads in
+    let next = subst (λ r. (r >>= turns sorts false (sign_sort signs.Comma ∷ []) always add_expression (read_by c.args.most (behind (sign signs.Comma) Expr)) (c.loop-alloc.invariant.turns - 1)) ≡ read_by c.args.most Listed c.args.tokens.now) (made_behind c.args.most (sign_sort signs.Comma ∷ []) (add_expression before) Expr c.loop-alloc.rest.now held) all in
+    let there = subst (λ z. (read_by c.args.most (made (add_expression before) Expr) z >>= turns sorts false (sign_sort signs.Comma ∷ []) always add_expression (read_by c.args.most (behind (sign signs.Comma) Expr)) (c.loop-alloc.invariant.turns - 1)) ≡ read_by c.args.most Listed c.args.tokens.now) (sym c.after_first.ensures) next in
     subst (Gives (λ es. exprs_view es.items) c.from_residual-in_err-next.result) (there ∙ sym (arguments_are c.args.most c.args.tokens.now some)) (search rules)
 
 pub tails::arguments-returns : goal.tails::arguments-returns
 tails::arguments-returns t c =
     let some : at sorts (starts expr) c.args.tokens.now ≡ true = sym c.at_expr.ensures ∙ c.if-not-at_expr.false in
     let commas = sign_sort signs.Comma ∷ [] in
-    let before = exprs_view c.loop.list.items in
-    let ends : turns sorts false (sign_sort signs.Comma ∷ []) always add_expression (read_by c.args.most (behind (sign signs.Comma) Expr)) (c.args.most - c.loop.counter) (exprs_view c.loop.list.items) c.loop.rest.now ≡ got (exprs_view c.loop.list.items) c.loop.rest.now =
-    elim c.loop-test.branch [
-      | tails::arguments-then-loop-test+then-not-at_sign w ↦
-          turns_end (c.args.most - c.loop.counter) false commas always add_expression (read_by c.args.most (behind (sign signs.Comma) Expr)) before c.loop.rest.now (may_at commas c.loop.rest.now ∙ (sym w.at_sign.ensures ∙ w.if-not-at_sign.true))
-      | tails::arguments-else-loop-test w ↦
-          ap (λ m. turns sorts false commas always add_expression (read_by c.args.most (behind (sign signs.Comma) Expr)) m before c.loop.rest.now) {x = c.args.most - c.loop.counter} {y = 0} (omega (arith, w.loop-test.false))
-    ] in
-    let listed = sym c.loop.invariant.reads ∙ ends in
+    let before = exprs_view c.loop-alloc.list.items in
+    let ends : turns sorts false commas always add_expression (read_by c.args.most (behind (sign signs.Comma) Expr)) c.loop-alloc.invariant.turns before c.loop-alloc.rest.now ≡ got before c.loop-alloc.rest.now =
+    turns_end c.loop-alloc.invariant.turns false commas always add_expression (read_by c.args.most (behind (sign signs.Comma) Expr)) before c.loop-alloc.rest.now (may_at commas c.loop-alloc.rest.now ∙ (sym c.at_sign.ensures ∙ c.loop-alloc-test.false))
+    in
+    let listed = sym c.loop-alloc.invariant.reads ∙ ends in
     arguments_are c.args.most c.args.tokens.now some ∙ listed
 
-pub tails::arguments-loop-init : goal.tails::arguments-loop-init
+pub tails::arguments-loop-alloc-init : goal.tails::arguments-loop-alloc-init
 unfolding Listed
-tails::arguments-loop-init t c = record {
+tails::arguments-loop-alloc-init t c = record {
   reads = search rules;
+  turns = c.args.most;
+  fits = (let x = name_shorter (c.args.most - 1) expr _ c.args.tokens.now c.in_ok-first.rest.now c.in_ok-first.ensures in omega (arith, x, c.requires));
   bound = (let x = name_shorter (c.args.most - 1) expr _ c.args.tokens.now c.in_ok-first.rest.now c.in_ok-first.ensures in omega (arith, x, c.requires));
 }
 
-pub tails::arguments-loop-preserved : goal.tails::arguments-loop-preserved
-tails::arguments-loop-preserved t c =
-    let held : at sorts (sign_sort signs.Comma ∷ []) c.loop.rest.now ≡ true = search rules in
+pub tails::arguments-loop-alloc-preserved : goal.tails::arguments-loop-alloc-preserved
+tails::arguments-loop-alloc-preserved t c =
+    let held : at sorts (sign_sort signs.Comma ∷ []) c.loop-alloc.rest.now ≡ true = search rules in
     let next = (let q = c.in_ok-next.ensures in rw c.after_first.ensures at q) in
-    let read : read_by c.args.most (made (add_expression (exprs_view c.loop.list.items)) Expr) (drop 1 c.loop.rest.now) ≡ got (exprs_view c.in_ok-longer.longer.items) c.in_ok-next.after.now = rw (next, c.in_ok-longer.ensures) refl in
+    let read : read_by c.args.most (made (add_expression (exprs_view c.loop-alloc.list.items)) Expr) (drop 1 c.loop-alloc.rest.now) ≡ got (exprs_view c.in_ok-longer.longer.items) c.in_ok-next.after.now = rw (next, c.in_ok-longer.ensures) refl in
     record {
-      reads = step_behind c.args.most _ (c.args.most - (c.loop.counter + 1)) (sign_sort signs.Comma ∷ []) add_expression Expr (exprs_view c.loop.list.items) (exprs_view c.in_ok-longer.longer.items) c.loop.rest.now c.in_ok-next.after.now _ (omega arith) held read c.loop.invariant.reads;
-      bound = (let x = name_shorter (c.args.most - 1) expr _ c.after_first.result.now c.in_ok-next.after.now c.in_ok-next.ensures in let y = rest_shorter c.loop.rest.now c.after_first.result.now c.after_first.ensures in omega (arith, x, y, c.loop.invariant.bound));
+      reads = step_behind c.args.most _ (c.loop-alloc.invariant.turns - 1) (sign_sort signs.Comma ∷ []) add_expression Expr (exprs_view c.loop-alloc.list.items) (exprs_view c.in_ok-longer.longer.items) c.loop-alloc.rest.now c.in_ok-next.after.now _ (one_more c.loop-alloc.invariant.turns (sign_sort signs.Comma ∷ []) c.loop-alloc.rest.now c.loop-alloc.invariant.fits held) held read c.loop-alloc.invariant.reads;
+      turns = c.loop-alloc.invariant.turns - 1;
+      fits = (let x = name_shorter (c.args.most - 1) expr _ c.after_first.result.now c.in_ok-next.after.now c.in_ok-next.ensures in let y = next_shorter (sign_sort signs.Comma ∷ []) c.loop-alloc.rest.now c.after_first.result.now c.after_first.ensures held in omega (arith, x, y, c.loop-alloc.invariant.fits));
+      bound = (let x = name_shorter (c.args.most - 1) expr _ c.after_first.result.now c.in_ok-next.after.now c.in_ok-next.ensures in let y = rest_shorter c.loop-alloc.rest.now c.after_first.result.now c.after_first.ensures in omega (arith, x, y, c.loop-alloc.invariant.bound));
     }
 
 -- Blocks and bodies.
 pub blocks::block-returns : goal.blocks::block-returns
 blocks::block-returns t c = subst (Gives (λ b. stmts_view b.items) c.braced.result) (sym (block_is c.args.most c.args.tokens.now c.requires)) c.braced.ensures
 
-pub blocks::statements-loop-init : goal.blocks::statements-loop-init
-blocks::statements-loop-init t c =
+pub blocks::statements-loop-alloc-init : goal.blocks::statements-loop-alloc-init
+blocks::statements-loop-alloc-init t c =
     let read = (let q = c.in_ok-list.ensures in rw c.new.ensures.items at q) in
     record {
       reads = all_begun c.args.most c.args.within (stmts_view c.in_ok-list.list.items) c.args.tokens.now c.in_ok-list.rest.now read;
+      turns = c.args.most - 0;
+      fits = (let x = shorter c.args.most (made (add_turn add_statement (stmts_view c.new.result.items)) (maybe_in c.args.within)) _ c.args.tokens.now c.in_ok-list.rest.now c.in_ok-list.ensures in omega (arith, x, c.requires));
       bound = (let x = shorter c.args.most (made (add_turn add_statement (stmts_view c.new.result.items)) (maybe_in c.args.within)) _ c.args.tokens.now c.in_ok-list.rest.now c.in_ok-list.ensures in omega (arith, x, c.requires));
     }
 
-pub blocks::statements-loop-preserved : goal.blocks::statements-loop-preserved
-blocks::statements-loop-preserved t c =
-    let counts : c.args.most - c.loop.counter ≡ suc (c.args.most - (c.loop.counter + 1)) = omega arith in
-    let held : at sorts (separators c.args.within) c.loop.rest.now ≡ true = search rules in
+pub blocks::statements-loop-alloc-preserved : goal.blocks::statements-loop-alloc-preserved
+blocks::statements-loop-alloc-preserved t c =
+    let held : at sorts (separators c.args.within) c.loop-alloc.rest.now ≡ true = search rules in
+    let counts = one_more c.loop-alloc.invariant.turns (separators c.args.within) c.loop-alloc.rest.now c.loop-alloc.invariant.fits held in
     record {
-      reads = sym (row_step c.args.most _ _ (separators c.args.within) (maybe_in c.args.within) (stmts_view c.loop.list.items) (stmts_view c.in_ok-more.more.items) c.loop.rest.now c.in_ok-more.after.now counts held (let q = c.in_ok-more.ensures in rw c.after_first.ensures at q))
-          ∙ c.loop.invariant.reads;
-      bound = (let x = shorter c.args.most (made (add_turn add_statement (stmts_view c.loop.list.items)) (maybe_in c.args.within)) _ c.after_first.result.now c.in_ok-more.after.now c.in_ok-more.ensures in let y = rest_shorter c.loop.rest.now c.after_first.result.now c.after_first.ensures in omega (arith, x, y, c.loop.invariant.bound));
+      reads = sym (row_step c.args.most _ _ (separators c.args.within) (maybe_in c.args.within) (stmts_view c.loop-alloc.list.items) (stmts_view c.in_ok-more.more.items) c.loop-alloc.rest.now c.in_ok-more.after.now counts held (let q = c.in_ok-more.ensures in rw c.after_first.ensures at q))
+          ∙ c.loop-alloc.invariant.reads;
+      turns = c.loop-alloc.invariant.turns - 1;
+      fits = (let x = shorter c.args.most (made (add_turn add_statement (stmts_view c.loop-alloc.list.items)) (maybe_in c.args.within)) _ c.after_first.result.now c.in_ok-more.after.now c.in_ok-more.ensures in let y = next_shorter (separators c.args.within) c.loop-alloc.rest.now c.after_first.result.now c.after_first.ensures held in omega (arith, x, y, c.loop-alloc.invariant.fits));
+      bound = (let x = shorter c.args.most (made (add_turn add_statement (stmts_view c.loop-alloc.list.items)) (maybe_in c.args.within)) _ c.after_first.result.now c.in_ok-more.after.now c.in_ok-more.ensures in let y = rest_shorter c.loop-alloc.rest.now c.after_first.result.now c.after_first.ensures in omega (arith, x, y, c.loop-alloc.invariant.bound));
     }
 
 pub blocks::statements-returns-in_err-list : goal.blocks::statements-returns-in_err-list
@@ -318,6 +347,56 @@ blocks::with_statement-returns-in_err-kind t c =
 pub blocks::with_statement-returns : goal.blocks::with_statement-returns
 blocks::with_statement-returns t c =
     lead_got c.args.most c.args.within (stmts_view c.args.list.items) _ c.args.tokens.now _ c.next_lead.result _ _ c.in-Some.is c.next_lead.ensures.reads c.in_ok-kind.ensures c.in_ok-added.ensures
+
+-- Each turn of a loop leaves fewer tokens.
+
+pub tails::postfix-loop-alloc-smaller : goal.tails::postfix-loop-alloc-smaller
+tails::postfix-loop-alloc-smaller t c =
+    let held : at sorts (tail_sorts) c.loop-alloc.rest.now ≡ true = search rules in
+    (let x = tail_shorter c.args.most tail_sorts (with_tail (operand_view c.loop-alloc.operand)) _ c.loop-alloc.rest.now c.in_ok-longer.after.now held c.in_ok-longer.ensures in omega (arith, x))
+
+pub applies::apply_heads-loop-alloc-smaller : goal.applies::apply_heads-loop-alloc-smaller
+applies::apply_heads-loop-alloc-smaller t c =
+    let held : may sorts head_sorts (may_head (heads_view c.loop-alloc.heads)) c.loop-alloc.rest.now ≡ true = search rules in
+    let first = may_first head_sorts (may_head (heads_view c.loop-alloc.heads)) c.loop-alloc.rest.now held in
+    (let x = head_shorter c.args.most head_sorts (add_head (heads_view c.loop-alloc.heads)) _ c.loop-alloc.rest.now c.in_ok-more.after.now first c.in_ok-more.ensures in omega (arith, x))
+
+pub tails::arguments-loop-alloc-smaller : goal.tails::arguments-loop-alloc-smaller
+tails::arguments-loop-alloc-smaller t c =
+    let held : at sorts (sign_sort signs.Comma ∷ []) c.loop-alloc.rest.now ≡ true = search rules in
+    (let x = name_shorter (c.args.most - 1) expr _ c.after_first.result.now c.in_ok-next.after.now c.in_ok-next.ensures in let y = next_shorter (sign_sort signs.Comma ∷ []) c.loop-alloc.rest.now c.after_first.result.now c.after_first.ensures held in omega (arith, x, y))
+
+pub collections::pairs-loop-alloc-smaller : goal.collections::pairs-loop-alloc-smaller
+collections::pairs-loop-alloc-smaller t c =
+    let held : at sorts (bsep) c.loop-alloc.rest.now ≡ true = search rules in
+    (let x = shorter c.args.most (made (add_turn add_pair (entries_view c.loop-alloc.entries.items)) MaybePair) _ c.after_first.result.now c.in_ok-longer.after.now c.in_ok-longer.ensures in let y = next_shorter bsep c.loop-alloc.rest.now c.after_first.result.now c.after_first.ensures held in omega (arith, x, y))
+
+pub functions::use_names-loop-alloc-smaller : goal.functions::use_names-loop-alloc-smaller
+functions::use_names-loop-alloc-smaller t c =
+    let held : at sorts (sign_sort signs.Comma ∷ []) c.loop-alloc.rest.now ≡ true = search rules in
+    (let x = shorter c.args.most (made (add_captured (uses_view c.loop-alloc.uses.items)) OneUse) _ c.after_first.result.now c.in_ok-longer.after.now c.in_ok-longer.ensures in let y = next_shorter (sign_sort signs.Comma ∷ []) c.loop-alloc.rest.now c.after_first.result.now c.after_first.ensures held in omega (arith, x, y))
+
+pub blocks::statements-loop-alloc-smaller : goal.blocks::statements-loop-alloc-smaller
+blocks::statements-loop-alloc-smaller t c =
+    let held : at sorts (separators c.args.within) c.loop-alloc.rest.now ≡ true = search rules in
+    (let x = shorter c.args.most (made (add_turn add_statement (stmts_view c.loop-alloc.list.items)) (maybe_in c.args.within)) _ c.after_first.result.now c.in_ok-more.after.now c.in_ok-more.ensures in let y = next_shorter (separators c.args.within) c.loop-alloc.rest.now c.after_first.result.now c.after_first.ensures held in omega (arith, x, y))
+
+pub collections::elements-loop-alloc-smaller : goal.collections::elements-loop-alloc-smaller
+collections::elements-loop-alloc-smaller t c =
+    let held : may sorts (sign_sort signs.Comma ∷ []) (may_follow (slots_view c.loop-alloc.slots)) c.loop-alloc.rest.now ≡ true = search rules in
+    (let x = shorter c.args.most Slot _ c.after_first.result.now c.in_ok-next.after.now c.in_ok-next.ensures in let y = next_shorter (sign_sort signs.Comma ∷ []) c.loop-alloc.rest.now c.after_first.result.now c.after_first.ensures (may_first (sign_sort signs.Comma ∷ []) (may_follow (slots_view c.loop-alloc.slots)) c.loop-alloc.rest.now held) in omega (arith, x, y))
+
+pub choices::choices-loop-alloc-smaller : goal.choices::choices-loop-alloc-smaller
+choices::choices-loop-alloc-smaller t c =
+    let before = choice_view c.loop-alloc.choice in
+    let next = choice_view c.in_ok-next.next in
+    let held : may sorts (word_sort words.Else ∷ []) (may_else before) (over sorts true c.loop-alloc.rest.now) ≡ true = ap (may sorts (word_sort words.Else ∷ []) (may_else before)) (sym c.skip_lines.ensures) ∙ sym c.goes_on.ensures ∙ c.loop-alloc-test.true in
+    let first = may_first (word_sort words.Else ∷ []) (may_else before) (over sorts true c.loop-alloc.rest.now) held in
+    let fewer = lines_shorter c.loop-alloc.rest.now (over sorts true c.loop-alloc.rest.now) refl in
+    let counts = one_more c.loop-alloc.invariant.turns (word_sort words.Else ∷ []) (over sorts true c.loop-alloc.rest.now) (omega (arith, fewer, c.loop-alloc.invariant.fits)) first in
+    let here : (read_by c.args.most Else c.skip_lines-behind.result.now >>= λ x rest. got (add_else before x) rest) ≡ got next c.in_ok-next.after.now = c.in_ok-next.ensures in
+    let turn = subst (λ z. (read_by c.args.most Else z >>= λ x rest. got (add_else before x) rest) ≡ got next c.in_ok-next.after.now) c.skip_lines-behind.ensures here in
+    (let x = else_shorter c.args.most (word_sort words.Else ∷ []) (add_else before) _ (over sorts true c.loop-alloc.rest.now) c.in_ok-next.after.now first turn in omega (arith, x, fewer))
 
 -- What is handed on is within the bound.
 
@@ -357,30 +436,30 @@ tails::with_next_tail-arguments-requires t c =
     let x0 = sign_shorter signs.OpenParen _ c.args.tokens.now c.in_ok-inner-3.inner.now c.in_ok-inner-3.ensures in
     (omega arith, omega (arith, x0, c.requires))
 
-pub tails::arguments-expr-requires-in-loop : goal.tails::arguments-expr-requires-in-loop
-tails::arguments-expr-requires-in-loop t c =
-    let x0 = rest_shorter c.loop.rest.now c.after_first.result.now c.after_first.ensures in
-    (omega arith, omega (arith, x0, c.loop.invariant.bound))
+pub tails::arguments-expr-requires-in-loop-alloc : goal.tails::arguments-expr-requires-in-loop-alloc
+tails::arguments-expr-requires-in-loop-alloc t c =
+    let x0 = rest_shorter c.loop-alloc.rest.now c.after_first.result.now c.after_first.ensures in
+    (omega arith, omega (arith, x0, c.loop-alloc.invariant.bound))
 
 pub collections::array-elements-requires : goal.collections::array-elements-requires
 collections::array-elements-requires t c =
     let x0 = sign_shorter signs.OpenBracket _ c.args.tokens.now c.in_ok-inner.inner.now c.in_ok-inner.ensures in
     (omega arith, omega (arith, x0, c.requires))
 
-pub collections::elements-slot-requires-in-loop : goal.collections::elements-slot-requires-in-loop
-collections::elements-slot-requires-in-loop t c =
-    let x0 = rest_shorter c.loop.rest.now c.after_first.result.now c.after_first.ensures in
-    (omega arith, omega (arith, x0, c.loop.invariant.bound))
+pub collections::elements-slot-requires-in-loop-alloc : goal.collections::elements-slot-requires-in-loop-alloc
+collections::elements-slot-requires-in-loop-alloc t c =
+    let x0 = rest_shorter c.loop-alloc.rest.now c.after_first.result.now c.after_first.ensures in
+    (omega arith, omega (arith, x0, c.loop-alloc.invariant.bound))
 
 pub collections::dictionary-pairs-requires : goal.collections::dictionary-pairs-requires
 collections::dictionary-pairs-requires t c =
     let x0 = sign_shorter signs.OpenBrace _ c.args.tokens.now c.in_ok-inner.inner.now c.in_ok-inner.ensures in
     (omega arith, omega (arith, x0, c.requires))
 
-pub collections::pairs-with_pair-requires-in-loop : goal.collections::pairs-with_pair-requires-in-loop
-collections::pairs-with_pair-requires-in-loop t c =
-    let x0 = rest_shorter c.loop.rest.now c.after_first.result.now c.after_first.ensures in
-    (omega arith, omega (arith, x0, c.loop.invariant.bound))
+pub collections::pairs-with_pair-requires-in-loop-alloc : goal.collections::pairs-with_pair-requires-in-loop-alloc
+collections::pairs-with_pair-requires-in-loop-alloc t c =
+    let x0 = rest_shorter c.loop-alloc.rest.now c.after_first.result.now c.after_first.ensures in
+    (omega arith, omega (arith, x0, c.loop-alloc.invariant.bound))
 
 pub collections::with_pair-newlines-requires : goal.collections::with_pair-newlines-requires
 collections::with_pair-newlines-requires t c =
@@ -412,10 +491,10 @@ functions::captured-use_names-requires t c =
     let x1 = sign_shorter signs.OpenParen _ c.in_ok-begin.begin.now c.in_ok-inner.inner.now c.in_ok-inner.ensures in
     (omega arith, omega (arith, x0, x1, c.requires))
 
-pub functions::use_names-with_captured-requires-in-loop : goal.functions::use_names-with_captured-requires-in-loop
-functions::use_names-with_captured-requires-in-loop t c =
-    let x0 = rest_shorter c.loop.rest.now c.after_first.result.now c.after_first.ensures in
-    (omega arith, omega (arith, x0, c.loop.invariant.bound))
+pub functions::use_names-with_captured-requires-in-loop-alloc : goal.functions::use_names-with_captured-requires-in-loop-alloc
+functions::use_names-with_captured-requires-in-loop-alloc t c =
+    let x0 = rest_shorter c.loop-alloc.rest.now c.after_first.result.now c.after_first.ensures in
+    (omega arith, omega (arith, x0, c.loop-alloc.invariant.bound))
 
 pub functions::with_captured-expr-requires : goal.functions::with_captured-expr-requires
 functions::with_captured-expr-requires t c =
@@ -428,10 +507,10 @@ blocks::braced-statements-requires t c =
     let x0 = sign_shorter signs.OpenBrace _ c.args.tokens.now c.in_ok-inner.inner.now c.in_ok-inner.ensures in
     (omega arith, omega (arith, x0, c.requires))
 
-pub blocks::statements-with_statement-requires-in-loop : goal.blocks::statements-with_statement-requires-in-loop
-blocks::statements-with_statement-requires-in-loop t c =
-    let x0 = rest_shorter c.loop.rest.now c.after_first.result.now c.after_first.ensures in
-    (omega arith, omega (arith, x0, c.loop.invariant.bound))
+pub blocks::statements-with_statement-requires-in-loop-alloc : goal.blocks::statements-with_statement-requires-in-loop-alloc
+blocks::statements-with_statement-requires-in-loop-alloc t c =
+    let x0 = rest_shorter c.loop-alloc.rest.now c.after_first.result.now c.after_first.ensures in
+    (omega arith, omega (arith, x0, c.loop-alloc.invariant.bound))
 
 pub statements::statement_kind-guarded-requires : goal.statements::statement_kind-guarded-requires
 statements::statement_kind-guarded-requires t c =
@@ -504,8 +583,8 @@ choices::choices-guarded-requires t c =
 
 pub choices::choices-more_choice-requires : goal.choices::choices-more_choice-requires
 choices::choices-more_choice-requires t c =
-    let x0 = lines_shorter c.loop.rest.now c.skip_lines-behind.result.now c.skip_lines-behind.ensures in
-    (omega arith, omega (arith, x0, c.loop.invariant.bound))
+    let x0 = lines_shorter c.loop-alloc.rest.now c.skip_lines-behind.result.now c.skip_lines-behind.ensures in
+    (omega arith, omega (arith, x0, c.loop-alloc.invariant.bound))
 
 pub choices::more_choice-guarded-requires : goal.choices::more_choice-guarded-requires
 choices::more_choice-guarded-requires t c =

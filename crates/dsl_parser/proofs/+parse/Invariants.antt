@@ -1,4 +1,4 @@
-use Rattle.std.proofs.Common.{◌≡◌, ◌<◌, ◌≤◌, ◌+◌, ◌-◌, ◌*◌, [], ◌∷◌, length, false, true}
+use Rattle.std.proofs.Common.{◌≡◌, ◌<◌, ◌≤◌, ◌+◌, ◌*◌, [], ◌∷◌, length, false, true}
 use Rattle.dsl_syntax.specs.Lists.{add_expression}
 use Rattle.dsl_syntax.specs.SyntaxView.{exprs_view, entries_view, uses_view, stmts_view}
 use Rattle.dsl_lexer.specs.declared.sign.Sign.TheVariants as signs
@@ -15,6 +15,7 @@ use Rattle.dsl_parts.specs.ExprParts.{operand_view, slots_view}
 use Rattle.dsl_parts.specs.Levels.{climbs, height}
 use Rattle.dsl_statements.specs.NamedView.{head_sorts, heads_view}
 use Rattle.dsl_statements.specs.Parts.{choice_view}
+use Rattle.dsl_parser.proofs.LoopTurns.{Left}
 use Rattle.dsl_parser.proofs.+parse.Given as goal
 
 -- How deep each function calls others with the same bound.
@@ -146,50 +147,58 @@ invariant-exprs::operation-loop-next l = record {
   bound : length l.rest ≤ l.most;
 }
 
-abbrev pub invariant-tails::postfix-loop : goal.invariant-tails::postfix-loop
-invariant-tails::postfix-loop l = record {
-  reads : turns sorts false tail_sorts always with_tail (read_by l.most OneTail) (l.most - l.counter) (operand_view l.operand) l.rest ≡ read_by l.most Postfix l.fn.tokens;
-  bound : length l.rest ≤ l.most;
-}
+abbrev pub decreases-tails::postfix-loop-alloc : goal.decreases-tails::postfix-loop-alloc
+decreases-tails::postfix-loop-alloc l = length l.rest
 
-abbrev pub invariant-tails::arguments-loop : goal.invariant-tails::arguments-loop
-invariant-tails::arguments-loop l = record {
-  reads : turns sorts false (sign_sort signs.Comma ∷ []) always add_expression (read_by l.most (behind (sign signs.Comma) Expr)) (l.most - l.counter) (exprs_view l.list.items) l.rest ≡ read_by l.most Listed l.tokens;
-  bound : length l.rest < l.most;
-}
+abbrev pub invariant-tails::postfix-loop-alloc : goal.invariant-tails::postfix-loop-alloc
+invariant-tails::postfix-loop-alloc l =
+    Left (λ m. turns sorts false tail_sorts always with_tail (read_by l.most OneTail) m (operand_view l.operand) l.rest ≡ read_by l.most Postfix l.fn.tokens) (length l.rest ≤ l.most) l.rest
 
-abbrev pub invariant-collections::elements-loop : goal.invariant-collections::elements-loop
-invariant-collections::elements-loop l = record {
-  reads : turns sorts false (sign_sort signs.Comma ∷ []) may_follow add_slot (read_by l.most CommaSlot) (l.most - l.counter) (slots_view l.slots) l.rest ≡ read_by l.most Elements l.fn.tokens;
-  bound : length l.rest < l.most;
-}
+abbrev pub decreases-tails::arguments-loop-alloc : goal.decreases-tails::arguments-loop-alloc
+decreases-tails::arguments-loop-alloc l = length l.rest
 
-abbrev pub invariant-collections::pairs-loop : goal.invariant-collections::pairs-loop
-invariant-collections::pairs-loop l = record {
-  reads : turns sorts false bsep always (add_turn add_pair) (read_by l.most (behind (one bsep (λ t. t.place)) MaybePair)) (l.most - l.counter) (entries_view l.entries.items) l.rest ≡ read_by l.most Pairs l.fn.tokens;
-  bound : length l.rest < l.most;
-}
+abbrev pub invariant-tails::arguments-loop-alloc : goal.invariant-tails::arguments-loop-alloc
+invariant-tails::arguments-loop-alloc l =
+    Left (λ m. turns sorts false (sign_sort signs.Comma ∷ []) always add_expression (read_by l.most (behind (sign signs.Comma) Expr)) m (exprs_view l.list.items) l.rest ≡ read_by l.most Listed l.tokens) (length l.rest < l.most) l.rest
 
-abbrev pub invariant-functions::use_names-loop : goal.invariant-functions::use_names-loop
-invariant-functions::use_names-loop l = record {
-  reads : turns sorts false (sign_sort signs.Comma ∷ []) always add_captured (read_by l.most (behind (sign signs.Comma) OneUse)) (l.most - l.counter) (uses_view l.uses.items) l.rest ≡ read_by l.most UseNames l.fn.tokens;
-  bound : length l.rest < l.most;
-}
+abbrev pub decreases-collections::elements-loop-alloc : goal.decreases-collections::elements-loop-alloc
+decreases-collections::elements-loop-alloc l = length l.rest
 
-abbrev pub invariant-blocks::statements-loop : goal.invariant-blocks::statements-loop
-invariant-blocks::statements-loop l = record {
-  reads : row_from l.most (separators l.within) (maybe_in l.within) (l.most - l.counter) (stmts_view l.list.items) l.rest ≡ read_by l.most (all_in l.within) l.fn.tokens;
-  bound : length l.rest < l.most;
-}
+abbrev pub invariant-collections::elements-loop-alloc : goal.invariant-collections::elements-loop-alloc
+invariant-collections::elements-loop-alloc l =
+    Left (λ m. turns sorts false (sign_sort signs.Comma ∷ []) may_follow add_slot (read_by l.most CommaSlot) m (slots_view l.slots) l.rest ≡ read_by l.most Elements l.fn.tokens) (length l.rest < l.most) l.rest
 
-abbrev pub invariant-choices::choices-loop : goal.invariant-choices::choices-loop
-invariant-choices::choices-loop l = record {
-  reads : turns sorts true (word_sort words.Else ∷ []) may_else add_else (read_by l.most Else) (l.most - l.counter) (choice_view l.choice) l.rest ≡ read_by l.most Choices l.fn.tokens;
-  bound : length l.rest < l.most;
-}
+abbrev pub decreases-collections::pairs-loop-alloc : goal.decreases-collections::pairs-loop-alloc
+decreases-collections::pairs-loop-alloc l = length l.rest
 
-abbrev pub invariant-applies::apply_heads-loop : goal.invariant-applies::apply_heads-loop
-invariant-applies::apply_heads-loop l = record {
-  reads : turns sorts false head_sorts may_head add_head (read_by l.most AnyHead) (l.most - l.counter) (heads_view l.heads) l.rest ≡ read_by l.most ApplyHeads l.fn.tokens;
-  bound : length l.rest < l.most;
-}
+abbrev pub invariant-collections::pairs-loop-alloc : goal.invariant-collections::pairs-loop-alloc
+invariant-collections::pairs-loop-alloc l =
+    Left (λ m. turns sorts false bsep always (add_turn add_pair) (read_by l.most (behind (one bsep (λ t. t.place)) MaybePair)) m (entries_view l.entries.items) l.rest ≡ read_by l.most Pairs l.fn.tokens) (length l.rest < l.most) l.rest
+
+abbrev pub decreases-functions::use_names-loop-alloc : goal.decreases-functions::use_names-loop-alloc
+decreases-functions::use_names-loop-alloc l = length l.rest
+
+abbrev pub invariant-functions::use_names-loop-alloc : goal.invariant-functions::use_names-loop-alloc
+invariant-functions::use_names-loop-alloc l =
+    Left (λ m. turns sorts false (sign_sort signs.Comma ∷ []) always add_captured (read_by l.most (behind (sign signs.Comma) OneUse)) m (uses_view l.uses.items) l.rest ≡ read_by l.most UseNames l.fn.tokens) (length l.rest < l.most) l.rest
+
+abbrev pub decreases-blocks::statements-loop-alloc : goal.decreases-blocks::statements-loop-alloc
+decreases-blocks::statements-loop-alloc l = length l.rest
+
+abbrev pub invariant-blocks::statements-loop-alloc : goal.invariant-blocks::statements-loop-alloc
+invariant-blocks::statements-loop-alloc l =
+    Left (λ m. row_from l.most (separators l.within) (maybe_in l.within) m (stmts_view l.list.items) l.rest ≡ read_by l.most (all_in l.within) l.fn.tokens) (length l.rest < l.most) l.rest
+
+abbrev pub decreases-choices::choices-loop-alloc : goal.decreases-choices::choices-loop-alloc
+decreases-choices::choices-loop-alloc l = length l.rest
+
+abbrev pub invariant-choices::choices-loop-alloc : goal.invariant-choices::choices-loop-alloc
+invariant-choices::choices-loop-alloc l =
+    Left (λ m. turns sorts true (word_sort words.Else ∷ []) may_else add_else (read_by l.most Else) m (choice_view l.choice) l.rest ≡ read_by l.most Choices l.fn.tokens) (length l.rest < l.most) l.rest
+
+abbrev pub decreases-applies::apply_heads-loop-alloc : goal.decreases-applies::apply_heads-loop-alloc
+decreases-applies::apply_heads-loop-alloc l = length l.rest
+
+abbrev pub invariant-applies::apply_heads-loop-alloc : goal.invariant-applies::apply_heads-loop-alloc
+invariant-applies::apply_heads-loop-alloc l =
+    Left (λ m. turns sorts false head_sorts may_head add_head (read_by l.most AnyHead) m (heads_view l.heads) l.rest ≡ read_by l.most ApplyHeads l.fn.tokens) (length l.rest < l.most) l.rest
