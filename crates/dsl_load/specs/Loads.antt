@@ -18,7 +18,7 @@ use Rattle.dsl_load.specs.declared.load_parts.LoadParts.{LoadParts}
 abbrev pub plain_parts : LoadParts → Loaded
 plain_parts p = record {
   store = plain_store p.store;
-  templates = map plain_template p.templates.items;
+  templates = map plain_template p.templates;
   items = map plain_item p.items.items;
   rules = map plain_rule p.rules.items;
 }

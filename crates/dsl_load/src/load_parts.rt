@@ -6,13 +6,13 @@ ghost use Rattle.eval_work.specs.Kept.{IsFit};
 ghost use Rattle.dsl_load.specs.Loads.{plain_parts, IsLoad};
 
 use dsl_value::Store;
-use eval_work::{Item, Rule, Task, Template, Work};
+use eval_work::{Item, Rule, Task, Templates, Work};
 
 /// What a load gives: its store, of which all cells are frozen, and what it registered, in order.
 #[derive(Drop)]
 pub struct LoadParts {
     pub store: Store,
-    pub templates: Vec<Template>,
+    pub templates: Templates,
     pub items: Vec<Item>,
     pub rules: Vec<Rule>,
 }
@@ -40,7 +40,7 @@ pub fn parts_of(work: Work) -> LoadParts
         },
         Task::Item { .. } | Task::Rule => LoadParts {
             store,
-            templates: Vec::new(alloc),
+            templates: Templates::new(alloc),
             items: Vec::new(alloc),
             rules: Vec::new(alloc),
         },

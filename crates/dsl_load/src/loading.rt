@@ -9,7 +9,7 @@ use crate::load_parts::parts_of;
 use crate::starting::{first_work, load_view, no_objects};
 use dsl_eval::run_order;
 use dsl_value::Store;
-use eval_work::{SourceFile, Stop, Work};
+use eval_work::{Committed, SourceFile, Stop, Templates, Work};
 use std::alloc::Global;
 
 /// Runs the files of a site as one evaluation, by the order of their walk, from its first file on. A fault is the first one that
@@ -27,8 +27,10 @@ pub fn run_files(alloc: Global, files: &[SourceFile], order: &[u32]) -> Result<W
     ensures fit { IfOk result IsFit }
 {
     let store = Store::new(alloc);
+    let templates = Templates::new(alloc);
+    let objects = Committed::new(alloc);
     let known = no_objects(alloc)?;
-    let view = load_view(&store, &known, files);
+    let view = load_view(&store, &templates, &objects, &known, files);
     let mut work = first_work(alloc, order)?;
     run_order(&view, &mut work)?;
     Ok(work)

@@ -7,7 +7,9 @@ ghost use Rattle.eval_work.specs.Kept.{IsFit};
 
 use crate::first_names::{first_constants, first_strings};
 use dsl_value::{Store, Value};
-use eval_work::{Budget, Known, Loading, Locals, SourceFile, Task, Work, WorldView};
+use eval_work::{
+    Budget, Committed, Known, Loading, Locals, SourceFile, Task, Templates, Work, WorldView,
+};
 use site_base::{OutOfMemory, Row, Text};
 use std::alloc::Global;
 
@@ -31,7 +33,7 @@ fn first_load(alloc: Global, order: &[u32]) -> Result<Loading, OutOfMemory>
         order: Vec::from_slice(alloc, order)?,
         at: 0,
         constants: first_constants(alloc)?,
-        templates: Vec::new(alloc),
+        templates: Templates::new(alloc),
         items: Vec::new(alloc),
         rules: Vec::new(alloc),
     })
@@ -75,9 +77,13 @@ pub(crate) fn no_objects(alloc: Global) -> Result<Known, OutOfMemory>
 /// What a load is told.
 pub(crate) fn load_view<'a>(
     store: &'a Store,
+    templates: &'a Templates,
+    objects: &'a Committed,
     known: &'a Known,
     files: &'a [SourceFile],
 ) -> WorldView<'a>
+    requires templates { templates.now ≡ [] }
+    requires objects { objects.now ≡ [] }
     requires store { store.now ≡ record { cells = []; base = 0; functions = [] } }
     requires whole { known.now.whole.items ≡ codes "Host" ∷ codes "Service" ∷ [] }
     requires absent { known.now.absent.items ≡ [] }
@@ -86,9 +92,9 @@ pub(crate) fn load_view<'a>(
 {
     WorldView {
         store,
-        templates: &[],
+        templates,
         rules: &[],
-        objects: &[],
+        objects,
         known,
         files,
     }

@@ -5,3 +5,5 @@ pub mod Called
 pub mod Handing
 pub mod Reading
 pub mod Writing
+pub mod Found
+pub mod Placed

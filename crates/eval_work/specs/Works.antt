@@ -86,7 +86,7 @@ abbrev pub plain_loading : Loading → PlainLoading
 plain_loading m = record {
   order = drop m.at m.order.items;
   constants = m.constants;
-  templates = map plain_template m.templates.items;
+  templates = map plain_template m.templates;
   items = map plain_item m.items.items;
   rules = map plain_rule m.rules.items;
 }

@@ -11,7 +11,6 @@ ghost use Rattle.eval_work.specs.Kept.{Named, PairsNamed, IsFit, IsStill, IsTold
 
 use crate::frame::first_locals;
 use crate::names::named_fault;
-use crate::templates::find_template;
 use crate::work::fault;
 use crate::{Locals, Stop, Task, Work, WorldView};
 use dsl_syntax::Block;
@@ -78,7 +77,7 @@ impl Work {
         ensures gives { Gives plain_imported result (state_of self.now) (found_template place name.now bound.now (template_in kind.now name.now (view_of view.now).templates) (state_of self.now)) }
         ensures named { IfOk result (λ i. PairsNamed self.now.store i.locals) }
     {
-        match find_template(view.templates, kind, name) {
+        match view.templates.find(kind.as_str(), name.as_str()) {
             Some(template) => {
                 let empty = Locals::new(self.alloc);
                 let locals = first_locals(&template.captured, bound.pairs(), empty)?;

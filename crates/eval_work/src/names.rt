@@ -38,7 +38,7 @@ fn in_cell<'a>(store: &'a Store, cell: u32, name: &Text) -> Option<&'a Value>
 }
 
 /// A fault that names something.
-pub(crate) fn named_fault(alloc: Global, place: Place, kind: DiagKind, name: &Text) -> Stop
+pub fn named_fault(alloc: Global, place: Place, kind: DiagKind, name: &Text) -> Stop
     ensures { IsNamedFault result place kind name.now }
 {
     match quote(alloc, name.as_str()) {

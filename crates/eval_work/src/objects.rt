@@ -8,28 +8,26 @@ ghost use Rattle.eval_work.specs.Works.{state_of, view_of, shown_object, Gives};
 ghost use Rattle.eval_work.specs.Kept.{IsFit, IsKept};
 
 use crate::work::fault;
-use crate::{Stop, Work, WorldView};
+use crate::{Committed, Stop, Work, WorldView};
 use dsl_value::{Value, tree_cost};
 use eval_meaning::Read;
 use site_base::{DiagKind, OutOfMemory, Place, Text, Tree};
-use site_model::Object;
 use std::alloc::Global;
 
-/// The first object of a type and a full name.
-fn find<'a>(objects: &'a [Object], read: &Read) -> Option<&'a Tree>
+/// The tree of the first object of a type and a full name.
+pub fn find_object<'a>(objects: &'a Committed, read: &Read) -> Option<&'a Tree>
     ensures found { IfSome result (λ t. object_in read.now (map shown_object objects.now) ≡ Some (tree_view t.now)) }
     ensures absent { IfNone result (object_in read.now (map shown_object objects.now) ≡ None) }
 {
-    for object in objects {
-        if read.kind == object.kind && read.name == object.name {
-            return Some(&object.tree);
-        }
+    match objects.find(read.kind.as_str(), read.name.as_str()) {
+        Some(object) => Some(&object.tree),
+        None => None,
     }
-    None
 }
 
-/// Whether there is no object where none is shown.
-fn is_absent(view: &WorldView, read: &Read) -> bool
+/// Whether there is no object of a type and a full name where the view shows none: it says so of the name, or it shows all objects
+/// of the type.
+pub fn is_absent(view: &WorldView, read: &Read) -> bool
     ensures { result ≡ absent_of (view_of view.now) read.now }
 {
     view.known.absent.iter().any(|absent| read.kind == absent.kind && read.name == absent.name)
@@ -85,7 +83,7 @@ impl Work {
         ensures gives { Gives (λ v. v) result (state_of self.new) (read_of (view_of view.now) place read (state_of self.old)) }
         ensures kept { IfOk result (IsKept self.old self.new) }
     {
-        match find(view.objects, &read) {
+        match find_object(view.objects, &read) {
             Some(tree) => {
                 self.reads.push(read)?;
                 self.load(place, tree)
@@ -112,7 +110,8 @@ impl Work {
     }
 }
 
-fn read_of_host(alloc: Global, name: &Text) -> Result<Read, OutOfMemory>
+/// What is read of a host (Icinga 2 documentation, Library Reference, get_host).
+pub fn read_of_host(alloc: Global, name: &Text) -> Result<Read, OutOfMemory>
     ensures { IfOk result (λ r. r ≡ host name.now) }
 {
     Ok(Read {

@@ -10,7 +10,6 @@ ghost use Rattle.eval_work.specs.Works.{state_of, view_of, plain_loading, plain_
 ghost use Rattle.eval_work.specs.Kept.{Named, PairsNamed, IsFit, IsStill};
 
 use crate::names::named_fault;
-use crate::templates::find_template;
 use crate::types::{is_group, is_type, takes_target};
 use crate::work::fault;
 use crate::{Item, Loading, Locals, Rule, Stop, Task, Template, Work, WorldView};
@@ -114,7 +113,7 @@ impl Work {
         self.check_block(place, kind, body)?;
         match &mut self.task {
             Task::Load(load) => {
-                if let Some(first) = find_template(&load.templates, kind, &name) {
+                if let Some(first) = load.templates.find(kind.as_str(), name.as_str()) {
                     return Err(duplicate(view, place, first));
                 }
                 let template = Template {
@@ -124,7 +123,7 @@ impl Work {
                     captured: captured.into_vec(),
                     body: body.clone()?,
                 };
-                Ok(load.templates.push(template)?)
+                Ok(load.templates.add(template)?)
             }
             Task::Item { .. } => Ok(()),
             Task::Rule => Ok(()),
@@ -314,7 +313,7 @@ fn condition_in(body: &[Stmt]) -> Option<Place>
 }
 
 /// Whether some `assign` stands in a body.
-fn has_assign(body: &[Stmt]) -> bool
+pub fn has_assign(body: &[Stmt]) -> bool
     ensures { result ≡ assign_in (stmts_view body.now) }
 {
     for statement in body {
@@ -326,7 +325,7 @@ fn has_assign(body: &[Stmt]) -> bool
 }
 
 /// A name isn't empty, and has neither a `!` nor a byte below 32.
-fn is_good_name(name: &Text) -> bool
+pub fn is_good_name(name: &Text) -> bool
     ensures { result ≡ name_is_good name.now }
 {
     !name.is_empty()

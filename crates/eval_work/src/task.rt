@@ -1,5 +1,5 @@
 // What is evaluated.
-use crate::{Item, Locals, Rule, Template};
+use crate::{Item, Locals, Rule, Templates};
 use site_base::Text;
 
 /// What a load has come to.
@@ -10,7 +10,7 @@ pub struct Loading {
     pub at: usize,
     /// Each constant, with whether it can be replaced.
     pub constants: Locals,
-    pub templates: Vec<Template>,
+    pub templates: Templates,
     pub items: Vec<Item>,
     pub rules: Vec<Rule>,
 }

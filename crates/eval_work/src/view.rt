@@ -1,13 +1,8 @@
 // What an evaluation is told of the site.
-ghost use Rattle.std.specs.Prelude.{◌≡◌, IfSome, IfNone, Some, None};
-ghost use Rattle.eval_meaning.specs.Views.{template_in, object_in};
-ghost use Rattle.eval_work.specs.Works.{plain_template, templates_of};
-
-use crate::{Rule, SourceFile, Template};
+use crate::{Committed, Rule, SourceFile, Templates};
 use dsl_value::Store;
 use eval_meaning::Read;
 use site_base::Text;
-use site_model::Object;
 
 /// What is known beside the objects that are shown: the types of which all are, and the names that are absent.
 #[derive(Drop)]
@@ -21,9 +16,9 @@ pub struct Known {
 #[derive(Clone, Copy)]
 pub struct WorldView<'a> {
     pub store: &'a Store,
-    pub templates: &'a [Template],
+    pub templates: &'a Templates,
     pub rules: &'a [Rule],
-    pub objects: &'a [Object],
+    pub objects: &'a Committed,
     pub known: &'a Known,
     pub files: &'a [SourceFile],
 }

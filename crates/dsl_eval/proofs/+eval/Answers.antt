@@ -207,6 +207,10 @@ pub calls::eval_called_index-eval_at-requires-2 : goal.calls::eval_called_index-
 calls::eval_called_index-eval_at-requires-2 t c =
     (search rules, (c.in_ok-value.ensures.kept.fit, (told_later c.args.view.now _ _ c.in_ok-value.ensures.kept.later c.requires.told)))
 
+pub registering::run_named-eval_captures-requires : goal.registering::run_named-eval_captures-requires
+registering::run_named-eval_captures-requires t c =
+    (search rules, (c.in_ok-value.ensures.kept.fit, (told_later c.args.view.now _ _ c.in_ok-value.ensures.kept.later c.requires.told)))
+
 pub files::run_file-returns-in_err-value-clause-gives : goal.files::run_file-returns-in_err-value-clause-gives
 files::run_file-returns-in_err-value-clause-gives t c =
     let part : c.in_ok-index.field-0 ≡ Some (c.in-Some.index, c.in-Some.around) = cc in
