@@ -1,0 +1,147 @@
+-- The evaluation of a rule, in the parts in which it is run.
+use Rattle.std.proofs.Common.{◌≡◌, ◌+◌, ℕ, List, [], ◌∷◌, ◌++◌, Option, None, Some, Result, Ok, Err, Bool, false, refl, sym, ap, ◌∙◌, subst, append-nil}
+use Rattle.std.specs.Prelude.{IfOk, OnOk}
+use Rattle.site_base.specs.declared.place.Place.{Place}
+use Rattle.dsl_syntax.specs.Syntax.{Loop, loop}
+use Rattle.dsl_value.specs.Pairs.{Pairs}
+use Rattle.dsl_value.specs.Contents.{Contents, PlainCell, with_cells}
+use Rattle.dsl_value.specs.Walks.{tree_walked}
+use Rattle.dsl_value.specs.Loads.{load, grown, given}
+use Rattle.dsl_value.specs.declared.tree_fault.TreeFault.{TreeFault}
+use Rattle.dsl_value.specs.declared.value.Value.{Value}
+use Rattle.dsl_value.specs.declared.value.Value.TheVariants as value
+use Rattle.site_base.specs.Data.{Data}
+use Rattle.eval_meaning.specs.Evaluation.{value_of}
+use Rattle.eval_meaning.specs.Frames.{entered, first_locals}
+use Rattle.eval_work.specs.Works.{state_of}
+use Rattle.eval_work.specs.declared.work.Work.{Work}
+use Rattle.eval_work.specs.declared.stop.Stop.{Stop}
+use Rattle.eval_work.specs.declared.view.WorldView.{WorldView}
+use Rattle.eval_work.specs.Kept.{IsFit, IsKept, IsLater, IsTold}
+use Rattle.eval_work.proofs.Later.{told_later}
+use Rattle.item_start.specs.Ready.{IsReady}
+use Rattle.eval_meaning.specs.Load.{most_open}
+use Rattle.eval_meaning.specs.Members.{or_wrong}
+use Rattle.eval_meaning.specs.Parts.{place_of}
+use Rattle.eval_meaning.specs.Registered.{PlainItem, PlainRule}
+use Rattle.eval_meaning.specs.States.{State, Outcome, gives, faults, blocked, ◌>>=◌, rule}
+use Rattle.eval_meaning.specs.Views.{View}
+use Rattle.commit_meaning.specs.Conditions.{no_verdict, judged}
+use Rattle.commit_meaning.specs.Names.{Target, target_names}
+use Rattle.commit_meaning.specs.Rules.{Element, of_value, in_rule, looped, elements_of, back_at, unless_dropped, element_judged, element_run, elements_run, first_number, rule_run}
+use Rattle.commit_meaning.specs.Starts.{Trees, fresh, values_of, tree_by, tree_at, trees_at}
+use Rattle.item_start.specs.Bound.{Bound, bound_in}
+use Rattle.item_start.proofs.Bindings.{values_are_bound}
+use Rattle.dsl_value.specs.PlainStores.{plain_store}
+use Rattle.eval_meaning.specs.declared.read.Read.{Read}
+use Rattle.apply_rules.specs.Preparations.{IsPrepared}
+use Rattle.apply_rules.specs.Seen.{names_of}
+use Rattle.apply_rules.specs.declared.prepared.Prepared.{Prepared}
+use Rattle.apply_rules.specs.Judging.{in_rule_with, judged_element, unframed, looped_items}
+use Rattle.apply_rules.specs.Looped.{elements_by}
+
+bind_same : {A B : Type 0} (o : Outcome A) (f g : A → State → Outcome B) → ((a : A) (s : State) → f a s ≡ g a s) → (o >>= f) ≡ (o >>= g)
+bind_same (gives a s) f g h = h a s
+bind_same (faults l k t rs) f g h = refl
+bind_same (blocked r rs) f g h = refl
+
+-- ---- names
+
+-- names, and others behind them
+pub bound_append : (ts us : Trees) (ps : Pairs) (cs : List PlainCell) → bound_in (ts ++ us) ps cs ≡ bound_in us (bound_in ts ps cs).pairs (bound_in ts ps cs).cells
+bound_append [] us ps cs = refl
+bound_append (t ∷ ts) us ps cs = bound_append ts us (ps ++ (t.0, given 0 cs (load t.1)) ∷ []) (grown 0 cs (load t.1))
+
+-- a work whose frame was entered step by step, behind the names `ts` and then `us`
+pub rule_entered : {X E : Type 0} (r : Result X E) (w mid new : Work) (ts us : Trees) (captured ps qs : Pairs) (s1 s2 : Contents)
+    → s1 ≡ with_cells w.store (bound_in ts [] w.store.cells).cells
+    → ps ≡ (bound_in ts [] w.store.cells).pairs
+    → s2 ≡ with_cells s1 (bound_in us ps s1.cells).cells
+    → qs ≡ (bound_in us ps s1.cells).pairs
+    → mid ≡ record w { store = s2 }
+    → OnOk r (new ≡ record mid { this = value.Null; locals = first_locals captured qs; in_file = false })
+    → OnOk r (state_of new ≡ in_rule_with captured (ts ++ us) (state_of w))
+rule_entered (Ok x) w mid new ts us captured ps qs s1 s2 e1 ep e2 eq em h =
+    ap state_of h ∙ (rw (em, eq, e2, ep, e1) (ap (λ b. entered value.Null (first_locals captured b.pairs) false (record (state_of w) { cells = b.cells })) (sym (bound_append ts us [] w.store.cells))))
+rule_entered (Err x) w mid new ts us captured ps qs s1 s2 e1 ep e2 eq em h = tt
+
+-- and it is ready, where it was before
+pub ready_entered : {X E : Type 0} (this : Value) (locals : Pairs) (in_file : Bool) (r : Result X E) (v : WorldView) (w mid new : Work) → IsReady v w → IsLater w.store mid.store → mid.depth ≡ w.depth
+    → OnOk r (new ≡ record mid { this = this; locals = locals; in_file = in_file }) → OnOk r (IsFit new) → OnOk r (IsReady v new)
+ready_entered this locals in_file (Ok x) v w mid new h l d e f = record { fit = f; told = subst (λ u. IsTold v u.store) (sym e) (told_later v w.store mid.store l h.told); depth = ap (λ u. u.depth) e ∙ (d ∙ h.depth) }
+ready_entered this locals in_file (Err x) v w mid new h l d e f = tt
+
+-- a work after a value was evaluated
+pub ready_kept : (r : Result Value Stop) (v : WorldView) (w new : Work) → IsReady v w → IfOk r (IsKept w new) → new.depth ≡ w.depth → OnOk r (IsReady v new)
+ready_kept (Ok x) v w new h k d = record { fit = k.fit; told = told_later v w.store new.store k.later h.told; depth = d ∙ h.depth }
+ready_kept (Err x) v w new h k d = tt
+
+-- ---- one element
+
+-- an element is judged in the frame in which all names are bound
+pub element_is : (v : View) (r : PlainRule) (t : Target) (k : ℕ) (e : Element) (names : Trees) (s : State) → element_judged v r t k e names s ≡ judged_element v r t k e.key names (in_rule_with r.captured names s)
+element_is v r t k e names s =
+    ap (λ o. o >>= λ bound s1. (judged v r.body no_verdict (in_rule r.captured bound s1) >>= λ w s2. unless_dropped r t k e names w s2)) (values_are_bound names [] s)
+
+-- the frame before it counts for nothing
+module _ (this : Value) (locals : Pairs) (in_file : Bool) where
+  trees_unframed : {A : Type 0} (l : Place) (ps : Pairs) (ts : Trees) (s : State) (f : Trees → State → Outcome A) → ((us : Trees) → f us (entered this locals in_file s) ≡ f us s) → (trees_at l ps ts (entered this locals in_file s) >>= f) ≡ (trees_at l ps ts s >>= f)
+  unfolding tree_at
+  trees_unframed l [] ts s f h = h ts
+  trees_unframed l (p ∷ ps) ts s f h = by (tree_walked s.cells p.1) (λ d. trees_unframed l ps (ts ++ (p.0, d) ∷ []) s f h)
+    where
+      by : (o : Result Data TreeFault) → ((d : Data) → (trees_at l ps (ts ++ (p.0, d) ∷ []) (entered this locals in_file s) >>= f) ≡ (trees_at l ps (ts ++ (p.0, d) ∷ []) s >>= f)) → ((tree_by l o (entered this locals in_file s) >>= λ d s1. trees_at l ps (ts ++ (p.0, d) ∷ []) s1) >>= f) ≡ ((tree_by l o s >>= λ d s1. trees_at l ps (ts ++ (p.0, d) ∷ []) s1) >>= f)
+      by (Ok d) k = k d
+      by (Err e) k = refl
+
+  element_unframed : (v : View) (r : PlainRule) (t : Target) (k : ℕ) (e : Element) (s : State) → element_run v r t k e (entered this locals in_file s) ≡ element_run v r t k e s
+  element_unframed v r t k e s =
+      trees_unframed r.place e.bound [] s (λ own s1. element_judged v r t k e (target_names t ++ own) s1)
+      (λ own. element_is v r t k e (target_names t ++ own) (entered this locals in_file s) ∙ sym (element_is v r t k e (target_names t ++ own) s))
+
+-- ---- all elements
+
+elements_unframed : (v : View) (r : PlainRule) (t : Target) (before : State) (k : ℕ) (es : List Element) (is : List PlainItem) (s : State) → elements_run v r t before k es is s ≡ elements_run v r t (unframed before) k es is s
+elements_unframed v r t before k [] is s = refl
+elements_unframed v r t before k (e ∷ es) is s =
+    ap (λ o. o >>= λ js s1. elements_run v r t before (k + 1) es (is ++ js) s1) (sym (element_unframed value.Null [] false v r t k e (back_at before s)))
+    ∙ bind_same (element_run v r t k e (back_at (unframed before) s)) _ _ (λ js s1. elements_unframed v r t before (k + 1) es (is ++ js) s1)
+
+-- ---- a rule
+
+abbrev run_by : View → PlainRule → Target → Option Loop → Outcome (List PlainItem)
+run_by v r t o = elements_of v r (target_names t) o (fresh v.store rule []) >>= λ es s. elements_run v r t s (first_number o) es [] s
+
+abbrev first_state : View → PlainRule → Target → State
+first_state v r t = in_rule_with r.captured (target_names t) (fresh v.store rule [])
+
+-- a rule without a `for`
+pub once_is : (v : View) (r : PlainRule) (t : Target) → r.loop ≡ None → rule_run v r t ≡ judged_element v r t 0 [] (target_names t ++ []) (first_state v r t)
+unfolding rule_run
+once_is v r t h =
+    ap (run_by v r t) h
+    ∙ (ap (λ o. o >>= λ js s. gives js s) (element_is v r t 0 (record { key = []; bound = [] }) (target_names t ++ []) (fresh v.store rule []))
+    ∙ (itself (judged_element v r t 0 [] (target_names t ++ []) (in_rule_with r.captured (target_names t ++ []) (fresh v.store rule [])))
+    ∙ ap (λ ns. judged_element v r t 0 [] (target_names t ++ []) (in_rule_with r.captured ns (fresh v.store rule []))) (append-nil (target_names t))))
+  where
+    itself : {A : Type 0} (o : Outcome A) → (o >>= λ a s. gives a s) ≡ o
+    itself (gives a s) = refl
+    itself (faults l k x rs) = refl
+    itself (blocked q rs) = refl
+
+-- a rule with one
+pub loop_is : (v : View) (r : PlainRule) (t : Target) (x : Loop) → r.loop ≡ Some x → rule_run v r t ≡ looped_items v r x t (first_state v r t)
+unfolding rule_run
+loop_is v r t x h =
+    ap (run_by v r t) h
+    ∙ (ap (λ o. o >>= λ es s. elements_run v r t s 1 es [] s) (looped_is x)
+    ∙ bind_same (elements_by v x (first_state v r t)) _ _ (λ es s. elements_unframed v r t s 1 es [] s))
+  where
+    looped_is : (x : Loop) → looped v r (target_names t) x (fresh v.store rule []) ≡ elements_by v x (first_state v r t)
+    looped_is (loop k o e) = ap (λ y. y >>= λ bound s1. (value_of v most_open e (in_rule r.captured bound s1) >>= λ w s2. or_wrong (place_of e) (of_value s2.cells k o w) s2)) (values_are_bound (target_names t) [] (fresh v.store rule []))
+
+-- ---- what was prepared
+
+-- the frame of expressions in a prepared store
+pub prepared_is : (s : Contents) (p : Prepared) (names : Trees) (captured : Pairs) (reads : List Read) → IsPrepared s p → names_of p.subject ≡ names → in_rule captured p.bound.items (fresh (plain_store p.store) rule reads) ≡ in_rule_with captured names (fresh (plain_store s) rule reads)
+prepared_is s p names captured reads h e = rw (h.bound, h.store, e) refl

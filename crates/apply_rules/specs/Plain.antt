@@ -1,0 +1,46 @@
+-- The plain values of what rules and groups work with.
+use Rattle.std.specs.Prelude.{ℕ, List, [], ◌∷◌, map, Option, Some, None, Vec}
+use Rattle.std.specs.declared.alloc.Global.{Global}
+use Rattle.site_model.specs.PlainSite.{object_view}
+use Rattle.eval_meaning.specs.Registered.{PlainItem}
+use Rattle.eval_work.specs.Works.{plain_item}
+use Rattle.eval_work.specs.declared.item.Item.{Item}
+use Rattle.commit_meaning.specs.Answers as answer
+use Rattle.commit_meaning.specs.Answers.{Answer}
+use Rattle.commit_meaning.specs.Conditions as conditions
+use Rattle.commit_meaning.specs.Names as names
+use Rattle.commit_meaning.specs.Rules as rules
+use Rattle.apply_rules.specs.declared.conditions.Verdict.{Verdict}
+use Rattle.apply_rules.specs.declared.elements.Element.{Element}
+use Rattle.apply_rules.specs.declared.rule_answer.RuleAnswer.{RuleAnswer}
+use Rattle.apply_rules.specs.declared.rule_answer.RuleAnswer.TheVariants as rule_answers
+use Rattle.apply_rules.specs.declared.target.Target.{Target}
+use Rattle.apply_rules.specs.declared.target.Target.TheVariants as target
+
+abbrev pub plain_target : Target → names.Target
+plain_target (target.Host h) = names.host (object_view h.now)
+plain_target (target.Service h s) = names.service (object_view h.now) (object_view s.now)
+
+abbrev pub plain_verdict : Verdict → conditions.Verdict
+plain_verdict v = record { assigned = v.assigned; ignored = v.ignored }
+
+-- ---- rules
+
+abbrev pub plain_element : Element → rules.Element
+plain_element e = record { key = e.key; bound = e.bound.items }
+
+abbrev pub plain_elements : Vec Element Global → List rules.Element
+plain_elements es = map plain_element es.items
+
+abbrev pub plain_items : Vec Item Global → List PlainItem
+plain_items is = map plain_item is.items
+
+-- an item that is kept, as a list of one
+abbrev pub plain_kept : Option Item → List PlainItem
+plain_kept (Some i) = plain_item i ∷ []
+plain_kept None = []
+
+abbrev pub rule_answer : RuleAnswer → Answer (List PlainItem)
+rule_answer (rule_answers.Items is) = answer.made (plain_items is)
+rule_answer (rule_answers.Diag d) = answer.diagnosed (d ∷ [])
+rule_answer (rule_answers.Blocked r) = answer.blocked r

@@ -1,0 +1,187 @@
+// The evaluation of a rule at a target.
+ghost use Rattle.std.specs.Prelude.{◌≡◌, ◌+◌, ◌++◌, [], false, OnOk, IfOk, IfErr, None, Some, map};
+ghost use Rattle.dsl_syntax.specs.SyntaxView.{each_view};
+ghost use Rattle.dsl_value.specs.PlainStores.{plain_store};
+ghost use Rattle.eval_meaning.specs.States.{rule as rule_task};
+ghost use Rattle.eval_work.specs.Works.{state_of, view_of, plain_item, plain_rule, Gives};
+ghost use Rattle.commit_meaning.specs.Answers.{answered};
+ghost use Rattle.commit_meaning.specs.Names.{target_names};
+ghost use Rattle.commit_meaning.specs.Starts.{fresh};
+ghost use Rattle.commit_meaning.specs.Rules.{rule_run, pair_number, elements_run};
+ghost use Rattle.eval_work.specs.Kept.{HasGlobals, IsFit, PairsNamed};
+ghost use Rattle.item_start.specs.Answers.{Answers};
+ghost use Rattle.item_start.specs.Ready.{IsReady};
+ghost use Rattle.apply_rules.specs.Judging.{in_rule_with, judged_element, looped_items, unframed};
+ghost use Rattle.apply_rules.specs.Lawful.{IsApplicable};
+ghost use Rattle.apply_rules.specs.Named.{ElementsNamed};
+ghost use Rattle.apply_rules.specs.Plain.{plain_target, plain_element, plain_items, plain_kept};
+
+use crate::elements::{Element, elements};
+use crate::keeping::{element_item, judged_item};
+use crate::prepared::begin_expressions;
+use crate::{PreparedTarget, Target};
+use dsl_syntax::Each;
+use dsl_value::{Store, Value};
+use eval_work::{Item, Locals, Rule, Stop, Task, Work, WorldView};
+use site_base::{OutOfMemory, Text};
+use std::alloc::Global;
+
+/// The items of a rule at a target. It ends early by the first fault, or by the first read that isn't decided.
+pub(crate) fn run_rule(
+    alloc: Global,
+    view: &WorldView,
+    rule: &Rule,
+    target: &PreparedTarget,
+) -> Result<Vec<Item>, Stop>
+    requires { IsApplicable view.now rule.now target.now }
+    ensures { Answers plain_items (pair_number (plain_rule rule.now) (plain_target target.now.target)) result (answered (pair_number (plain_rule rule.now) (plain_target target.now.target)) (rule_run (view_of view.now) (plain_rule rule.now) (plain_target target.now.target))) }
+{
+    match &rule.each {
+        Some(each) => run_loop(alloc, view, rule, each, target),
+        None => run_once(alloc, view, rule, target),
+    }
+}
+
+/// The item of a rule without a `for`, if it is kept.
+fn run_once(
+    alloc: Global,
+    view: &WorldView,
+    rule: &Rule,
+    target: &PreparedTarget,
+) -> Result<Vec<Item>, Stop>
+    requires applicable { IsApplicable view.now rule.now target.now }
+    requires once { (plain_rule rule.now).loop ≡ None }
+    ensures { Answers plain_items (pair_number (plain_rule rule.now) (plain_target target.now.target)) result (answered (pair_number (plain_rule rule.now) (plain_target target.now.target)) (rule_run (view_of view.now) (plain_rule rule.now) (plain_target target.now.target))) }
+{
+    let mut work = begin_rule(alloc, view, rule, target)?;
+    one_item(view, rule, &target.target, &mut work)
+}
+
+fn one_item(
+    view: &WorldView,
+    rule: &Rule,
+    target: &Target,
+    work: &mut Work,
+) -> Result<Vec<Item>, Stop>
+    requires { IsReady view.now work.old }
+    ensures { Gives plain_items result (state_of work.new) (judged_element (view_of view.now) (plain_rule rule.now) (plain_target target.now) 0 [] (target_names (plain_target target.now) ++ []) (state_of work.old)) }
+{
+    let key = Text::new(work.alloc);
+    let own = Vec::new(work.alloc);
+    let mut items = Vec::new(work.alloc);
+    let kept = judged_item(view, rule, target, 0, &key, own, work)?;
+    keep(&mut items, kept)?;
+    Ok(items)
+}
+
+/// The items of a rule with a `for`.
+fn run_loop(
+    alloc: Global,
+    view: &WorldView,
+    rule: &Rule,
+    each: &Each,
+    target: &PreparedTarget,
+) -> Result<Vec<Item>, Stop>
+    requires applicable { IsApplicable view.now rule.now target.now }
+    requires each { (plain_rule rule.now).loop ≡ Some (each_view each.now) }
+    ensures { Answers plain_items (pair_number (plain_rule rule.now) (plain_target target.now.target)) result (answered (pair_number (plain_rule rule.now) (plain_target target.now.target)) (rule_run (view_of view.now) (plain_rule rule.now) (plain_target target.now.target))) }
+{
+    let mut work = begin_rule(alloc, view, rule, target)?;
+    loop_items(view, rule, each, &target.target, &mut work)
+}
+
+fn loop_items(
+    view: &WorldView,
+    rule: &Rule,
+    each: &Each,
+    target: &Target,
+    work: &mut Work,
+) -> Result<Vec<Item>, Stop>
+    requires ready { IsReady view.now work.old }
+    requires captured { PairsNamed work.old.store rule.now.captured.items }
+    requires task { work.old.task ≡ Task.Rule }
+    ensures { Gives plain_items result (state_of work.new) (looped_items (view_of view.now) (plain_rule rule.now) (each_view each.now) (plain_target target.now) (state_of work.old)) }
+{
+    let elements = elements(view, each, work)?;
+    run_elements(view, rule, target, &elements, work)
+}
+
+/// The work on which the expressions of a rule are evaluated.
+fn begin_rule(
+    alloc: Global,
+    view: &WorldView,
+    rule: &Rule,
+    target: &PreparedTarget,
+) -> Result<Work, Stop>
+    requires { IsApplicable view.now rule.now target.now }
+    ensures state { IfOk result (λ w. state_of w ≡ in_rule_with rule.now.captured.items (target_names (plain_target target.now.target)) (fresh (plain_store view.now.store.now) rule_task [])) }
+    ensures ready { IfOk result (IsReady view.now) }
+    ensures captured { IfOk result (λ w. PairsNamed w.store rule.now.captured.items) }
+    ensures task { IfOk result (λ w. w.task ≡ Task.Rule) }
+    ensures memory { IfErr result (λ e. e ≡ Stop.Memory) }
+{
+    begin_expressions(
+        alloc,
+        view,
+        &target.prepared,
+        &rule.captured,
+        Vec::new(alloc),
+    )
+}
+
+/// The items of elements that are kept, which are numbered from 1. Each begins with the cells and functions as they are before the first.
+fn run_elements(
+    view: &WorldView,
+    rule: &Rule,
+    target: &Target,
+    elements: &[Element],
+    work: &mut Work,
+) -> Result<Vec<Item>, Stop>
+    requires ready { IsReady view.now work.old }
+    requires captured { PairsNamed work.old.store rule.now.captured.items }
+    requires elements { ElementsNamed work.old.store (map plain_element elements.now) }
+    requires task { work.old.task ≡ Task.Rule }
+    ensures { Gives plain_items result (state_of work.new) (elements_run (view_of view.now) (plain_rule rule.now) (plain_target target.now) (unframed (state_of work.old)) 1 (map plain_element elements.now) [] (state_of work.old)) }
+{
+    let before = work.store.fork()?;
+    let mut items = Vec::new(work.alloc);
+    let mut number = 0;
+    for element in elements {
+        number = next_number(number)?;
+        begin_again(&before, work)?;
+        let kept = element_item(view, rule, target, number, element, work)?;
+        keep(&mut items, kept)?;
+    }
+    Ok(items)
+}
+
+/// More than 4,294,967,295 elements are want of memory.
+fn next_number(number: u32) -> Result<u32, OutOfMemory>
+    ensures { IfOk result (λ n. n ≡ number + 1) }
+{
+    number.checked_add(1).ok_or(OutOfMemory)
+}
+
+/// Goes back to these cells and functions, with what is left of the budget.
+fn begin_again(before: &Store, work: &mut Work) -> Result<(), OutOfMemory>
+    requires { HasGlobals before.now }
+    ensures state { OnOk result (work.new ≡ record work.old { store = before.now; this = Value.Null; locals = []; in_file = false; task = Task.Rule }) }
+    ensures fit { OnOk result (IsFit work.new) }
+{
+    work.store = before.fork()?;
+    work.this = Value::Null;
+    work.locals = Locals::new(work.alloc);
+    work.in_file = false;
+    work.task = Task::Rule;
+    Ok(())
+}
+
+/// Adds an item that is kept.
+fn keep(items: &mut Vec<Item>, kept: Option<Item>) -> Result<(), OutOfMemory>
+    ensures { OnOk result (map plain_item items.new.items ≡ map plain_item items.old.items ++ plain_kept kept) }
+{
+    match kept {
+        Some(item) => Ok(items.push(item)?),
+        None => Ok(()),
+    }
+}

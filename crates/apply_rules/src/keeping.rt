@@ -1,0 +1,83 @@
+// Which elements of a rule are kept.
+ghost use Rattle.std.specs.Prelude.{◌≡◌, ◌++◌, OnOk, IfErr, map};
+ghost use Rattle.eval_work.specs.Kept.{IsFit, PairsNamed};
+ghost use Rattle.eval_work.specs.Works.{state_of, view_of, plain_pair, plain_rule, Gives};
+ghost use Rattle.commit_meaning.specs.Names.{target_names};
+ghost use Rattle.commit_meaning.specs.Rules.{element_run};
+ghost use Rattle.eval_work.specs.declared.view.WorldView.{WorldView as WorldData};
+ghost use Rattle.item_start.specs.Ready.{IsReady};
+ghost use Rattle.apply_rules.specs.Judging.{judged_element, in_rule_with};
+ghost use Rattle.apply_rules.specs.Plain.{plain_target, plain_element, plain_kept};
+
+use crate::Target;
+use crate::conditions::{is_kept, judge};
+use crate::elements::Element;
+use crate::instance::named_instance;
+use crate::subject::bind_subject;
+use crate::target::subject_of;
+use dsl_value::Value;
+use eval_work::{Item, Rule, Stop, Work, WorldView};
+use item_start::{bind_trees, enter_frame, trees_at};
+use site_base::{Text, Tree};
+
+/// The item of an element of a `for`, if it is kept. What the `for` binds goes through its trees before the conditions are
+/// evaluated, over new copies of all that is bound.
+pub(crate) fn element_item(
+    view: &WorldView,
+    rule: &Rule,
+    target: &Target,
+    number: u32,
+    element: &Element,
+    work: &mut Work,
+) -> Result<Option<Item>, Stop>
+    requires ready { IsReady view.now work.old }
+    requires captured { PairsNamed work.old.store rule.now.captured.items }
+    requires bound { PairsNamed work.old.store element.now.bound.items }
+    ensures gives { Gives plain_kept result (state_of work.new) (element_run (view_of view.now) (plain_rule rule.now) (plain_target target.now) number (plain_element element.now) (state_of work.old)) }
+    ensures ready { OnOk result (IsReady view.now work.new) }
+{
+    let own = trees_at(work, rule.place, &element.bound)?;
+    enter_with(rule, target, &own, work)?;
+    judged_item(view, rule, target, number, &element.key, own, work)
+}
+
+/// Enters the frame of a rule's expressions, with new copies of what is bound: the names of the target, and then these.
+fn enter_with(
+    rule: &Rule,
+    target: &Target,
+    own: &[(Text, Tree)],
+    work: &mut Work,
+) -> Result<(), Stop>
+    requires fit { IsFit work.old }
+    requires captured { PairsNamed work.old.store rule.now.captured.items }
+    ensures state { OnOk result (state_of work.new ≡ in_rule_with rule.now.captured.items (target_names (plain_target target.now) ++ map plain_pair own.now) (state_of work.old)) }
+    ensures ready { (v : WorldData) → IsReady v work.old → OnOk result (IsReady v work.new) }
+    ensures memory { IfErr result (λ e. e ≡ Stop.Memory) }
+{
+    let mut bound = Vec::new(work.alloc);
+    bind_subject(work.alloc, &mut work.store, &mut bound, &subject_of(target))?;
+    bind_trees(&mut work.store, &mut bound, own)?;
+    enter_frame(work, Value::Null, &rule.captured, &bound)
+}
+
+/// The item of an element, if its conditions keep it. The work is in the frame of the rule's expressions.
+pub(crate) fn judged_item(
+    view: &WorldView,
+    rule: &Rule,
+    target: &Target,
+    number: u32,
+    key: &Text,
+    own: Vec<(Text, Tree)>,
+    work: &mut Work,
+) -> Result<Option<Item>, Stop>
+    requires { IsReady view.now work.old }
+    ensures gives { Gives plain_kept result (state_of work.new) (judged_element (view_of view.now) (plain_rule rule.now) (plain_target target.now) number key.now (target_names (plain_target target.now) ++ map plain_pair own.items) (state_of work.old)) }
+    ensures ready { OnOk result (IsReady view.now work.new) }
+{
+    let verdict = judge(view, &rule.body, work)?;
+    if is_kept(&rule.body, verdict) {
+        named_instance(work, rule, target, number, key, own)
+    } else {
+        Ok(None)
+    }
+}
