@@ -1,0 +1,14 @@
+-- The items of a wave.
+use Rattle.std.specs.Prelude.{List, [], ◌∷◌, Bool, if◌then◌else◌}
+use Rattle.eval_meaning.specs.Registered.{PlainItem}
+use Rattle.eval_work.specs.Works.{plain_item}
+use Rattle.wave_order.specs.declared.wave_item.WaveItem.{WaveItem}
+use Rattle.wave_order.specs.declared.wave_item.WaveItem.TheVariants as wave_items
+
+abbrev pub plain_wave_item : WaveItem → PlainItem
+plain_wave_item (wave_items.Registered i) = plain_item i.now
+plain_wave_item (wave_items.Made i) = plain_item i
+
+-- one thing, where it is kept
+abbrev pub kept : {A : Type 0} → Bool → A → List A
+kept b a = if b then a ∷ [] else []
