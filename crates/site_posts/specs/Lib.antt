@@ -1,0 +1,4 @@
+pub mod Books
+pub mod Sights
+pub mod Segments
+pub mod Made

@@ -1,0 +1,73 @@
+// A round of one caller.
+ghost use Rattle.std.specs.Prelude.{◌≡◌, ◌∷◌, ℕ, [], map, IfOk, OnOk, OnErr};
+ghost use Rattle.site_model.specs.PlainSite.{site_view};
+ghost use Rattle.run_meaning.specs.Alone.{AreOnSite};
+ghost use Rattle.run_meaning.specs.Rounds.{IsRound};
+ghost use Rattle.run_meaning.specs.Runs.{joined};
+ghost use Rattle.run_meaning.specs.Turns.{Command, Feed};
+ghost use Rattle.depend_graph.specs.Graph.{IsGraphOf};
+ghost use Rattle.site_posts.specs.Books.{AreBooks, histories_of};
+ghost use Rattle.site_posts.specs.Made.{IsPartly, asked_of, basis_in, round_made};
+ghost use Rattle.site_posts.specs.Segments.{segments_of as segments_in};
+
+use crate::act::Act;
+use crate::gathering::{Gathered, gather, segments_of};
+use crate::segment::Segments;
+use crate::setting::Setting;
+use checkable_core::Checkable;
+use depend_graph::Graph;
+use site_base::{Moment, OutOfMemory};
+use site_model::Site;
+use std::alloc::Global;
+use std::collections::BTreeMap;
+use time_range::Zone;
+
+/// Takes the acts of one caller at a moment, one after another, and gives the entries that checkables get of them. Each entry is made by
+/// what the ancestors of its checkable show when it is made. The books are the checkables of the site, one each by index, and have
+/// no entry after the moment.
+///
+/// It takes a time that grows with the acts, with the ancestors of their checkables, and with the logarithm of how many checkables get
+/// entries.
+///
+/// # Errors
+///
+/// `OutOfMemory` where there is none for an entry, its sights or the answer. The books then have the entries of the first of the acts,
+/// of which any number was taken.
+pub fn round_one(
+    alloc: Global,
+    site: &Site,
+    graph: &Graph,
+    zone: &Zone,
+    books: &mut Vec<Checkable>,
+    moment: Moment,
+    list: Vec<Act>,
+) -> Result<Segments, OutOfMemory>
+    requires graph { IsGraphOf (site_view site.now) graph.now }
+    requires books { AreBooks (site_view site.now) moment books.old.items }
+    requires acts { AreOnSite (site_view site.now) (map asked_of list.items) }
+    ensures round { (command : ℕ → Command) (feed : Feed) →
+        OnOk result (IsRound (basis_in (site_view site.now) zone.now command feed) moment (histories_of books.old.items) (map asked_of list.items ∷ []) (round_made (site_view site.now) zone.now command feed moment (histories_of books.old.items) (map asked_of list.items))) }
+    ensures segments { (command : ℕ → Command) (feed : Feed) →
+        IfOk result (λ r. r ≡ segments_in (round_made (site_view site.now) zone.now command feed moment (histories_of books.old.items) (map asked_of list.items))) }
+    ensures behind { (command : ℕ → Command) (feed : Feed) →
+        OnOk result (histories_of books.new.items ≡ joined (histories_of books.old.items) (round_made (site_view site.now) zone.now command feed moment (histories_of books.old.items) (map asked_of list.items))) }
+    ensures books { AreBooks (site_view site.now) moment books.new.items }
+    ensures partly { (command : ℕ → Command) (feed : Feed) →
+        OnErr result (IsPartly (basis_in (site_view site.now) zone.now command feed) moment (histories_of books.old.items) (map asked_of list.items) (histories_of books.new.items)) }
+{
+    let setting = Setting {
+        alloc,
+        site,
+        graph,
+        zone,
+        moment,
+    };
+    let mut gathered: Gathered = BTreeMap::new(alloc);
+    for act in list {
+        let checkable = act.checkable;
+        let sights = setting.sights(books, checkable)?;
+        let entry = setting.take(books, act, &sights)?;
+        gather(alloc, &mut gathered, checkable, entry)?;
+    }
+    segments_of(alloc, gathered)
+}
