@@ -18,3 +18,5 @@ pub mod StepReads
 pub mod LexLaws
 pub mod ListLaws
 pub mod Longest
+pub mod Utf8Laws
+pub mod TokenTexts

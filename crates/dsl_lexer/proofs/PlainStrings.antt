@@ -5,7 +5,7 @@ use Rattle.std.specs.List.{prefix_len}
 use Rattle.dsl_lexer.specs.declared.unit.Unit.TheVariants as unit
 use Rattle.dsl_lexer.specs.Letters.{follows}
 use Rattle.dsl_lexer.specs.Tokens.{is_plain}
-use Rattle.dsl_lexer.specs.Strings.{Body, closed, is_quote, unit_of, body_within, body_of, behind_front}
+use Rattle.dsl_lexer.specs.Strings.{closed, is_quote, unit_of, body_within, body_of, behind_front}
 use Rattle.dsl_lexer.specs.Steps.{text_step, string_step}
 
 -- a byte that stands for itself, and the quote

@@ -37,7 +37,7 @@ run_ascii p h (b ∷ bs) = by (p b) refl (run_ascii p h bs)
 digit_ascii : (b : ℕ) → is_ascii_digit b ≡ true → b < 128
 digit_ascii b e = grind (arith, nat_tests)
 
-name_ascii : (b : ℕ) → is_name_byte b ≡ true → b < 128
+pub name_ascii : (b : ℕ) → is_name_byte b ≡ true → b < 128
 name_ascii b e = grind (arith, nat_tests)
 
 pointed_some : (n : ℕ) → pointed_len (suc n) ≡ suc (suc n)

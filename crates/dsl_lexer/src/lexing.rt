@@ -1,5 +1,6 @@
 // The tokens of a text.
 ghost use Rattle.std.specs.Prelude.{◌≡◌, ◌+◌, ◌-◌, ◌<◌, ◌≤◌, ◌^◌, length, OnOk, IfOk, ℕ, List, Bool, ◌++◌};
+ghost use Rattle.std.specs.Str.{IsUtf8, is_utf8};
 ghost use Rattle.dsl_lexer.specs.Brackets.{opened, keeps};
 ghost use Rattle.dsl_lexer.specs.Places.{place_behind as behind, after};
 ghost use Rattle.dsl_lexer.specs.Lists.{HasTokens, HasFault, GivesTokens, GivesFault, IsFaultOf, IsWhole};
@@ -43,12 +44,17 @@ pub fn lex(alloc: Global, bytes: &[u8], file: u32) -> Result<Row<Token>, LexErro
         line: 1,
         col: 1,
     };
-    match str::from_utf8(bytes) {
-        Ok(_) => tokens_of(alloc, bytes, start),
-        Err(error) => {
-            let (valid, _) = bytes.split_at(error.valid_up_to());
-            Err(fault(place_behind(valid, start)))
-        }
+    match tokens_of(alloc, bytes, start) {
+        Ok(tokens) => Ok(tokens),
+        Err(LexError::OutOfMemory) => Err(LexError::OutOfMemory),
+        // Bytes that aren't UTF-8 come before any other fault, wherever they stand.
+        Err(LexError::Fault(found)) => match str::from_utf8(bytes) {
+            Ok(_) => Err(LexError::Fault(found)),
+            Err(error) => {
+                let (valid, _) = bytes.split_at(error.valid_up_to());
+                Err(fault(place_behind(valid, start)))
+            }
+        },
     }
 }
 
@@ -83,11 +89,13 @@ fn fault(place: Place) -> LexError
     LexError::Fault(LexFault { place })
 }
 
-/// The tokens of a text that begins at a place.
+/// The tokens of a text that begins at a place, given only where all of it is UTF-8. Where it isn't, the
+/// place of a fault says nothing.
 fn tokens_of(alloc: Global, bytes: &[u8], start: Place) -> Result<Row<Token>, LexError>
     requires line { start.line + length bytes.now < 2 ^ 32 }
     requires col { start.col + length bytes.now < 2 ^ 32 }
-    ensures { Gives result (lexed start bytes.now) }
+    ensures text { IfOk result (λ ts. IsUtf8 bytes.now) }
+    ensures found { IsUtf8 bytes.now → Gives result (lexed start bytes.now) }
 {
     let mut tokens = Row::new(alloc);
     let mut brackets = Vec::new(alloc);
@@ -97,6 +105,9 @@ fn tokens_of(alloc: Global, bytes: &[u8], start: Place) -> Result<Row<Token>, Le
         match next_step(alloc, keeps_newlines(brackets.as_slice()), rest)? {
             Step::Passed(len) => {
                 let (passed, behind) = rest.split_at(len);
+                if !is_text(passed) {
+                    return Err(fault(place));
+                }
                 place = place_behind(passed, place);
                 rest = behind;
             }
@@ -115,6 +126,16 @@ fn tokens_of(alloc: Global, bytes: &[u8], start: Place) -> Result<Row<Token>, Le
         kind: TokenKind::End,
     })?;
     Ok(tokens)
+}
+
+/// Whether bytes that are passed over are UTF-8. Most of the time that is a single blank.
+fn is_text(passed: &[u8]) -> bool
+    ensures { result ≡ is_utf8 passed.now }
+{
+    match passed {
+        [byte] => byte.is_ascii(),
+        _ => str::from_utf8(passed).is_ok(),
+    }
 }
 
 /// Whether newlines are tokens where these brackets are open, the innermost last.
