@@ -11,6 +11,7 @@ ghost use Rattle.dsl_lexer.specs.declared.token_kind.TokenKind.{TokenKind};
 ghost use Rattle.site_base.specs.declared.place.Place.{Place};
 ghost use Rattle.dsl_lexer.specs.Lexing.{Gives, all, bad, file_tokens, lexed};
 
+use crate::interner::Interner;
 use crate::stepping::{Step, next_step};
 use crate::{LexError, LexFault, Sign, Token, TokenKind};
 use site_base::{OutOfMemory, Place, Row};
@@ -97,12 +98,18 @@ fn tokens_of(alloc: Global, bytes: &[u8], start: Place) -> Result<Row<Token>, Le
     ensures text { IfOk result (λ ts. IsUtf8 bytes.now) }
     ensures found { IsUtf8 bytes.now → Gives result (lexed start bytes.now) }
 {
+    let mut interner = Interner::new(alloc)?;
     let mut tokens = Row::new(alloc);
     let mut brackets = Vec::new(alloc);
     let mut place = start;
     let mut rest = bytes;
     while !rest.is_empty() {
-        match next_step(alloc, keeps_newlines(brackets.as_slice()), rest)? {
+        match next_step(
+            alloc,
+            &mut interner,
+            keeps_newlines(brackets.as_slice()),
+            rest,
+        )? {
             Step::Passed(len) => {
                 let (passed, behind) = rest.split_at(len);
                 if !is_text(passed) {

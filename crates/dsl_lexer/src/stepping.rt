@@ -4,13 +4,14 @@ ghost use Rattle.std.specs.Str.{IsAscii};
 ghost use Rattle.dsl_lexer.specs.Steps.{step_at, newline_step, name_at, number_at, mark_at, comment_step, find_end, long_step};
 
 use crate::TokenKind;
+use crate::interner::Interner;
 use crate::letters::{is_blank, is_name_start};
 use crate::mark::Mark;
 use crate::marks::read_mark;
 use crate::spans::{end_len, line_len, name_len, number_len};
 use crate::strings::{copied_text, read_string};
 use crate::words::read_word;
-use site_base::{Num, OutOfMemory, Text};
+use site_base::{Num, OutOfMemory};
 use std::alloc::Global;
 
 /// What a text begins with, and how many bytes of it.
@@ -28,6 +29,7 @@ pub(crate) enum Step {
 #[tactic(auto, unfolding(crate::specs::Steps::step_at))]
 pub(crate) fn next_step(
     alloc: Global,
+    interner: &mut Interner,
     keeps_newlines: bool,
     bytes: &[u8],
 ) -> Result<Step, OutOfMemory>
@@ -43,7 +45,7 @@ pub(crate) fn next_step(
         return Ok(newline(keeps_newlines));
     }
     if is_name_start(*first) {
-        return name(alloc, bytes);
+        return name(interner, bytes);
     }
     if first.is_ascii_digit() {
         return Ok(number(bytes));
@@ -63,7 +65,7 @@ fn newline(is_token: bool) -> Step
 
 /// A reserved word or an identifier.
 #[tactic(auto, unfolding(crate::specs::Steps::name_at))]
-fn name(alloc: Global, bytes: &[u8]) -> Result<Step, OutOfMemory>
+fn name(interner: &mut Interner, bytes: &[u8]) -> Result<Step, OutOfMemory>
     ensures { IfOk result (λ s. s ≡ name_at bytes.now) }
 {
     let len = name_len(bytes);
@@ -71,7 +73,7 @@ fn name(alloc: Global, bytes: &[u8]) -> Result<Step, OutOfMemory>
     if let Some(word) = read_word(name) {
         return Ok(Step::Taken(len, TokenKind::Word(word)));
     }
-    let text = Text::copy_of(alloc, ascii_text(name))?;
+    let text = interner.text_of(name)?;
     Ok(Step::Taken(len, TokenKind::Ident(text)))
 }
 
@@ -89,7 +91,7 @@ fn number(bytes: &[u8]) -> Step
 }
 
 /// Bytes below 128 as a text.
-fn ascii_text(bytes: &[u8]) -> &str
+pub(crate) fn ascii_text(bytes: &[u8]) -> &str
     requires { IsAscii bytes.now }
     ensures { result.now ≡ bytes.now }
 {
