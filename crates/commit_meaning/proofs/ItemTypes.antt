@@ -40,16 +40,19 @@ any_bind Q (gives a s) f k = k a s
 any_bind Q (faults l j t rs) f k = tt
 any_bind Q (blocked r rs) f k = tt
 
--- ---- the items of a rule are of its type
+-- ---- the items of a rule are of its type and have what it captured
+
+abbrev pub IsOfRule : PlainRule → PlainItem → Type 0
+IsOfRule r i = (i.kind ≡ r.kind) × (i.captured ≡ r.captured)
 
 abbrev pub AreOf : PlainRule → List PlainItem → Type 0
-AreOf r = AllByRecursion (λ i. i.kind ≡ r.kind)
+AreOf r = AllByRecursion (IsOfRule r)
 
 named_of : (r : PlainRule) (t : Target) (k : ℕ) (name : List ℕ) (names : Trees) (s : State) → Gives (AreOf r) (named_instance r t k name names s)
 named_of r t k name names s = by (is_good_name name)
   where
     by : (b : Bool) → Gives (AreOf r) (cond b (gives (instance r t k name names ∷ []) s) (faults (place_by r r.loop) BadName (quoted name) s.reads))
-    by true = (refl, tt)
+    by true = ((refl, refl), tt)
     by false = tt
 
 kept_of : (r : PlainRule) (t : Target) (k : ℕ) (e : Element) (names : Trees) (v : Verdict) (s : State) → Gives (AreOf r) (unless_dropped r t k e names v s)
@@ -69,7 +72,7 @@ module _ (view : View) (r : PlainRule) (t : Target) where
   elements_are_of : (before : State) (k : ℕ) (es : List Element) (is : List PlainItem) (s : State) → AreOf r is → Gives (AreOf r) (elements_run view r t before k es is s)
   elements_are_of before k [] is s h = h
   elements_are_of before k (e ∷ es) is s h =
-      gives_bind (AreOf r) (AreOf r) (element_run view r t k e (back_at before s)) _ (element_of k e (back_at before s)) (λ js s1 q. elements_are_of before (k + 1) es (is ++ js) s1 (all_append (λ i. i.kind ≡ r.kind) is js h q))
+      gives_bind (AreOf r) (AreOf r) (element_run view r t k e (back_at before s)) _ (element_of k e (back_at before s)) (λ js s1 q. elements_are_of before (k + 1) es (is ++ js) s1 (all_append (IsOfRule r) is js h q))
 
   run_of : Gives (AreOf r) (rule_run view r t)
   unfolding rule_run
@@ -95,7 +98,7 @@ module _ (load : Loaded) (before : World) (w : ℕ) where
 
   rule_items : (r : PlainRule) → is_in_wave w r.kind ≡ true → AllByRecursion AnswersWave (rule_answers load before r)
   rule_items r e =
-      all_map (instances (view_before load before) r) (λ t. Unit {0}) AnswersWave (λ t u. all_imp (λ i. i.kind ≡ r.kind) IsOfWave (λ i q. ap (is_in_wave w) q ∙ e) (all_made (instances (view_before load before) r t)) (instances_of (view_before load before) r t)) (targets r.target before.objects) (all_of_each (λ t. Unit {0}) (λ t. tt) (targets r.target before.objects))
+      all_map (instances (view_before load before) r) (λ t. Unit {0}) AnswersWave (λ t u. all_imp (IsOfRule r) IsOfWave (λ i q. ap (is_in_wave w) q.0 ∙ e) (all_made (instances (view_before load before) r t)) (instances_of (view_before load before) r t)) (targets r.target before.objects) (all_of_each (λ t. Unit {0}) (λ t. tt) (targets r.target before.objects))
 
   answers_of : AllByRecursion AnswersWave (wave_answers load before w)
   answers_of = all_flat (rule_answers load before) (λ r. is_in_wave w r.kind ≡ true) AnswersWave rule_items (filter (λ r. is_in_wave w r.kind) load.rules) (all_filter (λ r. is_in_wave w r.kind) load.rules)

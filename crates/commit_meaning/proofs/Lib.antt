@@ -1,6 +1,7 @@
 pub mod Lists
 pub mod Sorting
 pub mod ItemTypes
+pub mod Captured
 pub mod Ordered
 pub mod Deciding
 pub mod OneOrder

@@ -33,6 +33,14 @@ module _ {A : Type 0} where
       by rest true e = (e, rest)
       by rest false e = rest
 
+  pub all_kept : (P : A → Type 0) (p : A → Bool) (xs : List A) → AllByRecursion P xs → AllByRecursion P (filter p xs)
+  all_kept P p [] h = tt
+  all_kept P p (x ∷ xs) h = by (all_kept P p xs h.1) (p x)
+    where
+      by : AllByRecursion P (filter p xs) → (b : Bool) → AllByRecursion P (cond b (x ∷ filter p xs) (filter p xs))
+      by rest true = (h.0, rest)
+      by rest false = rest
+
   pub later_append : (R : A → A → Type 0) (xs ys : List A) → AllLater R xs → AllLater R ys → AllByRecursion (λ x. AllByRecursion (R x) ys) xs → AllLater R (xs ++ ys)
   later_append R [] ys h k c = k
   later_append R (x ∷ xs) ys h k c = (all_append (R x) xs ys h.0 c.0, later_append R xs ys h.1 k c.1)
