@@ -5,7 +5,7 @@ ghost use Rattle.std.specs.Arc.{arc_value};
 ghost use Rattle.dsl_syntax.specs.SyntaxView.{expr_view, uses_view, block_view, maybe_expr_view, maybe_each_view};
 ghost use Rattle.eval_meaning.specs.Registration.{apply_rule_with};
 ghost use Rattle.eval_work.specs.Works.{state_of, view_of, placed_name, Gives};
-ghost use Rattle.eval_work.specs.Kept.{IsFit, IsFlowKept, IsTold};
+ghost use Rattle.eval_work.specs.Kept.{IsFit, IsFlowKept, IsTold, PairsNamed};
 ghost use Rattle.dsl_eval.specs.Nodes.{parts};
 ghost use Rattle.dsl_eval.specs.Registering.{registered, named_with, prefix_of};
 
@@ -88,7 +88,8 @@ fn register(
     captured: Locals,
     body: &Arc<Block>,
 ) -> Result<Flow, Stop>
-    requires { IsFit work.old }
+    requires fit { IsFit work.old }
+    requires captured { PairsNamed work.old.store captured }
     ensures gives { Gives (λ f. f) result (state_of work.new) (registered (view_of view.now) sort place kind.now name captured (block_view (arc_value body.now)) (state_of work.old)) }
     ensures kept { IfOk result (IsFlowKept work.old work.new) }
 {

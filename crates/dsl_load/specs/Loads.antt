@@ -5,7 +5,7 @@ use Rattle.eval_meaning.specs.States.{gives, faults}
 use Rattle.eval_meaning.specs.Registered.{PlainFile}
 use Rattle.eval_meaning.specs.Load.{Loaded, load_run, loaded}
 use Rattle.eval_work.specs.Works.{state_of, plain_template, plain_item, plain_rule}
-use Rattle.eval_work.specs.Kept.{HasGlobals}
+use Rattle.eval_work.specs.Kept.{HasGlobals, TemplatesNamed, ItemsNamed, RulesNamed}
 use Rattle.eval_work.specs.declared.work.Work.{Work}
 use Rattle.eval_work.specs.declared.stop.Stop.{Stop}
 use Rattle.eval_work.specs.declared.stop.Stop.TheVariants as stops
@@ -37,7 +37,11 @@ Loads files order (Err stops.Memory) = Unit {0}
 Loads files order (Err (stops.Fault l k t)) = (rs : List Read) × (load_run files order ≡ faults l k t rs)
 Loads files order (Err (stops.Blocked q)) = ⊥
 
--- What is true of each load: its cells are frozen, and the first one is a dictionary.
+-- What is true of each load: its cells are frozen, the first one is a dictionary, and what was captured names cells and functions of
+-- its store.
 pub record IsLoad (p : LoadParts) : Type 0 where
   pub frozen : p.store.base ≡ length p.store.cells
   pub globals : HasGlobals p.store
+  pub templates : TemplatesNamed p.store p.templates
+  pub items : ItemsNamed p.store p.items.items
+  pub rules : RulesNamed p.store p.rules.items

@@ -1,9 +1,9 @@
 // What a load begins with.
 ghost use Rattle.std.specs.Prelude.{◌≡◌, ◌∷◌, [], IfOk, IfErr, map, codes};
-ghost use Rattle.dsl_value.specs.Contents.{dict};
+ghost use Rattle.dsl_value.specs.Contents.{Contents, dict};
 ghost use Rattle.eval_meaning.specs.Load.{first_globals, first_loading, load_start, load_view as view_of_load, most_open};
 ghost use Rattle.eval_work.specs.Works.{state_of, view_of, plain_file, plain_loading};
-ghost use Rattle.eval_work.specs.Kept.{IsFit};
+ghost use Rattle.eval_work.specs.Kept.{IsFit, RegisteredNamed};
 
 use crate::first_names::{first_constants, first_strings};
 use dsl_value::{Store, Value};
@@ -27,7 +27,8 @@ fn first_store(alloc: Global) -> Result<Store, OutOfMemory>
 }
 
 fn first_load(alloc: Global, order: &[u32]) -> Result<Loading, OutOfMemory>
-    ensures { IfOk result (λ l. plain_loading l ≡ first_loading order.now) }
+    ensures load { IfOk result (λ l. plain_loading l ≡ first_loading order.now) }
+    ensures named { (c : Contents) → IfOk result (RegisteredNamed c) }
 {
     Ok(Loading {
         order: Vec::from_slice(alloc, order)?,

@@ -1,14 +1,17 @@
 -- What a value names in a later store.
-use Rattle.std.proofs.Common.{◌≡◌, ℕ, List, [], ◌∷◌, length, arith, refl, sym, ◌∙◌, subst}
+use Rattle.std.proofs.Common.{◌≡◌, ℕ, List, [], ◌∷◌, ◌++◌, length, arith, refl, sym, ◌∙◌, subst, length-append}
 use Rattle.dsl_value.specs.Pairs.{Pairs}
-use Rattle.dsl_value.specs.Contents.{Contents}
+use Rattle.dsl_value.specs.Contents.{Contents, PlainCell, with_cells}
 use Rattle.dsl_value.specs.Grows.{Grows}
 use Rattle.dsl_value.specs.Whole.{Names}
 use Rattle.dsl_value.specs.declared.value.Value.{Value}
 use Rattle.dsl_value.specs.declared.value.Value.TheVariants as value
-use Rattle.eval_work.specs.Kept.{Named, NamedAll, PairsNamed, BoundNamed, HasGlobals, IsFit, IsLater, IsStill, IsKept, IsTold}
+use Rattle.eval_work.specs.Kept.{Named, NamedAll, PairsNamed, TemplatesNamed, ItemsNamed, RulesNamed, BoundNamed, HasGlobals, IsFit, IsLater, IsStill, IsKept, IsTold}
+use Rattle.eval_work.specs.declared.item.Item.{Item}
+use Rattle.eval_work.specs.declared.rule.Rule.{Rule}
 use Rattle.eval_work.specs.declared.task.Task.{Task}
 use Rattle.eval_work.specs.declared.task.Task.TheVariants as tasks
+use Rattle.eval_work.specs.declared.template.Template.{Template}
 use Rattle.eval_work.specs.declared.view.WorldView.{WorldView}
 use Rattle.eval_work.specs.declared.work.Work.{Work}
 
@@ -29,6 +32,10 @@ pub pairs_later : (old new : Contents) (ps : Pairs) → IsLater old new → Pair
 pairs_later old new [] l h = tt
 pairs_later old new (p ∷ ps) l h = (names_later old new p.1 l h.0, pairs_later old new ps l h.1)
 
+-- the last of the cells, once one more was made
+pub last_named : (old new : Contents) (v : Value) (x : PlainCell) → v ≡ value.Ref (length old.cells) → new ≡ with_cells old (old.cells ++ x ∷ []) → Named new v
+last_named old new v x is grown = subst (Named new) (sym is) (subst (λ c. Named c (value.Ref (length old.cells))) (sym grown) (omega (arith, length-append old.cells (x ∷ []))))
+
 pub told_later : (v : WorldView) (old new : Contents) → IsLater old new → IsTold v old → IsTold v new
 told_later v old new l h = record { templates = λ kind name t e. pairs_later old new t.captured l (h.templates kind name t e) }
 
@@ -46,10 +53,26 @@ grows_later n old new g h = record { cells = h.no_cell_lost; functions = h.no_fu
 globals_later : (old new : Contents) → IsLater old new → HasGlobals old → HasGlobals new
 globals_later old new l g = record { some = omega (arith, g.some, l.cells); dict = l.first ∙ g.dict }
 
+templates_later : (old new : Contents) (ts : List Template) → IsLater old new → TemplatesNamed old ts → TemplatesNamed new ts
+templates_later old new [] l h = tt
+templates_later old new (t ∷ ts) l h = (pairs_later old new t.captured.items l h.0, templates_later old new ts l h.1)
+
+items_later : (old new : Contents) (is : List Item) → IsLater old new → ItemsNamed old is → ItemsNamed new is
+items_later old new [] l h = tt
+items_later old new (i ∷ is) l h = (pairs_later old new i.captured.items l h.0, items_later old new is l h.1)
+
+rules_later : (old new : Contents) (rs : List Rule) → IsLater old new → RulesNamed old rs → RulesNamed new rs
+rules_later old new [] l h = tt
+rules_later old new (r ∷ rs) l h = (pairs_later old new r.captured.items l h.0, rules_later old new rs l h.1)
+
 bound_later : (old new : Contents) (t : Task) → IsLater old new → BoundNamed old t → BoundNamed new t
 bound_later old new (tasks.Item k b) l h = pairs_later old new b l h
 bound_later old new tasks.Rule l h = tt
-bound_later old new (tasks.Load m) l h = tt
+bound_later old new (tasks.Load m) l h = record {
+  templates = templates_later old new m.templates l h.templates;
+  items = items_later old new m.items.items l h.items;
+  rules = rules_later old new m.rules.items l h.rules;
+}
 
 -- ---- works with a later store
 

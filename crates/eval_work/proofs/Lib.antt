@@ -1,4 +1,5 @@
 pub mod Later
+pub mod Registrations
 pub mod Named
 pub mod Charged
 pub mod Called

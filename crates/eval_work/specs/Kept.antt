@@ -12,8 +12,12 @@ use Rattle.eval_meaning.specs.declared.callee.Callee.TheVariants as callees
 use Rattle.eval_meaning.specs.declared.flow.Flow.{Flow}
 use Rattle.eval_meaning.specs.declared.flow.Flow.TheVariants as flows
 use Rattle.eval_work.specs.Works.{plain_template}
+use Rattle.eval_work.specs.declared.item.Item.{Item}
+use Rattle.eval_work.specs.declared.rule.Rule.{Rule}
+use Rattle.eval_work.specs.declared.task.Loading.{Loading}
 use Rattle.eval_work.specs.declared.task.Task.{Task}
 use Rattle.eval_work.specs.declared.task.Task.TheVariants as tasks
+use Rattle.eval_work.specs.declared.template.Template.{Template}
 use Rattle.eval_work.specs.declared.view.WorldView.{WorldView}
 use Rattle.eval_work.specs.declared.work.Work.{Work}
 
@@ -27,10 +31,27 @@ NamedAll c vs = AllByRecursion (Names (length c.cells) (length c.functions)) vs
 abbrev pub PairsNamed : Contents → Pairs → Type 0
 PairsNamed c ps = NamesAll (length c.cells) (length c.functions) ps
 
+-- so does what templates, items or rules captured
+abbrev pub TemplatesNamed : Contents → List Template → Type 0
+TemplatesNamed c ts = AllByRecursion (λ t. PairsNamed c t.captured.items) ts
+
+abbrev pub ItemsNamed : Contents → List Item → Type 0
+ItemsNamed c is = AllByRecursion (λ i. PairsNamed c i.captured.items) is
+
+abbrev pub RulesNamed : Contents → List Rule → Type 0
+RulesNamed c rs = AllByRecursion (λ r. PairsNamed c r.captured.items) rs
+
+-- so does what all that a load registered captured
+pub record RegisteredNamed (c : Contents) (m : Loading) : Type 0 where
+  pub templates : TemplatesNamed c m.templates
+  pub items : ItemsNamed c m.items.items
+  pub rules : RulesNamed c m.rules.items
+
+-- so does what a task holds: the names that are bound in an item, or what a load registered
 abbrev pub BoundNamed : Contents → Task → Type 0
 BoundNamed c (tasks.Item k b) = PairsNamed c b
 BoundNamed c tasks.Rule = Unit {0}
-BoundNamed c (tasks.Load m) = Unit {0}
+BoundNamed c (tasks.Load m) = RegisteredNamed c m
 
 -- the globals are a dictionary in the first cell
 pub record HasGlobals (c : Contents) : Type 0 where

@@ -58,6 +58,7 @@ impl Work {
     }
 
     /// Registers an object.
+    #[tactic(auto, using(crate::proofs::Registrations::items_more))]
     pub fn add_item(
         &mut self,
         view: &WorldView,
@@ -67,7 +68,8 @@ impl Work {
         captured: Locals,
         body: &Arc<Block>,
     ) -> Result<(), Stop>
-        requires { IsFit self.old }
+        requires fit { IsFit self.old }
+        requires captured { PairsNamed self.old.store captured }
         ensures gives { Gives (λ _. On) result (state_of self.new) (item_registered (view_of view.now) place kind.now name captured (block_view (arc_value body.now)) (state_of self.old)) }
         ensures kept { IfOk result (λ _. IsStill self.old self.new) }
     {
@@ -97,6 +99,7 @@ impl Work {
     }
 
     /// Registers a template. A second one of a type and a name is a fault.
+    #[tactic(auto, using(crate::proofs::Registrations::templates_more))]
     pub fn add_template(
         &mut self,
         view: &WorldView,
@@ -106,7 +109,8 @@ impl Work {
         captured: Locals,
         body: &Arc<Block>,
     ) -> Result<(), Stop>
-        requires { IsFit self.old }
+        requires fit { IsFit self.old }
+        requires captured { PairsNamed self.old.store captured }
         ensures gives { Gives (λ _. On) result (state_of self.new) (template_registered (view_of view.now) place kind.now name captured (block_view (arc_value body.now)) (state_of self.old)) }
         ensures kept { IfOk result (λ _. IsStill self.old self.new) }
     {
@@ -131,6 +135,7 @@ impl Work {
     }
 
     /// Registers a rule.
+    #[tactic(auto, using(crate::proofs::Registrations::rules_more))]
     pub fn add_rule(
         &mut self,
         place: Place,
@@ -141,7 +146,8 @@ impl Work {
         captured: Locals,
         body: &Arc<Block>,
     ) -> Result<(), Stop>
-        requires { IsFit self.old }
+        requires fit { IsFit self.old }
+        requires captured { PairsNamed self.old.store captured }
         ensures gives { Gives (λ _. On) result (state_of self.new) (rule_registered place kind.now (option_map placed_name name) to.now (maybe_each_view each.now) captured (block_view (arc_value body.now)) (state_of self.old)) }
         ensures kept { IfOk result (λ _. IsStill self.old self.new) }
     {
