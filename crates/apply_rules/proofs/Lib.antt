@@ -1,4 +1,5 @@
 pub mod Behind
+pub mod Grouping
 pub mod Judged
 pub mod Lasting
 pub mod Looping

@@ -17,7 +17,7 @@ use Rattle.eval_work.specs.Works.{state_of}
 use Rattle.eval_work.specs.declared.work.Work.{Work}
 use Rattle.eval_work.specs.declared.stop.Stop.{Stop}
 use Rattle.eval_work.specs.declared.view.WorldView.{WorldView}
-use Rattle.eval_work.specs.Kept.{IsFit, IsKept, IsLater, IsTold}
+use Rattle.eval_work.specs.Kept.{IsFit, IsKept, IsLater, IsTold, PairsNamed}
 use Rattle.eval_work.proofs.Later.{told_later}
 use Rattle.item_start.specs.Ready.{IsReady}
 use Rattle.eval_meaning.specs.Load.{most_open}
@@ -145,3 +145,13 @@ loop_is v r t x h =
 -- the frame of expressions in a prepared store
 pub prepared_is : (s : Contents) (p : Prepared) (names : Trees) (captured : Pairs) (reads : List Read) → IsPrepared s p → names_of p.subject ≡ names → in_rule captured p.bound.items (fresh (plain_store p.store) rule reads) ≡ in_rule_with captured names (fresh (plain_store s) rule reads)
 prepared_is s p names captured reads h e = rw (h.bound, h.store, e) refl
+
+-- a work that was begun, in this state
+pub begun_at : (r : Result Work Stop) (x y : State) → x ≡ y → IfOk r (λ w. state_of w ≡ x) → IfOk r (λ w. state_of w ≡ y)
+begun_at (Ok w) x y e h = h ∙ e
+begun_at (Err s) x y e h = tt
+
+-- and in this store
+pub begun_named : (r : Result Work Stop) (s : Contents) (ps : Pairs) → PairsNamed s ps → IfOk r (λ w. w.store ≡ s) → IfOk r (λ w. PairsNamed w.store ps)
+begun_named (Ok w) s ps h e = subst (λ c. PairsNamed c ps) (sym e) h
+begun_named (Err x) s ps h e = tt

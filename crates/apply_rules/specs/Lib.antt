@@ -4,4 +4,6 @@ pub mod Looped
 pub mod Named
 pub mod Plain
 pub mod Preparations
+pub mod ReadsLeft
 pub mod Seen
+pub mod Taking

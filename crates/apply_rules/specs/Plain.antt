@@ -1,5 +1,6 @@
 -- The plain values of what rules and groups work with.
 use Rattle.std.specs.Prelude.{ℕ, List, [], ◌∷◌, map, Option, Some, None, Vec}
+use Rattle.std.specs.Borrow.{Bor}
 use Rattle.std.specs.declared.alloc.Global.{Global}
 use Rattle.site_model.specs.PlainSite.{object_view}
 use Rattle.eval_meaning.specs.Registered.{PlainItem}
@@ -8,10 +9,14 @@ use Rattle.eval_work.specs.declared.item.Item.{Item}
 use Rattle.commit_meaning.specs.Answers as answer
 use Rattle.commit_meaning.specs.Answers.{Answer}
 use Rattle.commit_meaning.specs.Conditions as conditions
+use Rattle.commit_meaning.specs.Groups as groups
 use Rattle.commit_meaning.specs.Names as names
 use Rattle.commit_meaning.specs.Rules as rules
 use Rattle.apply_rules.specs.declared.conditions.Verdict.{Verdict}
 use Rattle.apply_rules.specs.declared.elements.Element.{Element}
+use Rattle.apply_rules.specs.declared.group_answer.GroupAnswer.{GroupAnswer}
+use Rattle.apply_rules.specs.declared.group_answer.GroupAnswer.TheVariants as group_answers
+use Rattle.apply_rules.specs.declared.taking.Taken.{Taken}
 use Rattle.apply_rules.specs.declared.rule_answer.RuleAnswer.{RuleAnswer}
 use Rattle.apply_rules.specs.declared.rule_answer.RuleAnswer.TheVariants as rule_answers
 use Rattle.apply_rules.specs.declared.target.Target.{Target}
@@ -44,3 +49,16 @@ abbrev pub rule_answer : RuleAnswer → Answer (List PlainItem)
 rule_answer (rule_answers.Items is) = answer.made (plain_items is)
 rule_answer (rule_answers.Diag d) = answer.diagnosed (d ∷ [])
 rule_answer (rule_answers.Blocked r) = answer.blocked r
+
+-- ---- groups
+
+abbrev pub plain_group : Bor Item → PlainItem
+plain_group g = plain_item g.now
+
+abbrev pub plain_taken : Taken → groups.Taken
+plain_taken t = record { names = t.names; diags = t.diags }
+
+abbrev pub group_answer : GroupAnswer → Answer (List (List ℕ))
+group_answer (group_answers.Names ns) = answer.made ns
+group_answer (group_answers.Diags ds) = answer.diagnosed ds
+group_answer (group_answers.Blocked r) = answer.blocked r

@@ -1,0 +1,40 @@
+use Rattle.std.proofs.Common.{Err, sym, ap, ◌∙◌, subst}
+use Rattle.dsl_value.specs.PlainStores.{plain_store}
+use Rattle.eval_meaning.specs.States.{gives, rule}
+use Rattle.eval_work.specs.Works.{view_of, plain_item}
+use Rattle.commit_meaning.specs.Conditions as plain
+use Rattle.commit_meaning.specs.Groups.{caught, group_run}
+use Rattle.commit_meaning.specs.Starts.{fresh}
+use Rattle.apply_rules.specs.Plain.{plain_taken, plain_verdict}
+use Rattle.apply_rules.specs.ReadsLeft.{GivesReads}
+use Rattle.apply_rules.specs.Seen.{names_of}
+use Rattle.apply_rules.specs.declared.conditions.Verdict.{Verdict}
+use Rattle.apply_rules.proofs.Grouping.{name_caught}
+use Rattle.apply_rules.proofs.taking.take_one.Goals as goal
+
+pub returns-in_ok-add_name-in-Ok : goal.returns-in_ok-add_name-in-Ok
+returns-in_ok-add_name-in-Ok c =
+    let v = view_of c.args.view.now in
+    let g = plain_item c.args.group.now in
+    let o = group_run v (names_of c.args.prepared.now.subject) g (fresh (plain_store c.args.view.now.store.now) rule c.args.reads.now.items) in
+    let h = c.in-Ok.ensures in
+    name_caught v c.args.number g (plain_taken c.args.taken.now) (plain_taken c.add_name.new.taken) o (plain_verdict c.in-Ok.verdict) h.0 c.judge_group.new.reads.items h.1 h.2 c.in_ok-add_name-in-Ok.ensures
+
+pub returns-in_ok-push-in-Err-Fault : goal.returns-in_ok-push-in-Err-Fault
+returns-in_ok-push-in-Err-Fault c =
+    let v = view_of c.args.view.now in
+    let g = plain_item c.args.group.now in
+    let t = plain_taken c.args.taken.now in
+    let o = group_run v (names_of c.args.prepared.now.subject) g (fresh (plain_store c.args.view.now.store.now) rule c.args.reads.now.items) in
+    let f = c.in-Err-Fault in
+    let told = subst (λ s. GivesReads {X = Verdict} {Y = plain.Verdict} plain_verdict (Err s) c.judge_group.new.reads.items o) f.field-0-is f.ensures in
+    ap (caught v c.args.number g t) told ∙ ap (λ ds. gives (record t { diags = ds }) (fresh v.store rule c.judge_group.new.reads.items)) (sym c.in_ok-push-in-Err-Fault.ensures.ok)
+
+pub returns-in-Err-Blocked : goal.returns-in-Err-Blocked
+returns-in-Err-Blocked c =
+    let v = view_of c.args.view.now in
+    let g = plain_item c.args.group.now in
+    let o = group_run v (names_of c.args.prepared.now.subject) g (fresh (plain_store c.args.view.now.store.now) rule c.args.reads.now.items) in
+    let f = c.in-Err-Blocked in
+    let told = subst (λ s. GivesReads {X = Verdict} {Y = plain.Verdict} plain_verdict (Err s) c.judge_group.new.reads.items o) f.field-0-is f.ensures in
+    ap (caught v c.args.number g (plain_taken c.args.taken.now)) told
