@@ -30,12 +30,13 @@ pub(crate) fn object_tree(alloc: Global, view: &WorldView, item: &Item) -> Resul
     requires { IsRunnable view.now item.now }
     ensures { Answers tree_view item.now.number result (answered item.now.number (item_run (view_of view.now) (plain_item item.now))) }
 {
-    let mut work = prepared(alloc, view, item)?;
+    let mut work = begin_body(alloc, view, item)?;
     run_body(view, item, &mut work)
 }
 
-/// The work in which an item's body is run, at the body's beginning.
-fn prepared(alloc: Global, view: &WorldView, item: &Item) -> Result<Work, Stop>
+/// The work in which an item's body is run, at the body's beginning: in a fork of the load's store, with a whole budget and `this`
+/// being the presets, and what the item captured and then its bound names as locals. The error is want of memory.
+pub fn begin_body(alloc: Global, view: &WorldView, item: &Item) -> Result<Work, Stop>
     requires { IsRunnable view.now item.now }
     ensures left { IfOk result (λ w. item_run (view_of view.now) (plain_item item.now) ≡ body_left (view_of view.now) (plain_item item.now) w.this (state_of w)) }
     ensures ready { IfOk result (IsReady view.now) }

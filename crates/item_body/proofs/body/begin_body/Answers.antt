@@ -10,7 +10,7 @@ use Rattle.eval_work.proofs.Later.{later_later, pairs_later, told_later}
 use Rattle.eval_work.proofs.Named.{all_named}
 use Rattle.commit_meaning.specs.Starts.{fresh}
 use Rattle.item_body.proofs.Beginning.{at_body, bound_from}
-use Rattle.item_body.proofs.body.prepared.Goals as goal
+use Rattle.item_body.proofs.body.begin_body.Goals as goal
 
 pub begin-work-requires-clause-bound : goal.begin-work-requires-clause-bound
 begin-work-requires-clause-bound c =
