@@ -63,7 +63,7 @@ fn read_units(alloc: Global, bytes: &[u8]) -> Result<Step, OutOfMemory>
             }
             Unit::Quote => {
                 let len = bytes.len() - rest.len();
-                return copied_text(alloc, 2 + len, value.as_slice());
+                return made_text(alloc, 2 + len, value);
             }
             Unit::Bad => return Ok(Step::Fault),
         }
@@ -79,5 +79,16 @@ pub(crate) fn copied_text(alloc: Global, len: usize, text: &[u8]) -> Result<Step
         return Ok(Step::Fault);
     };
     let text = Text::copy_of(alloc, text)?;
+    Ok(Step::Taken(len, TokenKind::Str(text)))
+}
+
+/// A string of so many bytes that stands for a text put together from these, which aren't copied.
+fn made_text(alloc: Global, len: usize, bytes: Vec<u8>) -> Result<Step, OutOfMemory>
+    ensures { IfOk result (λ s. s ≡ text_step len bytes.items) }
+{
+    let Ok(string) = String::from_utf8(bytes) else {
+        return Ok(Step::Fault);
+    };
+    let text = Text::of_string(alloc, string)?;
     Ok(Step::Taken(len, TokenKind::Str(text)))
 }

@@ -1,5 +1,5 @@
 // Texts, seen as the lists of their bytes.
-ghost use Rattle.std.specs.Prelude.{◌≡◌, ◌<◌, ◌++◌, [], ◌∷◌, length, IfOk, OnOk, OnErr, ◌==◌, encode_utf8};
+ghost use Rattle.std.specs.Prelude.{◌≡◌, ◌<◌, ◌++◌, [], ◌∷◌, length, IfOk, OnOk, OnErr, ◌==◌, encode_utf8, string_bytes};
 ghost use Rattle.std.specs.Fmt.{decimal};
 
 use crate::OutOfMemory;
@@ -44,7 +44,16 @@ impl Text {
         if text.is_empty() {
             return Ok(Text::new(alloc));
         }
-        let string = String::from_str(alloc, text)?;
+        Text::of_string(alloc, String::from_str(alloc, text)?)
+    }
+
+    /// A text of a string's bytes, which aren't copied. One of an empty string takes no memory.
+    pub fn of_string(alloc: Global, string: String) -> Result<Text, OutOfMemory>
+        ensures { IfOk result (λ t. t ≡ string_bytes string) }
+    {
+        if string.as_str().is_empty() {
+            return Ok(Text::new(alloc));
+        }
         Ok(Text {
             alloc,
             shared: Some(Arc::new(alloc, string)?),

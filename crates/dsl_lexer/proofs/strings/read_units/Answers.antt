@@ -22,9 +22,9 @@ returns c =
 pub returns-in-Quote : goal.returns-in-Quote
 returns-in-Quote c =
     let some : 0 < length c.loop-rest.rest.now = grind (arith, nat_tests) in
-    let same = quote_step c.loop-rest.value.items c.as_slice.result.now c.loop-rest.rest.now (length c.args.bytes.now) (length c.args.bytes.now - length c.loop-rest.rest.now) (body_of c.args.bytes.now)
-    some (c.in-Quote.ensures {u = tt}).value c.as_slice.ensures.value refl c.loop-rest.invariant.reads in
-    subst (λ x. IfOk c.copied_text.result (λ s. s ≡ x)) same c.copied_text.ensures
+    let same = quote_step c.loop-rest.value.items c.loop-rest.value.items c.loop-rest.rest.now (length c.args.bytes.now) (length c.args.bytes.now - length c.loop-rest.rest.now) (body_of c.args.bytes.now)
+    some (c.in-Quote.ensures {u = tt}).value refl refl c.loop-rest.invariant.reads in
+    subst (λ x. IfOk c.made_text.result (λ s. s ≡ x)) same c.made_text.ensures
 
 pub returns-in-Bad : goal.returns-in-Bad
 returns-in-Bad c =
