@@ -24,7 +24,7 @@ mod lawful;
 
 use apply_rules::{GroupAnswer, PreparedTarget, RuleAnswer, Target, group_members, instances};
 use case_loads::{NoAnswer, are_named, is_lawful, scene_of, view_over};
-use eval_work::{Item, Rule, WorldView};
+use eval_work::{Item, Locals, Rule, WorldView};
 use lawful::are_groups_named;
 use site_base::{ItemNo, OutOfMemory, Place, TargetNo, Text, Tree};
 use site_model::Object;
@@ -107,6 +107,7 @@ fn items_of(
     view: &WorldView,
     rule: &Rule,
     target: &PreparedTarget,
+    spare: &mut Locals,
 ) -> Result<usize, NoAnswer>
     requires view { IsLawfulView view.now }
     requires target { IsPreparedTarget view.now.store.now target.now }
@@ -114,20 +115,25 @@ fn items_of(
     if !are_named(view.store, &rule.captured) {
         return Err(NoAnswer::instead(alloc, "no lawful rule"));
     }
-    match instances(alloc, view, rule, target)? {
+    match instances(alloc, view, rule, target, spare)? {
         RuleAnswer::Items(items) => Ok(items.len()),
         _ => Ok(1),
     }
 }
 
 /// Whether no rule takes a host.
-fn is_passed(alloc: Global, view: &WorldView, host: &Object) -> Result<bool, NoAnswer>
+fn is_passed(
+    alloc: Global,
+    view: &WorldView,
+    host: &Object,
+    spare: &mut Locals,
+) -> Result<bool, NoAnswer>
     requires { IsLawfulView view.now }
 {
     let target = PreparedTarget::new(alloc, view.store, Target::Host(host))?;
     let mut is_passed = true;
     for rule in view.rules {
-        if items_of(alloc, view, rule, &target)? > 0 {
+        if items_of(alloc, view, rule, &target, spare)? > 0 {
             is_passed = false;
         }
     }
@@ -138,9 +144,10 @@ fn is_passed(alloc: Global, view: &WorldView, host: &Object) -> Result<bool, NoA
 fn passed_by_rules(alloc: Global, view: &WorldView, hosts: &[Object]) -> Result<u64, NoAnswer>
     requires { IsLawfulView view.now }
 {
+    let mut spare = Locals::new(alloc);
     let mut count: u64 = 0;
     for host in hosts {
-        if is_passed(alloc, view, host)? {
+        if is_passed(alloc, view, host, &mut spare)? {
             count = count.saturating_add(1);
         }
     }
@@ -156,10 +163,11 @@ fn passed_by_groups(
 ) -> Result<u64, NoAnswer>
     requires { IsLawfulView view.now }
 {
+    let mut spare = Locals::new(alloc);
     let mut count: u64 = 0;
     for host in hosts {
         if are_groups_named(view.store, groups) {
-            if let GroupAnswer::Names(names) = group_members(alloc, view, groups, host)? {
+            if let GroupAnswer::Names(names) = group_members(alloc, view, groups, host, &mut spare)? {
                 if names.is_empty() {
                     count = count.saturating_add(1);
                 }

@@ -25,6 +25,7 @@ use dsl_value::{Store, Value};
 use eval_work::{Item, Locals, Rule, Stop, Task, Work, WorldView};
 use site_base::{OutOfMemory, Text};
 use std::alloc::Global;
+use std::mem;
 
 /// The items of a rule at a target. It ends early by the first fault, or by the first read that isn't decided.
 pub(crate) fn run_rule(
@@ -32,13 +33,14 @@ pub(crate) fn run_rule(
     view: &WorldView,
     rule: &Rule,
     target: &PreparedTarget,
+    spare: &mut Locals,
 ) -> Result<Vec<Item>, Stop>
     requires { IsApplicable view.now rule.now target.now }
     ensures { Answers plain_items (pair_number (plain_rule rule.now) (plain_target target.now.target)) result (answered (pair_number (plain_rule rule.now) (plain_target target.now.target)) (rule_run (view_of view.now) (plain_rule rule.now) (plain_target target.now.target))) }
 {
     match &rule.each {
-        Some(each) => run_loop(alloc, view, rule, each, target),
-        None => run_once(alloc, view, rule, target),
+        Some(each) => run_loop(alloc, view, rule, each, target, spare),
+        None => run_once(alloc, view, rule, target, spare),
     }
 }
 
@@ -48,13 +50,16 @@ fn run_once(
     view: &WorldView,
     rule: &Rule,
     target: &PreparedTarget,
+    spare: &mut Locals,
 ) -> Result<Vec<Item>, Stop>
     requires applicable { IsApplicable view.now rule.now target.now }
     requires once { (plain_rule rule.now).loop ≡ None }
     ensures { Answers plain_items (pair_number (plain_rule rule.now) (plain_target target.now.target)) result (answered (pair_number (plain_rule rule.now) (plain_target target.now.target)) (rule_run (view_of view.now) (plain_rule rule.now) (plain_target target.now.target))) }
 {
-    let mut work = begin_rule(alloc, view, rule, target)?;
-    one_item(view, rule, &target.target, &mut work)
+    let mut work = begin_rule(alloc, view, rule, target, spare)?;
+    let items = one_item(view, rule, &target.target, &mut work);
+    *spare = work.locals;
+    items
 }
 
 fn one_item(
@@ -81,13 +86,16 @@ fn run_loop(
     rule: &Rule,
     each: &Each,
     target: &PreparedTarget,
+    spare: &mut Locals,
 ) -> Result<Vec<Item>, Stop>
     requires applicable { IsApplicable view.now rule.now target.now }
     requires each { (plain_rule rule.now).loop ≡ Some (each_view each.now) }
     ensures { Answers plain_items (pair_number (plain_rule rule.now) (plain_target target.now.target)) result (answered (pair_number (plain_rule rule.now) (plain_target target.now.target)) (rule_run (view_of view.now) (plain_rule rule.now) (plain_target target.now.target))) }
 {
-    let mut work = begin_rule(alloc, view, rule, target)?;
-    loop_items(view, rule, each, &target.target, &mut work)
+    let mut work = begin_rule(alloc, view, rule, target, spare)?;
+    let items = loop_items(view, rule, each, &target.target, &mut work);
+    *spare = work.locals;
+    items
 }
 
 fn loop_items(
@@ -112,6 +120,7 @@ fn begin_rule(
     view: &WorldView,
     rule: &Rule,
     target: &PreparedTarget,
+    spare: &mut Locals,
 ) -> Result<Work, Stop>
     requires { IsApplicable view.now rule.now target.now }
     ensures state { IfOk result (λ w. state_of w ≡ in_rule_with rule.now.captured.items (target_names (plain_target target.now.target)) (fresh (plain_store view.now.store.now) rule_task [])) }
@@ -126,6 +135,7 @@ fn begin_rule(
         &target.prepared,
         &rule.captured,
         Vec::new(alloc),
+        spare,
     )
 }
 
@@ -170,7 +180,7 @@ fn begin_again(before: &Store, work: &mut Work) -> Result<(), OutOfMemory>
 {
     work.store = before.fork()?;
     work.this = Value::Null;
-    work.locals = Locals::new(work.alloc);
+    work.locals = mem::replace(&mut work.locals, Locals::new(work.alloc)).cleared();
     work.in_file = false;
     work.task = Task::Rule;
     Ok(())

@@ -23,7 +23,7 @@ use crate::member::seen_of;
 use crate::subject::Subject;
 use crate::taking::{Taken, none, take};
 use eval_meaning::Read;
-use eval_work::{Item, Stop, WorldView};
+use eval_work::{Item, Locals, Stop, WorldView};
 use site_base::{Diag, Diags, ItemNo, OutOfMemory, Row};
 use site_model::Object;
 use std::alloc::Global;
@@ -33,20 +33,21 @@ use std::alloc::Global;
 ///
 /// A group takes an object where some `assign` is true and no `ignore` is. A service whose host isn't there is taken by none. Each fault is told
 /// under the object's number. An answer that isn't blocked stays the same over every view that shows more, as over the whole world. The
-/// groups are the items of the groups of the object's type.
+/// groups are the items of the groups of the object's type. The locals of frames take the memory of the spare ones.
 #[tactic(auto, unfolding(commit_meaning::specs::Groups::group_members))]
 pub fn group_members(
     alloc: Global,
     view: &WorldView,
     groups: &[&Item],
     member: &Object,
+    spare: &mut Locals,
 ) -> Result<GroupAnswer, OutOfMemory>
     requires view { IsLawfulView view.now }
     requires groups { GroupsNamed view.now.store.now groups.now }
     ensures answer { IfOk result (λ a. group_answer a ≡ members_of (view_of view.now) (map plain_group groups.now) (object_view member.now)) }
     ensures stays { (world : View) → IsPart (view_of view.now) world → IfOk result (λ a. Stays (group_answer a) (members_of world (map plain_group groups.now) (object_view member.now))) }
 {
-    match run_groups(alloc, view, groups, member) {
+    match run_groups(alloc, view, groups, member, spare) {
         Ok(taken) => Ok(answer_of(taken)),
         Err(Stop::Fault { place, kind, text }) => {
             let number = member.number;
@@ -69,13 +70,14 @@ fn run_groups(
     view: &WorldView,
     groups: &[&Item],
     member: &Object,
+    spare: &mut Locals,
 ) -> Result<Taken, Stop>
     requires view { IsLawfulView view.now }
     requires groups { GroupsNamed view.now.store.now groups.now }
     ensures { Answers plain_taken member.now.number result (answered member.now.number (member_run (view_of view.now) (map plain_group groups.now) (object_view member.now))) }
 {
     let mut reads = Vec::new(alloc);
-    take_seen(alloc, view, groups, member, &mut reads)
+    take_seen(alloc, view, groups, member, &mut reads, spare)
 }
 
 /// Takes what groups see of an object, and then each group in turn.
@@ -85,13 +87,14 @@ fn take_seen(
     groups: &[&Item],
     member: &Object,
     reads: &mut Vec<Read>,
+    spare: &mut Locals,
 ) -> Result<Taken, Stop>
     requires view { IsLawfulView view.now }
     requires groups { GroupsNamed view.now.store.now groups.now }
     ensures { Gives plain_taken result (fresh (plain_store view.now.store.now) rule_task reads.new.items) (seen_taken (view_of view.now) member.now.number (type_named member.now.kind) (tree_view member.now.tree) (map plain_group groups.now) (fresh (plain_store view.now.store.now) rule_task reads.old.items)) }
 {
     let seen = seen_of(alloc, view, member, reads)?;
-    take_by(alloc, view, member.number, seen, groups, reads)
+    take_by(alloc, view, member.number, seen, groups, reads, spare)
 }
 
 fn take_by(
@@ -101,13 +104,14 @@ fn take_by(
     seen: Option<Subject>,
     groups: &[&Item],
     reads: &mut Vec<Read>,
+    spare: &mut Locals,
 ) -> Result<Taken, Stop>
     requires view { IsLawfulView view.now }
     requires groups { GroupsNamed view.now.store.now groups.now }
     ensures { Gives plain_taken result (fresh (plain_store view.now.store.now) rule_task reads.new.items) (groups_by (view_of view.now) number (map plain_group groups.now) (option_map names_of seen.entry) (fresh (plain_store view.now.store.now) rule_task reads.old.items)) }
 {
     match seen {
-        Some(seen) => take(alloc, view, number, seen, groups, reads),
+        Some(seen) => take(alloc, view, number, seen, groups, reads, spare),
         None => Ok(none(alloc)),
     }
 }

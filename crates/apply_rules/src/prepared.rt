@@ -17,10 +17,11 @@ use dsl_eval::eval_expr;
 use dsl_syntax::Expr;
 use dsl_value::{Store, Value};
 use eval_meaning::Read;
-use eval_work::{Stop, Task, Work, WorldView};
+use eval_work::{Locals, Stop, Task, Work, WorldView};
 use item_start::{begin, enter_frame};
 use site_base::{OutOfMemory, Text};
 use std::alloc::Global;
+use std::mem;
 
 /// A subject, its names with their values, and the store that has these behind the load's cells. Each evaluation works on a fork
 /// of it.
@@ -52,13 +53,14 @@ pub(crate) fn prepare<'a>(
 }
 
 /// The work on which expressions are evaluated: in a fork of the prepared store, with a whole budget, in the frame in which what was
-/// captured and the prepared names are locals. So much was read before.
+/// captured and the prepared names are locals. So much was read before. The locals take the memory of the spare ones.
 pub(crate) fn begin_expressions(
     alloc: Global,
     view: &WorldView,
     prepared: &Prepared,
     captured: &[(Text, Value)],
     reads: Vec<Read>,
+    spare: &mut Locals,
 ) -> Result<Work, Stop>
     requires told { IsTold view.now prepared.now.store }
     requires globals { HasGlobals prepared.now.store }
@@ -72,6 +74,7 @@ pub(crate) fn begin_expressions(
 {
     let store = prepared.store.fork()?;
     let mut work = begin(alloc, store, Task::Rule, reads);
+    work.locals = mem::replace(spare, Locals::new(alloc)).cleared();
     enter_frame(&mut work, Value::Null, captured, &prepared.bound)?;
     Ok(work)
 }

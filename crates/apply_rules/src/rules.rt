@@ -10,7 +10,7 @@ ghost use Rattle.apply_rules.specs.Plain.{plain_target, rule_answer};
 use crate::evaluation::run_rule;
 use crate::target::target_no;
 use crate::{PreparedTarget, RuleAnswer, Target};
-use eval_work::{Rule, Stop, WorldView};
+use eval_work::{Locals, Rule, Stop, WorldView};
 use site_base::{Diag, ItemNo, OutOfMemory};
 use std::alloc::Global;
 
@@ -20,19 +20,21 @@ use std::alloc::Global;
 /// Without a `for` there is one element, of number 0; the elements of a `for` are numbered from 1, those that aren't kept too. An element is kept
 /// where some `assign` is true, or there is none, and no `ignore` is. A fault has the number of the rule and the target. An answer that isn't
 /// blocked stays the same over every view that shows more, as over the whole world. The store of the view is the one for which the target was
-/// prepared.
+/// prepared. The locals of its frame take the memory of the spare ones, so that one pair after another takes no new memory where
+/// nothing is kept.
 #[tactic(auto, unfolding(commit_meaning::specs::Rules::instances))]
 pub fn instances(
     alloc: Global,
     view: &WorldView,
     rule: &Rule,
     target: &PreparedTarget,
+    spare: &mut Locals,
 ) -> Result<RuleAnswer, OutOfMemory>
     requires { IsApplicable view.now rule.now target.now }
     ensures answer { IfOk result (λ a. rule_answer a ≡ instances_of (view_of view.now) (plain_rule rule.now) (plain_target target.now.target)) }
     ensures stays { (world : View) → IsPart (view_of view.now) world → IfOk result (λ a. Stays (rule_answer a) (instances_of world (plain_rule rule.now) (plain_target target.now.target))) }
 {
-    match run_rule(alloc, view, rule, target) {
+    match run_rule(alloc, view, rule, target, spare) {
         Ok(items) => Ok(RuleAnswer::Items(items)),
         Err(Stop::Fault { place, kind, text }) => {
             let number = pair_number(rule, &target.target);

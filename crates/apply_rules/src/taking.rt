@@ -18,7 +18,7 @@ use crate::conditions::{Verdict, judge};
 use crate::prepared::{Prepared, begin_expressions, prepare};
 use crate::subject::Subject;
 use eval_meaning::Read;
-use eval_work::{Item, Stop, WorldView};
+use eval_work::{Item, Locals, Stop, WorldView};
 use site_base::{Diag, Diags, ItemNo, OutOfMemory, Row, Texts};
 use std::alloc::Global;
 use std::mem;
@@ -49,6 +49,7 @@ pub(crate) fn take(
     seen: Subject,
     groups: &[&Item],
     reads: &mut Vec<Read>,
+    spare: &mut Locals,
 ) -> Result<Taken, Stop>
     requires view { IsLawfulView view.now }
     requires groups { GroupsNamed view.now.store.now groups.now }
@@ -57,7 +58,9 @@ pub(crate) fn take(
     let prepared = prepare(alloc, view.store, seen)?;
     let mut taken = none(alloc);
     for group in groups {
-        take_one(alloc, view, number, &prepared, group, &mut taken, reads)?;
+        take_one(
+            alloc, view, number, &prepared, group, &mut taken, reads, spare,
+        )?;
     }
     Ok(taken)
 }
@@ -71,13 +74,14 @@ fn take_one(
     group: &Item,
     taken: &mut Taken,
     reads: &mut Vec<Read>,
+    spare: &mut Locals,
 ) -> Result<(), Stop>
     requires view { IsLawfulView view.now }
     requires captured { PairsNamed view.now.store.now group.now.captured.items }
     requires prepared { IsPrepared view.now.store.now prepared.now }
     ensures { Gives (λ _. plain_taken taken.new) result (fresh (plain_store view.now.store.now) rule_task reads.new.items) (caught (view_of view.now) number (plain_item group.now) (plain_taken taken.old) (group_run (view_of view.now) (names_of prepared.now.subject) (plain_item group.now) (fresh (plain_store view.now.store.now) rule_task reads.old.items))) }
 {
-    match judge_group(alloc, view, prepared, group, reads) {
+    match judge_group(alloc, view, prepared, group, reads, spare) {
         Ok(verdict) => Ok(add_name(group, verdict, taken)?),
         Err(Stop::Fault { place, kind, text }) => {
             let fault = Diag {
@@ -100,6 +104,7 @@ fn judge_group(
     prepared: &Prepared,
     group: &Item,
     reads: &mut Vec<Read>,
+    spare: &mut Locals,
 ) -> Result<Verdict, Stop>
     requires view { IsLawfulView view.now }
     requires captured { PairsNamed view.now.store.now group.now.captured.items }
@@ -107,9 +112,10 @@ fn judge_group(
     ensures { GivesReads plain_verdict result reads.new.items (group_run (view_of view.now) (names_of prepared.now.subject) (plain_item group.now) (fresh (plain_store view.now.store.now) rule_task reads.old.items)) }
 {
     let before = mem::replace(reads, Vec::new(alloc));
-    let mut work = begin_expressions(alloc, view, prepared, &group.captured, before)?;
+    let mut work = begin_expressions(alloc, view, prepared, &group.captured, before, spare)?;
     let verdict = judge(view, &group.body, &mut work);
     *reads = work.reads;
+    *spare = work.locals;
     verdict
 }
 

@@ -72,6 +72,15 @@ impl Locals {
         &self.pairs
     }
 
+    /// No names, in the memory that these took.
+    pub fn cleared(self) -> Locals
+        ensures { result ≡ [] }
+    {
+        let mut pairs = self.pairs;
+        pairs.clear();
+        Locals { pairs }
+    }
+
     pub fn into_vec(self) -> Vec<(Text, Value)>
         ensures { result.items ≡ self }
     {

@@ -6,9 +6,10 @@ ghost use Rattle.eval_work.specs.Kept.{IsFit, Named, PairsNamed};
 use dsl_value::Value;
 use eval_work::{Locals, Stop, Work, first_locals};
 use site_base::Text;
+use std::mem;
 
 /// Enters a frame that is no file's: its `this`, and as locals what was captured and then what is bound, of which a later name takes
-/// the place of an earlier one. The error is want of memory, and leaves the work as it was.
+/// the place of an earlier one. They take the memory that the locals took before. The error is want of memory.
 pub fn enter_frame(
     work: &mut Work,
     this: Value,
@@ -23,7 +24,8 @@ pub fn enter_frame(
     ensures fit { OnOk result (IsFit work.new) }
     ensures memory { IfErr result (λ e. e ≡ Stop.Memory) }
 {
-    let locals = first_locals(captured, bound, Locals::new(work.alloc))?;
+    let left = mem::replace(&mut work.locals, Locals::new(work.alloc));
+    let locals = first_locals(captured, bound, left.cleared())?;
     work.this = this;
     work.locals = locals;
     work.in_file = false;

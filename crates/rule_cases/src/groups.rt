@@ -5,7 +5,7 @@ use crate::lawful::are_groups_named;
 use crate::shown::{begin_answer, push_fault, push_head};
 use apply_rules::{GroupAnswer, group_members};
 use case_loads::{NoAnswer, Scene, push_read};
-use eval_work::{Item, WorldView};
+use eval_work::{Item, Locals, WorldView};
 use site_base::{OutOfMemory, Text, push_quoted};
 use site_model::Object;
 use std::alloc::Global;
@@ -66,7 +66,8 @@ fn push_member(
     if !are_groups_named(view.store, groups) {
         return Err(NoAnswer::instead(alloc, "no lawful group"));
     }
-    let answer = group_members(alloc, view, groups, member)?;
+    let mut spare = Locals::new(alloc);
+    let answer = group_members(alloc, view, groups, member, &mut spare)?;
     push_answer(alloc, out, scene, member, &answer)?;
     Ok(())
 }

@@ -4,7 +4,7 @@ ghost use Rattle.item_start.specs.Ready.{IsLawfulView};
 use crate::shown::{begin_answer, push_fault, push_item};
 use apply_rules::{PreparedTarget, RuleAnswer, Target, instances};
 use case_loads::{NoAnswer, Scene, are_named, push_read};
-use eval_work::{Rule, WorldView};
+use eval_work::{Locals, Rule, WorldView};
 use item_start::text_of;
 use object_types::Attribute;
 use site_base::{OutOfMemory, Text};
@@ -73,7 +73,8 @@ fn push_rule(
         return Err(NoAnswer::instead(alloc, "no lawful rule"));
     }
     let prepared = PreparedTarget::new(alloc, view.store, target)?;
-    let answer = instances(alloc, view, rule, &prepared)?;
+    let mut spare = Locals::new(alloc);
+    let answer = instances(alloc, view, rule, &prepared, &mut spare)?;
     push_answer(alloc, out, scene, &answer, with_names)?;
     Ok(())
 }

@@ -19,5 +19,5 @@ returns c =
     let n = pair_number r t in
     let s = state_of c.in_ok-work.work in
     let all : rule_run v r t ≡ looped_items v r x t s = loop_is v r t x c.requires.each ∙ ap (looped_items v r x t) (sym c.in_ok-work.ensures.state) in
-    subst (λ o. Answers plain_items n c.loop_items.result (answered n o)) (sym all)
-    (gives_answers plain_items n c.loop_items.result (state_of c.loop_items.new.work) (looped_items v r x t s) c.loop_items.ensures)
+    subst (λ o. Answers plain_items n c.loop_items-items.result (answered n o)) (sym all)
+    (gives_answers plain_items n c.loop_items-items.result (state_of c.loop_items-items.new.work) (looped_items v r x t s) c.loop_items-items.ensures)

@@ -18,5 +18,5 @@ returns c =
     let n = pair_number r t in
     let s = state_of c.in_ok-work.work in
     let once : rule_run v r t ≡ judged_element v r t 0 [] (target_names t ++ []) s = once_is v r t c.requires.once ∙ ap (judged_element v r t 0 [] (target_names t ++ [])) (sym c.in_ok-work.ensures.state) in
-    subst (λ o. Answers plain_items n c.one_item.result (answered n o)) (sym once)
-    (gives_answers plain_items n c.one_item.result (state_of c.one_item.new.work) (judged_element v r t 0 [] (target_names t ++ []) s) c.one_item.ensures)
+    subst (λ o. Answers plain_items n c.one_item-items.result (answered n o)) (sym once)
+    (gives_answers plain_items n c.one_item-items.result (state_of c.one_item-items.new.work) (judged_element v r t 0 [] (target_names t ++ []) s) c.one_item-items.ensures)
