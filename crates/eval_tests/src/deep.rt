@@ -4,13 +4,16 @@ use dsl_load::eval_files;
 use dsl_parser::parse;
 use dsl_syntax::File;
 use eval_work::{SourceFile, Stop};
-use site_base::{DiagKind, Text};
+use site_base::{DiagKind, OutOfMemory, Text};
 use std::alloc::Global;
 use std::test::Fail;
 use std::thread::Builder;
 
 /// The stack of each thread, which a worker has too.
 const STACK: usize = 2 << 20;
+
+/// One less than brackets may be open.
+const CALLS: u32 = 99;
 
 /// The tree of a text; none where it isn't one of the language.
 fn tree_of(alloc: Global, text: &Text) -> Option<File> {
@@ -73,6 +76,31 @@ fn the_deepest_calls_take_little_stack(rt: HostRuntime) -> Result<(), Fail> {
             .spawn(&rt, move || is_too_deep(alloc, &text))?;
         assert!(rt; thread.join(&rt));
     }
+    Ok(())
+}
+
+/// A function that calls itself with what a call of itself gives, and so on.
+fn calls_among_arguments(alloc: Global) -> Result<Text, OutOfMemory> {
+    let mut text = Text::copy_of(alloc, "f = (v) => ")?;
+    for _ in 0..CALLS {
+        text.push_str("f(")?;
+    }
+    text.push('v')?;
+    for _ in 0..CALLS {
+        text.push(')')?;
+    }
+    text.push_str("\nf(1)")?;
+    Ok(text)
+}
+
+#[test]
+fn calls_among_arguments_take_little_stack(rt: HostRuntime) -> Result<(), Fail> {
+    let alloc = rt.alloc();
+    let text = calls_among_arguments(alloc)?;
+    let thread = Builder::new()
+        .stack_size(STACK)
+        .spawn(&rt, move || is_too_deep(alloc, &text))?;
+    assert!(rt; thread.join(&rt));
     Ok(())
 }
 
