@@ -1,0 +1,13 @@
+pub mod Moving
+pub mod Lookups
+pub mod Values
+pub mod Writes
+pub mod Registered
+pub mod Nodes
+pub mod Flows
+pub mod Called
+pub mod Loads
+pub mod Whole
+pub mod Moved
+pub mod Alike
+pub mod Computing

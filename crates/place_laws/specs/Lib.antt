@@ -1,0 +1,5 @@
+pub mod MovedSyntax
+pub mod MovedStates
+pub mod MovedOutcomes
+pub mod Alike
+pub mod Examples
