@@ -26,7 +26,7 @@ module _ (move : Place → Place) (view : View) where
   abbrev pub no_load : Moving
   no_load = record { move = move; view = view; in_load = false; keeps = λ e. absurd (not_both e) }
 
-  same_text : (k : DiagKind) (t u : List ℕ) → (u ≡ t) ⊎ ((false ≡ true) × (k ≡ Duplicate)) → u ≡ t
+  pub same_text : (k : DiagKind) (t u : List ℕ) → (u ≡ t) ⊎ ((false ≡ true) × (k ≡ Duplicate)) → u ≡ t
   same_text k t u (inl e) = e
   same_text k t u (inr e) = absurd (not_both e.0)
 

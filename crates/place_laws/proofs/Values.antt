@@ -53,13 +53,13 @@ module _ (m : Moving) where
 
   -- ---- members and operators
 
-  pub wrongs : {A : Type 0} (f : A → A) (l : Place) (o : Option A) (s : State) → P m same s (or_wrong l o s) (or_wrong (m.move l) o (moved m s))
-  wrongs f l None s = stops m _ same l _ _ s
-  wrongs f l (Some a) s = here m same a s
+  pub wrongs : {A : Type 0} (l : Place) (o : Option A) (s : State) → P m same s (or_wrong l o s) (or_wrong (m.move l) o (moved m s))
+  wrongs l None s = stops m _ same l _ _ s
+  wrongs l (Some a) s = here m same a s
 
   pub parts : (l : Place) (v k : Value) (s : State) → P m same s (part_value l v k s) (part_value (m.move l) v k (moved m s))
   unfolding part_value
-  parts l v k s = wrongs same l (member_of s.cells v k) s
+  parts l v k s = wrongs l (member_of s.cells v k) s
 
   pub settles : {F : Type 0} (kind : F → DiagKind) (l : Place) (n : ℕ) (o : comes.Outcome F) (s : State) → P m same s (settled kind l n o s) (settled kind (m.move l) n o (moved m s))
   settles kind l n (comes.gives v) s = charges m same l n s (λ _ s1. gives v s1) (λ _ s1. gives v s1) (λ s1. here m same v s1)

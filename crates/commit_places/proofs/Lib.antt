@@ -1,0 +1,10 @@
+pub mod Faults
+pub mod Starts
+pub mod Items
+pub mod Rules
+pub mod Groups
+pub mod Lists
+pub mod Targets
+pub mod Waves
+pub mod Commits
+pub mod Computing

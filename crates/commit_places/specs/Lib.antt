@@ -1,0 +1,3 @@
+pub mod MovedAnswers
+pub mod Alike
+pub mod Examples
