@@ -31,6 +31,7 @@ module _ (m : Moving) where
   abbrev pub moved : State → State
   moved s = moved_state m.move s
 
+  -- what begins in a state comes to the one outcome, and what begins in the moved state to the other
   unfoldable pub P : {A : Type 0} → (A → A) → State → Outcome A → Outcome A → Type 0
   P f s x y = is_load s.task ≡ m.in_load → Comes m f x y
 
