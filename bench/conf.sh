@@ -4,22 +4,12 @@
 set -eu
 . "$(dirname "${BASH_SOURCE[0]}")/program.sh"
 
-# that objects stand in files is shown as it is in the rows
-cases=$top/crates/conf_cases
-bench=$work/repository/crates/bench_program
-mkdir -p "$bench"/{src,proofs}
-cp "$cases/src/placed.rt" "$bench/src/"
-cp -r "$cases/proofs/placed" "$bench/proofs/"
-find "$bench" -name '*.antt' -exec sed -i 's/Rattle\.conf_cases/Rattle.bench_program/' {} +
-
-build_program 'site_base time_range object_types site_model conf_check' <<'RATTLE'
+build_program 'site_base time_range object_types site_model case_objects conf_check' <<'RATTLE'
 //! Checks the objects of a site, and prints how long it took.
 #![tactic(auto)]
 
-mod placed;
-
+use case_objects::are_placed;
 use conf_check::{duplicates, references};
-use placed::are_placed;
 use site_base::{ItemNo, OutOfMemory, Place, Row, TargetNo, Text, Texts, Tree};
 use site_model::Object;
 use std::alloc::Global;

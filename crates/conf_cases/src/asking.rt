@@ -1,10 +1,8 @@
 // What a row asks for.
-use crate::placed::are_placed;
+use case_objects::{are_placed, number_of, object_of};
 use case_trees::tree_of;
 use conf_check::{duplicates, references};
-use site_base::{
-    Diag, DiagKind, Diags, ItemNo, OutOfMemory, Place, Row, TargetNo, Text, Texts, Tree, copy_tree,
-};
+use site_base::{Diag, DiagKind, Diags, OutOfMemory, Place, Row, Text, Texts, Tree, copy_tree};
 use site_model::Object;
 use std::alloc::Global;
 
@@ -63,27 +61,14 @@ fn push_objects(alloc: Global, objects: &mut Vec<Object>, text: &str) -> Result<
     match &tree_of(alloc, text)? {
         Some(Tree::Dict(pairs)) => {
             for (head, tree) in pairs {
-                objects.push(object_of(alloc, head.as_str(), copy_tree(alloc, tree)?)?)?;
+                let mut object = object_of(alloc, head.as_str(), copy_tree(alloc, tree)?)?;
+                object.place = place_of(object.number.item);
+                objects.push(object)?;
             }
             Ok(true)
         }
         _ => Ok(false),
     }
-}
-
-/// The object of a head `NUMBER TYPE NAME` and a tree.
-fn object_of(alloc: Global, head: &str, tree: Tree) -> Result<Object, OutOfMemory> {
-    let (number, rest) = head.split_once(' ').unwrap_or((head, ""));
-    let (kind, name) = rest.split_once(' ').unwrap_or((rest, ""));
-    let item = number.parse::<u32>().unwrap_or(0);
-    Ok(Object {
-        kind: Text::copy_of(alloc, kind)?,
-        name: Text::copy_of(alloc, name)?,
-        place: place_of(item),
-        number: number_of(item),
-        builtin: false,
-        tree,
-    })
 }
 
 /// Where an item stands: in the line of its number, in the first file where that is even and in the second where it is odd.
@@ -92,18 +77,6 @@ fn place_of(item: u32) -> Place {
         file: item % 2,
         line: item,
         col: item / 2 + 1,
-    }
-}
-
-fn number_of(item: u32) -> ItemNo {
-    ItemNo {
-        item,
-        target: TargetNo {
-            item: 0,
-            host: 0,
-            key: 0,
-        },
-        key: 0,
     }
 }
 

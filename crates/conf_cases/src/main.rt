@@ -5,7 +5,6 @@
 #![tactic(auto)]
 
 mod asking;
-mod placed;
 
 use case_rows::{ANSWER, row_of};
 use site_base::{OutOfMemory, Text};

@@ -5,7 +5,7 @@ use site_base::Texts;
 use site_model::Object;
 
 /// Whether the place of each object is in one of the files.
-pub(crate) fn are_placed(objects: &[Object], files: &Texts) -> bool
+pub fn are_placed(objects: &[Object], files: &Texts) -> bool
     ensures { IsTrue result → All (λ o. o.place.file < length files.now) objects.now }
 {
     for object in objects {
