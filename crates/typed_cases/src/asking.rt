@@ -1,0 +1,54 @@
+// What a row asks for.
+use crate::faults::push_faults;
+use crate::given::{Given, PERIODS_BEFORE, USERS_BEFORE, given_by};
+use crate::lists::{push_checkables, push_depends, push_notifies, push_users};
+use crate::periods::push_periods;
+use crate::whole::push_whole;
+use case_objects::are_placed;
+use site_base::{OutOfMemory, Row, Text, Texts};
+use site_model::Site;
+use site_phases::{Answer, last_phases};
+use std::alloc::Global;
+
+/// What the word of a row asks of the site of its objects, or what is wrong with these.
+pub(crate) fn answer(alloc: Global, word: &str, row: &str) -> Result<Text, OutOfMemory> {
+    let Some(Given { objects, globals }) = given_by(alloc, word == "alone", row)? else {
+        return Text::copy_of(alloc, "no objects");
+    };
+    let files = both_files(alloc)?;
+    if !are_placed(objects.as_slice(), &files) {
+        return Text::copy_of(alloc, "an object in no file");
+    }
+    let mut out = Text::new(alloc);
+    match last_phases(alloc, files, objects, globals)? {
+        Answer::Site(site) => push_asked(&mut out, word, &site)?,
+        Answer::Diags { files, list } => push_faults(&mut out, &files, list.as_slice())?,
+    }
+    Ok(out)
+}
+
+/// The two files in which objects stand.
+fn both_files(alloc: Global) -> Result<Texts, OutOfMemory> {
+    let mut files = Row::new(alloc);
+    files.push(Text::copy_of(alloc, "even.conf")?)?;
+    files.push(Text::copy_of(alloc, "odd.conf")?)?;
+    Ok(files)
+}
+
+/// Adds what a word asks of a site: one list, as far as a row itself writes what stands in it, or the whole.
+fn push_asked(out: &mut Text, word: &str, site: &Site) -> Result<(), OutOfMemory> {
+    match word {
+        "checkables" => push_checkables(out, site.checkables.as_slice()),
+        "depends" => push_depends(out, site.depends.as_slice()),
+        "notifies" => push_notifies(out, site.notifies.as_slice()),
+        "users" => push_users(out, behind(site.users.as_slice(), USERS_BEFORE)),
+        "periods" => push_periods(out, behind(site.periods.as_slice(), PERIODS_BEFORE)),
+        "site" | "alone" => push_whole(out, site),
+        _ => out.push_str("no such word"),
+    }
+}
+
+/// A list without the first of its items.
+fn behind<T>(items: &[T], before: usize) -> &[T] {
+    items.get(before..).unwrap_or(&[])
+}
