@@ -2,14 +2,15 @@
 # Times Checkable::apply over 250,000 to 1,000,000 results of one service, on one core: without notifications; with three that
 # were told already; and with three of three users each that are told at every result. Each run is a row of checkable_cases, and
 # its time has in it that the events and the sights are made. Wanted: an entry below 1 us where nobody is notified and below 3 us
-# where all are, less than 2.3 times as long for twice as many, and 150 bytes an entry beside its output.
+# where all are, less than 2.3 times as long for twice as many, and 150 bytes an entry beside its output. An argument is a built
+# checkable_cases to take in place of a new one.
 set -eu
 top=$(cd "$(dirname "${BASH_SOURCE[0]}")/.." && pwd)
 work=$(mktemp -d)
 trap 'rm -rf "$work"' EXIT
 
-(cd "$top/crates/checkable_cases" && rt run >"$work/log" 2>&1 </dev/null) || true
-program=$top/crates/checkable_cases/out/checkable_cases
+program=${1:-$top/crates/checkable_cases/out/checkable_cases}
+[ $# = 1 ] || (cd "$top/crates/checkable_cases" && rt run >"$work/log" 2>&1 </dev/null) || true
 [ -x "$program" ] || { cat "$work/log" >&2; exit 1; }
 
 users='user u; user v; user w'
