@@ -1,0 +1,10 @@
+pub mod ViewLaws
+pub mod TargetLaws
+pub mod NoGroups
+pub mod JoinLaws
+pub mod TellLaws
+pub mod NamedLaws
+pub mod WaveLaws
+pub mod CommitLaws
+pub mod WaveSteps
+pub mod WaveRuns

@@ -1,0 +1,97 @@
+// The objects of a wave's items.
+ghost use Rattle.std.specs.Prelude.{◌≡◌, ◌++◌, [], IfOk, OnOk, map};
+ghost use Rattle.std.specs.List.{filter, flat_map};
+ghost use Rattle.site_model.specs.PlainSite.{object_view};
+ghost use Rattle.eval_work.specs.Works.{view_of};
+ghost use Rattle.item_start.specs.Ready.{IsLawfulView};
+ghost use Rattle.commit_meaning.specs.Answers.{made_in, diags_in};
+ghost use Rattle.commit_meaning.specs.Items.{item_answer};
+ghost use Rattle.commit_meaning.specs.Waves.{group_made, is_group as group_type};
+ghost use Rattle.object_types.specs.Names.{type_named};
+ghost use Rattle.wave_order.specs.WaveItems.{plain_wave_item};
+ghost use Rattle.item_body.specs.Plain.{plain_answer};
+ghost use Rattle.commit_waves.specs.Captured.{AreNamed};
+ghost use Rattle.commit_waves.specs.Steps.{groups_by};
+
+use eval_work::WorldView;
+use item_body::{ItemAnswer, run_item};
+use object_types::ObjectType;
+use site_base::{Diags, OutOfMemory, Row};
+use site_model::Object;
+use std::alloc::Global;
+use wave_order::WaveItem;
+
+/// What items have come to: their objects, the items of which groups were made, and what is wrong.
+#[derive(Drop)]
+pub(crate) struct Objects<'a> {
+    pub(crate) objects: Vec<Object>,
+    pub(crate) groups: Vec<WaveItem<'a>>,
+    pub(crate) faults: Diags,
+}
+
+/// Makes the objects of items, one after another.
+pub(crate) fn make_objects<'a>(
+    alloc: Global,
+    view: &WorldView,
+    items: Vec<WaveItem<'a>>,
+) -> Result<Objects<'a>, OutOfMemory>
+    requires lawful { IsLawfulView view.now }
+    requires named { AreNamed view.now.store.now (map plain_wave_item items.items) }
+    ensures objects { IfOk result (λ o. map object_view o.objects.items ≡ flat_map (λ i. made_in (item_answer (view_of view.now) i)) (map plain_wave_item items.entry.items)) }
+    ensures groups { IfOk result (λ o. map plain_wave_item o.groups.items ≡ filter (group_made (view_of view.now)) (map plain_wave_item items.entry.items)) }
+    ensures faults { IfOk result (λ o. o.faults ≡ flat_map (λ i. diags_in (item_answer (view_of view.now) i)) (map plain_wave_item items.entry.items)) }
+{
+    let mut made = Objects {
+        objects: Vec::new(alloc),
+        groups: Vec::new(alloc),
+        faults: Row::new(alloc),
+    };
+    for item in items {
+        let answer = run_item(alloc, view, item.item())?;
+        add_answer(item, answer, &mut made)?;
+    }
+    Ok(made)
+}
+
+/// Adds what an item came to. Over a world nothing is blocked.
+fn add_answer<'a>(
+    item: WaveItem<'a>,
+    answer: ItemAnswer,
+    out: &mut Objects<'a>,
+) -> Result<(), OutOfMemory>
+    ensures objects { OnOk result (map object_view out.new.objects.items ≡ map object_view out.old.objects.items ++ made_in (plain_answer answer)) }
+    ensures groups { OnOk result (map plain_wave_item out.new.groups.items ≡ map plain_wave_item out.old.groups.items ++ groups_by (plain_wave_item item.entry) (plain_answer answer)) }
+    ensures faults { OnOk result (out.new.faults ≡ out.old.faults ++ diags_in (plain_answer answer)) }
+{
+    match answer {
+        ItemAnswer::Made(object) => {
+            out.objects.push(object)?;
+            if is_group(item.item().kind.as_str()) {
+                out.groups.push(item)?;
+            }
+            Ok(())
+        }
+        ItemAnswer::Diags(list) => add_diags(&mut out.faults, list),
+        ItemAnswer::Blocked(_) => Ok(()),
+    }
+}
+
+/// Adds diagnostics behind others.
+pub(crate) fn add_diags(out: &mut Diags, more: Diags) -> Result<(), OutOfMemory>
+    ensures { OnOk result (out.new ≡ out.old ++ more) }
+{
+    for diag in more.into_vec() {
+        out.push(diag)?;
+    }
+    Ok(())
+}
+
+/// Whether objects of a type are groups.
+fn is_group(kind: &str) -> bool
+    ensures { result ≡ group_type (type_named kind.now) }
+{
+    matches!(
+        ObjectType::of_name(kind),
+        Some(ObjectType::HostGroup | ObjectType::ServiceGroup | ObjectType::UserGroup)
+    )
+}
