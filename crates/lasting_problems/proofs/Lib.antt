@@ -1,0 +1,3 @@
+pub mod Noting
+pub mod Ticking
+pub mod Rounding
