@@ -1,0 +1,11 @@
+pub mod Reaching
+pub mod Walking
+pub mod Given
+pub mod Aside
+pub mod Stepping
+pub mod BySegments
+pub mod Showing
+pub mod Planning
+pub mod Watching
+pub mod Ending
+pub mod Holding

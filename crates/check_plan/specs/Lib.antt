@@ -1,0 +1,5 @@
+pub mod Plans
+pub mod Shown
+pub mod Followed
+pub mod Rounds
+pub mod Walks
