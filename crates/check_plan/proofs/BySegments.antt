@@ -71,7 +71,7 @@ module _ (s : PlainSite) (before round : Histories) where
       let z : k + 0 ≡ k = omega arith in
       ap (λ es. watch_from c (of_index k before) es (watch_first os k t) ∷ watches_from (suc k) cs ss os [] []) (none 0 ∙ ap (λ n. of_index n round) z)
       ∙ ap (λ ws. watch_from c (of_index k before) (of_index k round) (watch_first os k t) ∷ ws)
-          (nothing_more (suc k) cs ss os (λ i. let y : k + suc i ≡ suc k + i = omega arith in none (suc i) ∙ ap (λ n. of_index n round) y))
+      (nothing_more (suc k) cs ss os (λ i. let y : k + suc i ≡ suc k + i = omega arith in none (suc i) ∙ ap (λ n. of_index n round) y))
 
   from_plans : (k : ℕ) (cs : List PlainCheck) (ss : List Slot) (os : List Outstanding) (rest : Histories) → ((i : ℕ) → i < length cs → check_at s (k + i) ≡ check_or (slice_get cs i)) → ((i : ℕ) → of_index i rest ≡ of_index (k + i) round)
       → followed_from s k before rest (watches_from k cs ss os [] []) ≡ watches_from k cs ss os before round
@@ -84,9 +84,9 @@ module _ (s : PlainSite) (before round : Histories) where
       ap (λ d. watch_from d (of_index k before) es (watch_first os k t) ∷ behind) (ap (check_at s) (sym z) ∙ cs_are 0 (omega arith))
       ∙ ap (λ fs. watch_from c (of_index k before) fs (watch_first os k t) ∷ behind) (rest_is 0 ∙ ap (λ n. of_index n round) z)
       ∙ ap (λ ws. watch_from c (of_index k before) (of_index k round) (watch_first os k t) ∷ ws)
-          (from_plans (suc k) cs ss os rest
-          (λ i l. let y : suc k + i ≡ k + suc i = omega arith in ap (check_at s) y ∙ cs_are (suc i) (omega (arith, l)))
-          (λ i. let y : k + suc i ≡ suc k + i = omega arith in rest_is (suc i) ∙ ap (λ n. of_index n round) y))
+      (from_plans (suc k) cs ss os rest
+      (λ i l. let y : suc k + i ≡ k + suc i = omega arith in ap (check_at s) y ∙ cs_are (suc i) (omega (arith, l)))
+      (λ i. let y : k + suc i ≡ suc k + i = omega arith in rest_is (suc i) ∙ ap (λ n. of_index n round) y))
 
   pub after_plans : (ss : List Slot) (os : List Outstanding) → followed s before round (watches_from 0 s.checkables ss os [] []) ≡ watches_from 0 s.checkables ss os before round
   after_plans ss os =

@@ -40,12 +40,11 @@ module _ (b : Basis) (moment : ℕ) (before round : Histories) (events : List (L
       let own : m.check ≡ check_at b.site k = sym (ap check_or m.is) in
       let seen = seen_of e in
       let act = act_of e in
-      let made : e ≡ entry_of b k (check_at b.site k) h seen act = m.made ∙ ap (λ c. entry_of b k c (of_index k before ++ take (length done) (of_index k round)) seen act) own ∙ ap (λ hs. entry_of b k (check_at b.site k) hs seen act) front in
-      (
+      let made : e ≡ entry_of b k (check_at b.site k) h seen act = m.made ∙ ap (λ c. entry_of b k c (of_index k before ++ take (length done) (of_index k round)) seen act) own ∙ ap (λ hs. entry_of b k (check_at b.site k) hs seen act) front in (
         shows_state b k (check_at b.site k) h seen act e made,
         shows_hard b k (check_at b.site k) h seen act e made,
         subst (λ hs. AreShown (check_at b.site k) hs es) (sym (append_assoc (of_index k before) done (e ∷ [])))
-        (shown_from (done ++ e ∷ []) es (all ∙ sym (append_assoc done (e ∷ []) es))),
+            (shown_from (done ++ e ∷ []) es (all ∙ sym (append_assoc done (e ∷ []) es))),
       )
     where
       seen_of : Entry → List Seen

@@ -47,11 +47,7 @@ pub(crate) fn gets_order(
 /// # Errors
 ///
 /// `OutOfMemory` where there is none to look through its ancestors.
-fn is_held(
-    setting: &Setting<'_>,
-    books: &[Checkable],
-    checkable: u32,
-) -> Result<bool, OutOfMemory>
+fn is_held(setting: &Setting<'_>, books: &[Checkable], checkable: u32) -> Result<bool, OutOfMemory>
     requires graph { IsGraphOf (site_view setting.now.site.now) setting.now.graph.now }
     requires books { AreBooks (site_view setting.now.site.now) setting.now.moment books.now }
     requires checkable { checkable < length (site_view setting.now.site.now).checkables }

@@ -108,7 +108,12 @@ fn step(
         give(watches, orders, checkable, watch.next, walk)
     } else {
         let spec = &setting.site.checkables.as_slice()[checkable as usize];
-        pass_over(watches, checkable, setting.moment.later(spec.check_secs), walk)
+        pass_over(
+            watches,
+            checkable,
+            setting.moment.later(spec.check_secs),
+            walk,
+        )
     }
 }
 

@@ -42,8 +42,8 @@ module _ (s : PlainSite) (before after : Histories) where
       ap (λ es. all_noted now (segments_from (suc k) round) (front ++ lasts c es ∷ lasting_from (suc k) cs before)) same
       ∙ ap (all_noted now (segments_from (suc k) round)) (sym (append_assoc front (m ∷ []) (lasting_from (suc k) cs before)))
       ∙ noted_after (suc k) (front ++ m ∷ []) cs round (one_longer front m k h) (omega (arith, many))
-          (λ i l. let y : suc k + i ≡ k + suc i = omega arith in ap (check_at s) y ∙ cs_are (suc i) (omega (arith, l)))
-          (λ i. let y : suc k + i ≡ k + suc i = omega arith in subst (λ n. of_index n after ≡ of_index n before ++ of_index i round) (sym y) (is (suc i)))
+      (λ i l. let y : suc k + i ≡ k + suc i = omega arith in ap (check_at s) y ∙ cs_are (suc i) (omega (arith, l)))
+      (λ i. let y : suc k + i ≡ k + suc i = omega arith in subst (λ n. of_index n after ≡ of_index n before ++ of_index i round) (sym y) (is (suc i)))
       ∙ append_assoc front (m ∷ []) (lasting_from (suc k) cs after)
   noted_after k front (c ∷ cs) ((e ∷ es) ∷ round) h many cs_are is =
       let z : k + 0 ≡ k = omega arith in
@@ -53,8 +53,8 @@ module _ (s : PlainSite) (before after : Histories) where
       (set_behind front (lasting_from (suc k) cs before) (lasts c (of_index k before)) (now k) k h ∙ ap (λ d. front ++ lasts d (of_index k after) ∷ lasting_from (suc k) cs before) mine
       ∙ sym (append_assoc front (m ∷ []) (lasting_from (suc k) cs before)))
       ∙ noted_after (suc k) (front ++ m ∷ []) cs round (one_longer front m k h) (omega (arith, many))
-          (λ i l. let y : suc k + i ≡ k + suc i = omega arith in ap (check_at s) y ∙ cs_are (suc i) (omega (arith, l)))
-          (λ i. let y : suc k + i ≡ k + suc i = omega arith in subst (λ n. of_index n after ≡ of_index n before ++ of_index i round) (sym y) (is (suc i)))
+      (λ i l. let y : suc k + i ≡ k + suc i = omega arith in ap (check_at s) y ∙ cs_are (suc i) (omega (arith, l)))
+      (λ i. let y : suc k + i ≡ k + suc i = omega arith in subst (λ n. of_index n after ≡ of_index n before ++ of_index i round) (sym y) (is (suc i)))
       ∙ append_assoc front (m ∷ []) (lasting_from (suc k) cs after)
 
 pub all_after : (s : PlainSite) (before round : Histories) → length round ≡ length s.checkables → all_noted (now s before (joined before round)) (segments_of round) (lasting s before) ≡ lasting s (joined before round)
