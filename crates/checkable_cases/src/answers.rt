@@ -1,28 +1,7 @@
 // What a checkable shows, in the words of answers.
-ghost use Rattle.std.specs.Prelude.{◌<◌, length};
-ghost use Rattle.site_model.specs.PlainSite.{site_view};
-
-use checkable_core::{Checkable, is_entry_of};
+use checkable_core::Checkable;
 use site_base::{OutOfMemory, Text};
-use site_model::{Ack, Entry, Site};
-use site_text::push_entry;
-
-/// Adds the line of an entry.
-#[tactic(auto, using(crate::proofs::Printable::printable))]
-pub(crate) fn push_made(
-    out: &mut Text,
-    site: &Site,
-    checkable: u32,
-    entry: &Entry,
-) -> Result<(), OutOfMemory>
-    requires { checkable < length (site_view site.now).checkables }
-{
-    if is_entry_of(site, entry) {
-        push_entry(out, entry, checkable, site)
-    } else {
-        out.push_str("none of the site")
-    }
-}
+use site_model::Ack;
 
 /// Adds what else a checkable shows.
 pub(crate) fn push_shown(out: &mut Text, book: &Checkable) -> Result<(), OutOfMemory> {

@@ -3,7 +3,8 @@ ghost use Rattle.std.specs.Prelude.{◌≡◌, ◌<◌, length};
 ghost use Rattle.site_model.specs.PlainSite.{site_view};
 ghost use Rattle.depend_graph.specs.Graph.{IsGraphOf};
 
-use crate::answers::{push_made, push_shown};
+use crate::answers::push_shown;
+use case_entries::push_made;
 use case_words::{event_of, moment_in, place_in, result, sights_of, unchecked_views, view_in};
 use checkable_core::Checkable;
 use depend_graph::Graph;
