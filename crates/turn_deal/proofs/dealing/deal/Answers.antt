@@ -1,0 +1,52 @@
+-- Lines come first, then the reports of orders that weren't started and the turn's, and then ticks.
+use Rattle.std.proofs.Common.{◌++◌, map, sym, ap, ◌∙◌}
+use Rattle.site_model.specs.PlainSite.{site_view}
+use Rattle.run_meaning.specs.Dealing.{line_events, line_refusals, report_refusals, still, taken_reports}
+use Rattle.site_run.specs.Replay.{lines_read, report_read}
+use Rattle.site_posts.specs.Made.{asked_of}
+use Rattle.lasting_problems.specs.Noted.{late_in}
+use Rattle.turn_deal.specs.Dealt.{refusal_of, tick_of, with_outstanding}
+use Rattle.turn_deal.proofs.Reporting.{events_both, refusals_both, still_both}
+use Rattle.turn_deal.proofs.dealing.deal.Goals as goal
+
+pub returns-clause-events : goal.returns-clause-events
+returns-clause-events c =
+    let s = site_view c.args.site.now in
+    let os = c.args.plan.now.orders.outstanding in
+    let rs = map report_read c.args.not_started.now in
+    let qs = map report_read c.as_slice-2.result.now in
+    let lines = line_events (lines_read s c.args.turn.now.lines) in
+    let first = c.in_ok-deal_lines.ensures.events ∙ ap (λ xs. map asked_of xs ++ line_events (lines_read s c.as_slice.result.now)) c.new.ensures.items ∙ ap (λ ls. line_events (lines_read s ls)) c.as_slice.ensures in
+    let second = c.in_ok-deal_reports.ensures.events ∙ ap (λ xs. xs ++ map (λ t. t.asked) (taken_reports os rs)) first in
+    let third =
+    c.in_ok-deal_reports-2.ensures.events
+    ∙ ap (λ p. map asked_of c.deal_reports.new.dealt.acts.items ++ map (λ t. t.asked) (taken_reports p.orders.outstanding qs)) c.in_ok-deal_reports.ensures.plan
+    ∙ ap (λ xs. xs ++ map (λ t. t.asked) (taken_reports (still rs os) qs)) second in
+    c.in_ok-add_ticks.ensures
+    ∙ ap (λ xs. xs ++ map tick_of c.as_slice-3.result.now) third
+    ∙ events_both lines rs qs os (map tick_of c.as_slice-3.result.now)
+    ∙ ap (λ ks. lines ++ (map (λ t. t.asked) (taken_reports os (rs ++ qs)) ++ map tick_of ks)) (c.as_slice-3.ensures.value ∙ c.in_ok-late.ensures)
+    ∙ ap (λ xs. lines ++ (map (λ t. t.asked) (taken_reports os (rs ++ map report_read xs)) ++ map tick_of (late_in c.args.moment c.args.problems.now))) c.as_slice-2.ensures
+
+pub returns-clause-refusals : goal.returns-clause-refusals
+returns-clause-refusals c =
+    let s = site_view c.args.site.now in
+    let os = c.args.plan.now.orders.outstanding in
+    let rs = map report_read c.args.not_started.now in
+    let qs = map report_read c.as_slice-2.result.now in
+    let lines = line_refusals 1 (lines_read s c.args.turn.now.lines) in
+    let first = c.in_ok-deal_lines.ensures.refusals ∙ ap (λ xs. map refusal_of xs ++ line_refusals 1 (lines_read s c.as_slice.result.now)) c.new-2.ensures.items ∙ ap (λ ls. line_refusals 1 (lines_read s ls)) c.as_slice.ensures in
+    c.in_ok-deal_reports-2.ensures.refusals
+    ∙ ap (λ p. map refusal_of c.deal_reports.new.dealt.refusals.items ++ report_refusals p.orders.outstanding qs) c.in_ok-deal_reports.ensures.plan
+    ∙ ap (λ xs. xs ++ report_refusals (still rs os) qs) (c.in_ok-deal_reports.ensures.refusals ∙ ap (λ xs. xs ++ report_refusals os rs) first)
+    ∙ refusals_both lines rs qs os
+    ∙ ap (λ xs. lines ++ report_refusals os (rs ++ map report_read xs)) c.as_slice-2.ensures
+
+pub returns-clause-plan : goal.returns-clause-plan
+returns-clause-plan c =
+    let os = c.args.plan.now.orders.outstanding in
+    let rs = map report_read c.args.not_started.now in
+    c.in_ok-deal_reports-2.ensures.plan
+    ∙ ap (λ p. with_outstanding (still (map report_read c.as_slice-2.result.now) p.orders.outstanding) p) c.in_ok-deal_reports.ensures.plan
+    ∙ ap (λ xs. with_outstanding (still (map report_read xs) (still rs os)) c.args.plan.now) c.as_slice-2.ensures
+    ∙ ap (λ ps. with_outstanding ps c.args.plan.now) (sym (still_both rs (map report_read c.args.turn.now.reports) os))

@@ -1,0 +1,55 @@
+// What a turn gives.
+ghost use Rattle.std.specs.Prelude.{◌≡◌, ◌++◌, map, IfOk, OnOk};
+ghost use Rattle.site_model.specs.PlainSite.{site_view};
+ghost use Rattle.run_meaning.specs.Dealing.{line_events, line_refusals, report_refusals, still, taken_reports};
+ghost use Rattle.site_run.specs.Replay.{lines_read, report_read};
+ghost use Rattle.site_posts.specs.Made.{asked_of};
+ghost use Rattle.lasting_problems.specs.Noted.{late_in};
+ghost use Rattle.turn_deal.specs.Dealt.{refusal_of, tick_of, with_outstanding};
+
+use crate::dealt::Dealt;
+use crate::lines::deal_lines;
+use crate::reports::deal_reports;
+use crate::ticks::add_ticks;
+use check_plan::CheckPlan;
+use lasting_problems::Problems;
+use site_base::{Moment, OutOfMemory};
+use site_edge::{Report, Turn};
+use site_model::Site;
+use std::alloc::Global;
+
+/// The acts that a turn at a moment gives to its one caller, and what it refuses: its lines come first, then the reports of checks that
+/// could not be started and those of the turn, and then the ticks of problems that last.
+///
+/// It takes a time that grows with the lines, with the reports times the logarithm of how many orders have none, and with the problems that
+/// last.
+///
+/// # Errors
+///
+/// `OutOfMemory` where there is none for an act or a refusal. Any number of the reports was taken then.
+pub fn deal(
+    alloc: Global,
+    site: &Site,
+    plan: &mut CheckPlan,
+    problems: &Problems,
+    not_started: &[Report],
+    turn: &Turn,
+    moment: Moment,
+) -> Result<Dealt, OutOfMemory>
+    ensures events { IfOk result (λ d. map asked_of d.acts.items ≡
+        line_events (lines_read (site_view site.now) turn.now.lines) ++ (map (λ t. t.asked) (taken_reports plan.old.orders.outstanding (map report_read not_started.now ++ map report_read turn.now.reports)) ++ map tick_of (late_in moment problems.now))) }
+    ensures refusals { IfOk result (λ d. map refusal_of d.refusals.items ≡
+        line_refusals 1 (lines_read (site_view site.now) turn.now.lines) ++ report_refusals plan.old.orders.outstanding (map report_read not_started.now ++ map report_read turn.now.reports)) }
+    ensures plan { OnOk result (plan.new ≡ with_outstanding (still (map report_read not_started.now ++ map report_read turn.now.reports) plan.old.orders.outstanding) plan.old) }
+{
+    let mut dealt = Dealt {
+        acts: Vec::new(alloc),
+        refusals: Vec::new(alloc),
+    };
+    deal_lines(alloc, site, turn.lines.as_slice(), &mut dealt)?;
+    deal_reports(alloc, plan, not_started, &mut dealt)?;
+    deal_reports(alloc, plan, turn.reports.as_slice(), &mut dealt)?;
+    let late = problems.late(alloc, moment)?;
+    add_ticks(late.as_slice(), &mut dealt.acts)?;
+    Ok(dealt)
+}
