@@ -1,0 +1,5 @@
+pub mod OnSite
+pub mod Turning
+pub mod OneStarted
+pub mod Unwritten
+pub mod Beginning

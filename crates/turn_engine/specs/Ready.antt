@@ -1,0 +1,51 @@
+-- What holds of an engine between its turns.
+use Rattle.std.specs.Prelude.{◌≡◌, ◌≤◌, ◌*◌, ◌^◌, ℕ, List, Option, None, Bool, map, MatchOption}
+use Rattle.jiff_tz.specs.declared.tzif.Tzif.{Tzif}
+use Rattle.checkable_core.specs.Contents.{Contents}
+use Rattle.run_meaning.specs.Runs.{no_entries}
+use Rattle.site_model.specs.PlainSite.{PlainSite}
+use Rattle.time_range.specs.Zone.{IsTableOf}
+use Rattle.check_plan.specs.Plans.{IsPlan, plans_of}
+use Rattle.depend_graph.specs.Graph.{IsGraphOf}
+use Rattle.lasting_problems.specs.Lasting.{lasting}
+use Rattle.lasting_problems.specs.Noted.{noted}
+use Rattle.site_model.specs.PlainSite.{site_view}
+use Rattle.site_posts.specs.Books.{AreBooks, histories_of}
+use Rattle.site_run.specs.Replay.{report_read}
+use Rattle.turn_engine.specs.Stages.{Running}
+use Rattle.turn_engine.specs.declared.works.Works.{Works}
+
+abbrev pub running : Works → Running
+running w = record {
+  site = w.site;
+  zone = w.zone;
+  turns = w.turns;
+  moment = w.moment;
+  histories = histories_of w.books.items;
+  plans = plans_of w.plan;
+  due = map report_read w.not_started.items;
+}
+
+-- all that is kept is of the site and of the entries so far, and no turn gave more orders than may be outstanding
+pub record IsReady (w : Works) : Type 0 where
+  pub graph : IsGraphOf (site_view w.site) w.graph
+  pub books : AreBooks (site_view w.site) w.moment w.books.items
+  pub plan : IsPlan (site_view w.site) w.plan
+  pub problems : w.problems ≡ noted (lasting (site_view w.site) (histories_of w.books.items))
+  pub given : w.plan.orders.given ≤ w.turns * 65535
+  pub most : (site_view w.site).max_orders ≤ 65535
+  pub turns : w.turns ≤ 2 ^ 40
+
+-- how far the run has come, and whether a turn of it was left half taken
+pub record Held : Type 0 where
+  pub run : Running
+  pub spent : Bool
+
+-- there is one of each checkable, without entries
+pub record AreEmpty (s : PlainSite) (books : List Contents) : Type 0 where
+  pub each : AreBooks s 0 books
+  pub none : histories_of books ≡ no_entries s
+
+-- the table is that of the zone's file; there is none for UTC
+abbrev pub IsZoneOf : Option (List ℕ) → Option Tzif → Type 0
+IsZoneOf file table = MatchOption file (table ≡ None) (λ bytes. MatchOption table ⊥ (IsTableOf bytes))

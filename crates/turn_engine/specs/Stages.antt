@@ -1,0 +1,41 @@
+-- What an engine is at, in the words of runs.
+use Rattle.std.specs.Prelude.{◌≡◌, ℕ, List, map, Option}
+use Rattle.jiff_tz.specs.declared.tzif.Tzif.{Tzif}
+use Rattle.run_meaning.specs.Acts.{Basis}
+use Rattle.run_meaning.specs.Runs.{Stage, TurnLog}
+use Rattle.run_meaning.specs.Turns.{Begun, Histories, Plans, Reported}
+use Rattle.site_model.specs.PlainSite.{PlainSite}
+use Rattle.site_model.specs.declared.site.Site.{Site}
+use Rattle.site_posts.specs.Made.{basis_in}
+use Rattle.site_posts.specs.Segments.{segments_of}
+use Rattle.site_run.specs.Replay.{nothing_fed}
+use Rattle.turn_deal.specs.Dealt.{refusal_of}
+use Rattle.turn_engine.specs.Orders.{command_of, order_as}
+use Rattle.turn_engine.specs.declared.turn_out.TurnOut.{TurnOut}
+
+-- what clauses see of an engine: its site with its zone, and how far its run has come
+pub record Running : Type 0 where
+  pub site : Site
+  pub zone : Option Tzif
+  pub turns : ℕ
+  pub moment : ℕ
+  pub histories : Histories
+  pub plans : Plans
+  pub due : List Reported
+
+-- what its run stands on: commands are those of the site, and nothing is fed
+abbrev pub basis_of_site : PlainSite → Option Tzif → Basis
+basis_of_site s zone = basis_in s zone (command_of s) nothing_fed
+
+-- where this is what stood when each turn so far began
+abbrev pub stage_of : Running → List Begun → Stage
+stage_of r begun =
+    record { turns = r.turns; moment = r.moment; histories = r.histories; plans = r.plans; due = r.due; begun = begun }
+
+-- it tells this log of a turn
+pub record Tells (out : TurnOut) (l : TurnLog) : Type 0 where
+  pub number : out.number ≡ l.number
+  pub moment : out.moment ≡ l.moment
+  pub refused : map refusal_of out.refusals.items ≡ l.refusals
+  pub entries : out.segments ≡ segments_of l.round
+  pub ordered : map order_as out.orders.items ≡ l.orders

@@ -1,0 +1,24 @@
+// The checkables of a site before any entry.
+ghost use Rattle.std.specs.Prelude.{◌<◌, ◌^◌, IfOk, length};
+ghost use Rattle.site_model.specs.PlainSite.{site_view};
+ghost use Rattle.notify_rules.specs.Sent.{TellOnce};
+ghost use Rattle.turn_engine.specs.Ready.{AreEmpty};
+
+use checkable_core::Checkable;
+use site_base::OutOfMemory;
+use site_model::Site;
+use std::alloc::Global;
+
+/// The checkables of a site, one each by index, without entries.
+pub(crate) fn books_of(alloc: Global, site: &Site) -> Result<Vec<Checkable>, OutOfMemory>
+    requires once { TellOnce (site_view site.now) }
+    requires notifies { length site.now.notifies < 2 ^ 32 }
+    requires few { length site.now.checkables < 2 ^ 32 }
+    ensures { IfOk result (λ books. AreEmpty (site_view site.now) books.items) }
+{
+    let mut books = Vec::new(alloc);
+    for checkable in 0..site.checkables.len() as u32 {
+        books.push(Checkable::new(alloc, site, checkable)?)?;
+    }
+    Ok(books)
+}

@@ -1,0 +1,150 @@
+// The engine.
+ghost use Rattle.std.specs.Prelude.{◌≡◌, ◌<◌, ◌≤◌, ◌-◌, ◌^◌, [], List, Bool, true, false, length, All, IfOk, OnOk, OnErr, MatchOption};
+ghost use Rattle.site_model.specs.PlainSite.{site_view};
+ghost use Rattle.site_model.specs.Sound.{IsSound};
+ghost use Rattle.depend_graph.specs.Cycles.{IsOnCycle};
+ghost use Rattle.run_meaning.specs.Alone.{turn_alone};
+ghost use Rattle.run_meaning.specs.Runs.{IsTurn, begun_by, no_entries, stage_after, start};
+ghost use Rattle.run_meaning.specs.Turns.{Begun};
+ghost use Rattle.time_range.specs.Zone.{IsBadFile, IsTableOf};
+ghost use Rattle.site_run.specs.Replay.{turn_read};
+ghost use Rattle.turn_engine.specs.Stages.{Tells, basis_of_site, stage_of};
+ghost use Rattle.turn_engine.specs.Ready.{IsZoneOf};
+
+use crate::books::books_of;
+use crate::turn_out::TurnOut;
+use crate::turns::take;
+use crate::works::Works;
+use check_plan::CheckPlan;
+use depend_graph::Graph;
+use lasting_problems::Problems;
+use site_base::{Moment, OutOfMemory};
+use site_edge::Turn;
+use site_model::Site;
+use std::alloc::Global;
+use std::marker::Model;
+use time_range::Zone;
+
+/// The engine of a run with one worker. Clauses see its site with its zone, and how far the run has come, and whether the engine is spent:
+/// want of memory may leave a turn half taken.
+#[derive(Drop)]
+pub struct Engine {
+    works: Works,
+    spent: bool,
+}
+
+impl Model for Engine {
+    ghost use Rattle.std.specs.Coded.{codes};
+    ghost use Rattle.std.specs.Prelude.{◌≡◌, false};
+    ghost use Rattle.site_base.specs.contracts.tree.Tree as tree;
+    ghost use Rattle.turn_engine.specs.Ready.{Held, IsReady, running};
+
+    ghost Value = { Held };
+
+    ghost coded = { Prim.hlevel (codes, tree.the_row.coded) };
+
+    ghost view = { λ e. record { run = running e.works; spent = e.spent } };
+
+    ghost invariant = { λ e. e.spent ≡ false → IsReady e.works };
+}
+
+impl Engine {
+    /// The engine of a site before its first turn. The site is sound and has no dependency on a cycle, and its zone, if it has one, is a file
+    /// that the reader of `jiff` takes; every site that a configuration gives is such a one.
+    ///
+    /// # Errors
+    ///
+    /// `OutOfMemory` where there is none for what is kept of the site.
+    pub fn new(alloc: Global, site: Site) -> Result<Engine, OutOfMemory>
+        requires sound { IsSound (site_view site) }
+        requires few { length (site_view site).checkables < 2 ^ 32 - 1 }
+        requires free { All (λ d. IsOnCycle (site_view site) d → ⊥) (site_view site).depends }
+        requires zone { MatchOption (site_view site).zone (Unit {0}) (λ bytes. IsBadFile bytes → ⊥) }
+        ensures site { IfOk result (λ e. e.run.site ≡ site) }
+        ensures zone { IfOk result (λ e. IsZoneOf (site_view site).zone e.run.zone) }
+        ensures start { IfOk result (λ e. stage_of e.run [] ≡ start (site_view site) (no_entries (site_view site))) }
+        ensures fresh { IfOk result (λ e. e.spent ≡ false) }
+    {
+        let Ok(graph) = Graph::build(alloc, &site) else {
+            return Err(OutOfMemory);
+        };
+        let zone = zone_of(alloc, &site)?;
+        let books = books_of(alloc, &site)?;
+        let plan = CheckPlan::new(alloc, site.checkables.len() as u32)?;
+        Ok(Engine {
+            works: Works {
+                alloc,
+                site,
+                graph,
+                zone,
+                books,
+                plan,
+                problems: Problems::new(alloc),
+                not_started: Vec::new(alloc),
+                turns: 0,
+                moment: Moment::of(0).unwrap(),
+            },
+            spent: false,
+        })
+    }
+
+    /// Takes a turn, and gives what is refused of it, the entries that checkables get, and the checks that are to be started. Reports of orders
+    /// whose macros are missing come first in the next turn.
+    ///
+    /// It takes a time that grows with the turn's lines, reports and entries, with the checkables that are due and with the problems that last, each
+    /// times a logarithm.
+    ///
+    /// # Errors
+    ///
+    /// `OutOfMemory` where there is none for what the turn gives. The engine is spent then.
+    pub fn turn_one(&mut self, turn: &Turn) -> Result<TurnOut, OutOfMemory>
+        requires fresh { self.old.spent ≡ false }
+        requires few { self.old.run.turns < 2 ^ 40 }
+        ensures tells { (begun : List Begun) →
+            IfOk result (λ out. Tells out (turn_alone (basis_of_site (site_view self.old.run.site) self.old.run.zone) (stage_of self.old.run begun) (turn_read (site_view self.old.run.site) turn.now))) }
+        ensures turn { (begun : List Begun) →
+            OnOk result (IsTurn (basis_of_site (site_view self.old.run.site) self.old.run.zone) 1 (stage_of self.old.run begun) (turn_read (site_view self.old.run.site) turn.now)
+            (turn_alone (basis_of_site (site_view self.old.run.site) self.old.run.zone) (stage_of self.old.run begun) (turn_read (site_view self.old.run.site) turn.now))) }
+        ensures stage { (begun : List Begun) →
+            OnOk result (stage_of self.new.run (begun_by (stage_of self.old.run begun) self.new.run.moment)
+            ≡ stage_after (basis_of_site (site_view self.old.run.site) self.old.run.zone) (stage_of self.old.run begun) (turn_read (site_view self.old.run.site) turn.now)
+            (turn_alone (basis_of_site (site_view self.old.run.site) self.old.run.zone) (stage_of self.old.run begun) (turn_read (site_view self.old.run.site) turn.now))) }
+        ensures site { OnOk result (self.new.run.site ≡ self.old.run.site) }
+        ensures zone { OnOk result (self.new.run.zone ≡ self.old.run.zone) }
+        ensures fresh { OnOk result (self.new.spent ≡ false) }
+        ensures spent { OnErr result (self.new.spent ≡ true) }
+    {
+        self.spent = true;
+        let out = take(&mut self.works, turn)?;
+        self.spent = false;
+        Ok(out)
+    }
+
+    /// How many orders have no report yet. There are never more than may be.
+    pub fn outstanding(&self) -> usize
+        ensures orders { result ≡ length self.now.run.plans.outstanding }
+        ensures few { self.now.spent ≡ false → result ≤ (site_view self.now.run.site).max_orders }
+    {
+        self.works.plan.outstanding()
+    }
+
+    /// How many turns were taken.
+    pub fn turns(&self) -> u64
+        ensures { result ≡ self.now.run.turns }
+    {
+        self.works.turns
+    }
+}
+
+/// The zone of a site; UTC where it has none.
+fn zone_of(alloc: Global, site: &Site) -> Result<Zone, OutOfMemory>
+    ensures { IfOk result (IsZoneOf (site_view site.now).zone) }
+{
+    let Some(bytes) = &site.zone else {
+        return Ok(Zone::utc());
+    };
+    match Zone::of_file(alloc, bytes.as_slice()) {
+        Ok(zone) => Ok(zone),
+        Err(_) => Err(OutOfMemory),
+    }
+}

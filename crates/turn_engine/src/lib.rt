@@ -1,0 +1,18 @@
+//! The engine of a run with one worker: turn after turn it takes what the world hands in, and tells what is refused, which entries
+//! checkables get, and which checks are ordered.
+//!
+//! In reading order: an order with its words (`order_out`), what a turn gives (`turn_out`), how orders get their words (`starting`),
+//! the checkables without entries (`books`), what the engine keeps (`works`), one turn of it (`turns`), and the engine (`engine`).
+#![tactic(auto)]
+
+mod books;
+mod engine;
+mod order_out;
+mod starting;
+mod turn_out;
+mod turns;
+mod works;
+
+pub use engine::Engine;
+pub use order_out::OrderOut;
+pub use turn_out::TurnOut;
