@@ -10,7 +10,8 @@ const HELP: &str = "\
 icinga_site reads a site's configuration in the Icinga 2 language.
 
 usage:
-  icinga_site objects ROOT          lists the objects that the configuration file ROOT makes
+  icinga_site check ROOT            counts the objects that the configuration file ROOT makes
+  icinga_site objects ROOT          lists them
   icinga_site replay ROOT SCRIPT    writes the log of the turns of SCRIPT over the site of ROOT
   icinga_site --help                prints this text
   icinga_site --version             prints the program's version

@@ -9,7 +9,7 @@ use Rattle.site_text.proofs.ScriptLaws.{judged}
 use Rattle.site_text.specs.ScriptReading.{script_from}
 use Rattle.site_text.specs.Scripts.{Answer, told, bad_line}
 use Rattle.run_meaning.proofs.OneLog.{is_log}
-use Rattle.site_program.specs.Replies.{PlainReply, reply_to, not_yet}
+use Rattle.site_program.specs.Replies.{PlainReply, not_yet}
 use Rattle.site_program.specs.Plans.{Found, runs_over, refused, found, found_of, Plan, runs, tells, plan, plan_of, plan_of_bytes, plan_of_script, reply_of_plan}
 use Rattle.first_form.specs.FirstSites.{FirstObjects, fits, first_site}
 use Rattle.first_form.specs.TypedSites.{typed_site, some_active}
@@ -18,8 +18,8 @@ use Rattle.first_form.proofs.SoundLaws.{typed_names}
 use Rattle.site_run.specs.ReadTurns.{SomeIsLater}
 use Rattle.site_run.specs.Replay.{first_basis, first_stage, turn_read, needs_more, replayed}
 use Rattle.site_run.proofs.ReadLaws.{turns_are_read, some_is_later}
-use Rattle.site_program.specs.TaskAnswers.{IsLog, AnswersScript, AnswersBytes, AnswersFound, AnswersTask, Answers}
-use Rattle.site_program.specs.Tasks.{Task, objects, replay}
+use Rattle.site_program.specs.TaskAnswers.{IsLog, AnswersScript, AnswersBytes, AnswersFound, Answers}
+use Rattle.site_program.specs.Tasks.{replay}
 use Rattle.site_run.proofs.RunLaws.{replay_on_site}
 
 log_is : (s : PlainSite) (turns : List Turn) → HasNames s → needs_more s turns ≡ false → IsLog s turns (reply_of_plan (runs s turns))
@@ -74,9 +74,3 @@ pub plan_answers : (root script : List ℕ) (told : Option (List (List ℕ × Li
 plan_answers root script None p h = tt
 plan_answers root script (Some files) p h =
     subst (λ q. AnswersFound files script (found root (walk_outcome files root)) (reply_of_plan q)) (sym (h files refl)) (found_answers files script (found root (walk_outcome files root)) (found_named root (walk_outcome files root)))
-
--- some answer, whatever is told
-pub some_answer : (task : Task) (told : Option (List (List ℕ × List ℕ))) → (reply : PlainReply) × Answers task told reply
-some_answer task None = (record { lines = []; diagnosed = false }, tt)
-some_answer (objects root) (Some files) = (reply_to root (walk_outcome files root), refl)
-some_answer (replay root script) (Some files) = (reply_of_plan (plan files root script), found_answers files script (found root (walk_outcome files root)) (found_named root (walk_outcome files root)))

@@ -1,5 +1,5 @@
 -- What is found before the first turn of a replay is run.
-use Rattle.std.specs.Prelude.{ℕ, ◌≡◌, Bool, false, List, [], Option, Some, None, if◌then◌else◌}
+use Rattle.std.specs.Prelude.{ℕ, ◌≡◌, false, List, [], Option, Some, None, if◌then◌else◌}
 use Rattle.std.specs.List.{flat_map}
 use Rattle.site_conf.specs.Walks.{WalkOutcome, site, faults, walk_outcome}
 use Rattle.site_edge.specs.Told.{find_file}

@@ -1,15 +1,20 @@
 -- With which lines the program replies.
-use Rattle.std.specs.Prelude.{ℕ, Bool, true, false, List, [], ◌∷◌, ◌++◌, map, Option, Some, None}
+use Rattle.std.specs.Prelude.{ℕ, Bool, true, false, not, List, [], ◌∷◌, ◌++◌, codes, length, map}
+use Rattle.std.specs.Fmt.{decimal}
+use Rattle.std.specs.List.{filter}
 use Rattle.site_base.specs.Quoted.{quoted}
 use Rattle.site_base.specs.declared.diag.Diag.{Diag}
 use Rattle.site_base.specs.declared.diag_kind.DiagKind.{DiagKind}
 use Rattle.site_base.specs.declared.diag_kind.DiagKind.TheVariants.{NoFile, BadScript, NotYet}
-use Rattle.site_model.specs.PlainSite.{PlainObject}
+use Rattle.site_model.specs.PlainSite.{PlainObject, PlainSite}
 use Rattle.site_text.specs.Diags.{diag_text, diag_line, kind_text}
 use Rattle.site_text.specs.Listing.{listing_line}
-use Rattle.site_conf.specs.Walks.{WalkOutcome, site, faults}
+use Rattle.commit_meaning.specs.Commits.{Committed, site, refused}
+use Rattle.site_phases.specs.declared.answer.Answer.{Answer}
+use Rattle.site_phases.specs.declared.answer.Answer.TheVariants as answer
 use Rattle.site_program.specs.declared.replies.Reply.{Reply}
-use Rattle.first_form.specs.FirstSites.{FirstObjects, first_site}
+use Rattle.site_program.specs.declared.replies.Shown.{Shown}
+use Rattle.site_program.specs.declared.replies.Shown.TheVariants as shown
 
 -- the lines with which a run answers, and whether they are diagnostics
 pub record PlainReply : Type 0 where
@@ -40,20 +45,34 @@ no_script name = fault_at name 1 NoFile (quoted name)
 abbrev pub bad_script : List ℕ → ℕ → PlainReply
 bad_script name line = fault_at name line BadScript []
 
--- Listings.
+-- Objects.
+
+-- those of the built-in library aren't listed
+abbrev pub listed : List PlainObject → List PlainObject
+listed os = filter (λ o. not o.builtin) os
 
 abbrev pub plain_line : PlainObject → List ℕ
 plain_line o = listing_line o.kind o.name o.tree
 
--- the check commands and then the hosts
-abbrev pub listing : FirstObjects → PlainReply
-listing s = record { lines = map plain_line (s.commands ++ s.hosts); diagnosed = false }
+abbrev pub listing : List PlainObject → PlainReply
+listing os = record { lines = map plain_line (listed os); diagnosed = false }
 
-abbrev pub reply_to_site : List ℕ → Option FirstObjects → PlainReply
-reply_to_site root None = not_yet root
-reply_to_site root (Some s) = listing s
+abbrev pub count_line : ℕ → List ℕ
+count_line n = codes "ok " ++ decimal n ++ codes " objects\n"
 
--- what answers to a walk from the root: its diagnostics, all of them; else the listing of a site of the first form
-abbrev pub reply_to : List ℕ → WalkOutcome → PlainReply
-reply_to root (site names trees order) = reply_to_site root (first_site trees order)
-reply_to root (faults names list) = diagnoses names list
+abbrev pub count : List PlainObject → PlainReply
+count os = record { lines = count_line (length (listed os)) ∷ []; diagnosed = false }
+
+abbrev pub shown_as : Shown → List PlainObject → PlainReply
+shown_as shown.Listing = listing
+shown_as shown.Count = count
+
+-- what answers to a configuration: its objects, as they are asked for, or what is wrong with it, in these files
+abbrev pub config_reply : Shown → List (List ℕ) → Committed PlainSite → PlainReply
+config_reply how names (site s) = shown_as how s.objects
+config_reply how names (refused list) = diagnoses names list
+
+-- the files of an answer
+abbrev pub files_in : Answer → List (List ℕ)
+files_in (answer.Site s) = s.files
+files_in (answer.Diags files list) = files

@@ -1,5 +1,5 @@
 -- How a run ends.
-use Rattle.std.specs.Prelude.{ℕ, ◌≡◌, Bool, true, false, List, Option, Some, None}
+use Rattle.std.specs.Prelude.{ℕ, ◌≡◌, ◌⊎◌, true, false, List, Option}
 use Rattle.std.specs.List.{concat}
 use Rattle.site_edge.specs.Lists.{Adds, AddsPart}
 use Rattle.site_program.specs.declared.status.Status.{Status}
@@ -18,6 +18,12 @@ Ends WriteFault reply old new = AddsPart (concat reply.lines) old new
 Ends WorldFault reply old new = ⊥
 Ends OutOfMemory reply old new = AddsPart (concat reply.lines) old new
 
--- a run for a task ended so: what was written is, as far as it was written, what answers to the task over the files
+-- what was written is, as far as it was written, what answers to a task over the files
+abbrev pub EndsReply : Status → Task → Option (List (List ℕ × List ℕ)) → Option (List ℕ) → Option (List ℕ) → Type 0
+EndsReply status task told old new = (reply : PlainReply) × Answers task told reply × Ends status reply old new
+
+-- A run for a task ended so. Where the files could not be read, or there was no memory for what they come to, nothing was written.
 abbrev pub EndsRun : Status → Task → Option (List (List ℕ × List ℕ)) → Option (List ℕ) → Option (List ℕ) → Type 0
-EndsRun status task told old new = (reply : PlainReply) × Answers task told reply × Ends status reply old new
+EndsRun ReadFault task told old new = new ≡ old
+EndsRun OutOfMemory task told old new = (new ≡ old) ⊎ EndsReply OutOfMemory task told old new
+EndsRun status task told old new = EndsReply status task told old new

@@ -1,19 +1,13 @@
 // What the program replies: listings of objects, and diagnostics.
-ghost use Rattle.std.specs.Prelude.{◌≡◌, ◌++◌, map, length, IfOk, OnOk};
-ghost use Rattle.dsl_syntax.specs.SyntaxView.{file_view};
-ghost use Rattle.site_text.specs.Listing.{object_line};
-ghost use Rattle.walk_order.specs.Orders.{IsOrder};
-ghost use Rattle.site_conf.specs.Sound.{AreIn, IsWhole, IsOrdered};
-ghost use Rattle.site_conf.specs.Views.{answer_view};
-ghost use Rattle.site_program.specs.Replies.{reply_view, reply_to, reply_to_site, diagnoses as diagnoses_of, listing as listing_of, not_yet as not_yet_of, no_script as no_script_of, bad_script as bad_script_of, fault_at as fault_of};
-ghost use Rattle.first_form.specs.FirstSites.{first_site as first_site_of};
-ghost use Rattle.first_form.specs.Gathering.{objects_view};
+ghost use Rattle.std.specs.Prelude.{◌≡◌, ◌++◌, true, map, length, IfOk, OnOk};
+ghost use Rattle.site_model.specs.PlainSite.{object_view};
+ghost use Rattle.site_conf.specs.Sound.{AreIn};
+ghost use Rattle.site_phases.specs.Phases.{answer_view};
+ghost use Rattle.site_program.specs.Replies.{reply_view, bad_script as bad_script_of, config_reply, count as count_of, count_line as line_of_count, diagnoses as diagnoses_of, fault_at as fault_of, files_in, listed, listing as listing_of, no_script as no_script_of, not_yet as not_yet_of, plain_line, shown_as};
 
-use dsl_syntax::File;
-use first_form::{FirstSite, FormError, first_site};
 use site_base::{Diag, DiagKind, ItemNo, OutOfMemory, Place, Row, TargetNo, Text, Texts, quote};
-use site_conf::WalkAnswer;
 use site_model::Object;
+use site_phases::Answer;
 use site_text::{print_diag, print_object};
 use std::alloc::Global;
 
@@ -24,60 +18,109 @@ pub struct Reply {
     pub diagnosed: bool,
 }
 
-/// What answers to a walk from the root.
-pub fn reply_to_walk(alloc: Global, root: &str, walked: WalkAnswer) -> Result<Reply, OutOfMemory>
-    requires whole { IsWhole walked }
-    requires ordered { IsOrdered walked }
-    ensures { IfOk result (λ r. reply_view r ≡ reply_to root.now (answer_view walked)) }
+/// How the objects of a configuration are told.
+#[derive(Clone, Copy, Debug)]
+pub enum Shown {
+    /// A line for each.
+    Listing,
+    /// How many there are.
+    Count,
+}
+
+/// What answers to a configuration.
+pub fn reply_to_config(alloc: Global, answer: Answer, shown: Shown) -> Result<Reply, OutOfMemory>
+    ensures { IfOk result (λ r. reply_view r ≡ config_reply shown (files_in answer) (answer_view answer)) }
 {
-    match walked {
-        WalkAnswer::Walked(walk) => reply_to_trees(alloc, root, &walk.trees, &walk.order),
-        WalkAnswer::Diags { files, list } => diagnoses(alloc, &files, &list),
+    match answer {
+        Answer::Site(site) => reply_to_objects(alloc, site.objects.as_slice(), shown),
+        Answer::Diags { files, list } => {
+            // Each diagnostic stands in a file of the configuration, so this gives up nowhere.
+            if !are_in(&files, list.as_slice()) {
+                return Err(OutOfMemory);
+            }
+            diagnoses(alloc, &files, list.as_slice())
+        }
     }
 }
 
-/// The listing of a site of the first form; every other site can't be taken yet.
-fn reply_to_trees(
-    alloc: Global,
-    root: &str,
-    trees: &[File],
-    order: &[u32],
-) -> Result<Reply, OutOfMemory>
-    requires { IsOrder (map file_view trees.now) order.now }
-    ensures { IfOk result (λ r. reply_view r ≡ reply_to_site root.now (first_site_of (map file_view trees.now) order.now)) }
+fn are_in(files: &Texts, list: &[Diag]) -> bool
+    ensures { result ≡ true → AreIn (length files.now) list.now }
 {
-    match first_site(alloc, trees, order) {
-        Ok(site) => listing(alloc, &site),
-        Err(FormError::OtherForm) => not_yet(alloc, root),
-        Err(FormError::OutOfMemory) => Err(OutOfMemory),
+    for diag in list {
+        if diag.place.file as usize >= files.len() {
+            return false;
+        }
+    }
+    true
+}
+
+/// Objects, without those of the built-in library.
+fn reply_to_objects(alloc: Global, objects: &[Object], shown: Shown) -> Result<Reply, OutOfMemory>
+    ensures { IfOk result (λ r. reply_view r ≡ shown_as shown (map object_view objects.now)) }
+{
+    match shown {
+        Shown::Listing => listing(alloc, objects),
+        Shown::Count => count(alloc, objects),
     }
 }
 
-/// The check commands and then the hosts.
-#[tactic(auto, using(crate::proofs::AnswerLaws::lines_of_both))]
-fn listing(alloc: Global, site: &FirstSite) -> Result<Reply, OutOfMemory>
-    ensures { IfOk result (λ r. reply_view r ≡ listing_of (objects_view site.now)) }
+fn listing(alloc: Global, objects: &[Object]) -> Result<Reply, OutOfMemory>
+    ensures { IfOk result (λ r. reply_view r ≡ listing_of (map object_view objects.now)) }
 {
     let mut lines = Row::new(alloc);
-    push_objects(alloc, &mut lines, &site.commands)?;
-    push_objects(alloc, &mut lines, &site.hosts)?;
+    push_objects(alloc, &mut lines, objects)?;
     Ok(Reply {
         lines,
         diagnosed: false,
     })
 }
 
-/// Adds the line of each object.
+fn count(alloc: Global, objects: &[Object]) -> Result<Reply, OutOfMemory>
+    ensures { IfOk result (λ r. reply_view r ≡ count_of (map object_view objects.now)) }
+{
+    let mut lines = Row::new(alloc);
+    lines.push(count_line(alloc, objects)?)?;
+    Ok(Reply {
+        lines,
+        diagnosed: false,
+    })
+}
+
+/// Adds the line of each object that is listed.
 fn push_objects(alloc: Global, lines: &mut Texts, objects: &[Object]) -> Result<(), OutOfMemory>
-    ensures { OnOk result (lines.new ≡ lines.old ++ map object_line objects.now) }
+    ensures { OnOk result (lines.new ≡ lines.old ++ map plain_line (listed (map object_view objects.now))) }
 {
     for object in objects {
-        lines.push(print_object(alloc, object)?)?;
+        if !object.builtin {
+            lines.push(print_object(alloc, object)?)?;
+        }
     }
     Ok(())
 }
 
-/// The diagnostics of a walk over these files.
+/// The line that tells how many objects are listed.
+fn count_line(alloc: Global, objects: &[Object]) -> Result<Text, OutOfMemory>
+    ensures { IfOk result (λ t. t ≡ line_of_count (length (listed (map object_view objects.now)))) }
+{
+    let mut line = Text::copy_of(alloc, "ok ")?;
+    line.push_decimal(count_listed(objects))?;
+    line.push_str(" objects\n")?;
+    Ok(line)
+}
+
+fn count_listed(objects: &[Object]) -> u64
+    ensures { result ≡ length (listed (map object_view objects.now)) }
+{
+    let mut count = 0;
+    for object in objects {
+        if !object.builtin {
+            count += 1;
+        }
+    }
+    count
+}
+
+/// Diagnostics that stand in these files.
 pub fn diagnoses(alloc: Global, files: &Texts, list: &[Diag]) -> Result<Reply, OutOfMemory>
     requires { AreIn (length files.now) list.now }
     ensures { IfOk result (λ r. reply_view r ≡ diagnoses_of files.now list.now) }

@@ -7,6 +7,8 @@ use site_base::Text;
 /// What the words of a command line ask for. Each names files: a root, and a script.
 #[derive(Clone, Copy, Debug)]
 pub enum Task<'a> {
+    /// `check ROOT`: how many objects the files from the root on make.
+    Check { root: &'a str },
     /// `objects ROOT`: the objects that the files from the root on make.
     Objects { root: &'a str },
     /// `replay ROOT SCRIPT`: the log of the script's turns over the site that they make.
@@ -18,6 +20,11 @@ pub fn task_of(words: &[Text]) -> Option<Task<'_>>
     ensures { option_map task_view result ≡ task_in words.now }
 {
     match words {
+        [word, root] if word.as_str() == "check" && is_file_word(root.as_bytes()) => {
+            Some(Task::Check {
+                root: root.as_str(),
+            })
+        }
         [word, root] if word.as_str() == "objects" && is_file_word(root.as_bytes()) => {
             Some(Task::Objects {
                 root: root.as_str(),

@@ -1,6 +1,6 @@
 use Rattle.std.proofs.Common.{List, [], Option, Some, None, refl, sym, ap, append-nil}
 use Rattle.site_edge.specs.Lists.{AddsPart}
-use Rattle.site_program.proofs.running.write_listing.Goals as goal
+use Rattle.site_program.proofs.running.write_config.Goals as goal
 
 nothing : {A : Type 0} (more : List A) (o : Option (List A)) → AddsPart more o o
 nothing more None = refl
