@@ -1,7 +1,7 @@
 #!/usr/bin/env bash
 # Commits sites with the built program: `check` over so many hosts, each site twice as large as the one before, and `objects` over the same.
 # A plain host has two services by apply rules and a notification for each of them. A rich one has its attributes from templates and by a
-# function, stands in a group, depends on the host before it, and has services whose rules ask a function. Prints objects, seconds of the
+# function, stands in a group, depends on a host in a tree, and has services whose rules ask a function. Prints objects, seconds of the
 # processor, objects a second, and peak memory an object beyond the text. Wanted at 10,000 hosts: 100,000 objects a second of plain sites and
 # 60,000 of rich ones, less than 2.3 times as long for twice as many, below 1 KiB an object, and `objects` less than half as much again.
 # An argument is a built icinga_site to take.
@@ -19,7 +19,7 @@ hosts() {
             name = sprintf("%s/conf.d/hosts%04d.conf", folder, h / 1000)
             text = body
             gsub(/@HOST@/, h, text)
-            gsub(/@PARENT@/, h == 0 ? 0 : h - 1, text)
+            gsub(/@PARENT@/, int((h - 1) / 8), text)
             gsub(/@RACK@/, h % 40, text)
             printf "object Host \"host-%d\" {\n%s}\n\n", h, text > name
         }
@@ -87,7 +87,7 @@ object HostGroup "linux" {
   assign where host.vars.os == "Linux"
 }
 for (rack in range(40)) {
-  object HostGroup "rack-" + rack {
+  object HostGroup "rack-" + rack use (rack) {
     display_name = "Rack " + rack
   }
 }
