@@ -1,5 +1,5 @@
 #!/usr/bin/env bash
-# Times `lex` and `parse` on one core over texts of the first form of 1 to 8 MiB: 4 MiB are to take below 50 ns a byte and below 20
+# Times `lex` and `parse` on one core over texts of hosts of 1 to 8 MiB: 4 MiB are to take below 50 ns a byte and below 20
 # bytes of peak memory a byte, and time is to grow by less than 2.1 for each doubling. The processor's seconds are those of the whole
 # program, which reads the text and drops the tree too.
 set -eu

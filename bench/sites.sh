@@ -1,5 +1,5 @@
 #!/usr/bin/env bash
-# Lists sites of the first form with the built program: so many files with so many hosts each. Prints bytes read,
+# Lists sites of hosts and a check command with the built program: so many files with so many hosts each. Prints bytes read,
 # seconds, peak memory and peak memory a byte, for each size, each twice as large as the one before.
 set -eu
 top=$(cd "$(dirname "$(readlink -f "${BASH_SOURCE[0]}")")/.." && pwd)

@@ -15,7 +15,7 @@ use Rattle.site_program.specs.declared.replies.Shown.TheVariants as shown
 use Rattle.site_program.specs.declared.status.Status.{Status}
 use Rattle.site_program.specs.declared.status.Status.TheVariants as status
 
-files_are : (names : List (List ℕ)) (a : Answer) → FilesStay names a → files_in a ≡ names
+pub files_are : (names : List (List ℕ)) (a : Answer) → FilesStay names a → files_in a ≡ names
 files_are names (answer.Site s) h = h
 files_are names (answer.Diags files list) h = h
 

@@ -2,7 +2,6 @@
 use Rattle.std.specs.Prelude.{ℕ, ◌≡◌, ◌⊎◌, Bool, false, List, Option, Some, None, IfSome}
 use Rattle.std.specs.Bool.{Decides}
 use Rattle.std.specs.List.{flat_map}
-use Rattle.site_conf.specs.Walks.{walk_outcome}
 use Rattle.site_edge.specs.Told.{find_file}
 use Rattle.site_edge.specs.declared.turn.Turn.{Turn}
 use Rattle.site_model.specs.PlainSite.{PlainSite}
@@ -15,7 +14,7 @@ use Rattle.site_program.specs.Replies.{PlainReply, bad_script, config_reply, no_
 use Rattle.site_program.specs.declared.replies.Shown.{Shown}
 use Rattle.site_program.specs.declared.replies.Shown.TheVariants as shown
 use Rattle.site_run.specs.LogText.{turn_lines}
-use Rattle.site_program.specs.Plans.{Found, runs_over, refused, found}
+use Rattle.site_program.specs.Plans.{Found, runs_over, refused, found_in}
 use Rattle.site_run.specs.ReadTurns.{AreTurnsRead, SomeIsLater}
 use Rattle.site_run.specs.Replay.{first_basis, first_stage}
 use Rattle.site_program.specs.Tasks.{Task, check, objects, replay}
@@ -51,7 +50,7 @@ AnswersRoot files how root reply =
 abbrev pub AnswersTask : List (List ℕ × List ℕ) → Task → PlainReply → Type 0
 AnswersTask files (check root) reply = AnswersRoot files shown.Count root reply
 AnswersTask files (objects root) reply = AnswersRoot files shown.Listing root reply
-AnswersTask files (replay root script) reply = AnswersFound files script (found root (walk_outcome files root)) reply
+AnswersTask files (replay root script) reply = (bad : Bool) → Decides bad (IsBadZone (load_outcome files root)) → AnswersFound files script (found_in bad files root) reply
 
 -- what answers to a task where the files are told, and else anything
 abbrev pub Answers : Task → Option (List (List ℕ × List ℕ)) → PlainReply → Type 0

@@ -3,6 +3,7 @@ ghost use Rattle.std.specs.Prelude.{◌≡◌, ◌++◌, true, map, length, IfOk
 ghost use Rattle.site_model.specs.PlainSite.{object_view};
 ghost use Rattle.site_conf.specs.Sound.{AreIn};
 ghost use Rattle.site_phases.specs.Phases.{answer_view};
+ghost use Rattle.site_text.specs.Diags.{diag_line};
 ghost use Rattle.site_program.specs.Replies.{reply_view, bad_script as bad_script_of, config_reply, count as count_of, count_line as line_of_count, diagnoses as diagnoses_of, fault_at as fault_of, files_in, listed, listing as listing_of, no_script as no_script_of, not_yet as not_yet_of, plain_line, shown_as};
 
 use site_base::{Diag, DiagKind, ItemNo, OutOfMemory, Place, Row, TargetNo, Text, Texts, quote};
@@ -33,25 +34,8 @@ pub fn reply_to_config(alloc: Global, answer: Answer, shown: Shown) -> Result<Re
 {
     match answer {
         Answer::Site(site) => reply_to_objects(alloc, site.objects.as_slice(), shown),
-        Answer::Diags { files, list } => {
-            // Each diagnostic stands in a file of the configuration, so this gives up nowhere.
-            if !are_in(&files, list.as_slice()) {
-                return Err(OutOfMemory);
-            }
-            diagnoses(alloc, &files, list.as_slice())
-        }
+        Answer::Diags { files, list } => diagnoses(alloc, &files, list.as_slice()),
     }
-}
-
-fn are_in(files: &Texts, list: &[Diag]) -> bool
-    ensures { result ≡ true → AreIn (length files.now) list.now }
-{
-    for diag in list {
-        if diag.place.file as usize >= files.len() {
-            return false;
-        }
-    }
-    true
 }
 
 /// Objects, without those of the built-in library.
@@ -120,19 +104,47 @@ fn count_listed(objects: &[Object]) -> u64
     count
 }
 
-/// Diagnostics that stand in these files.
+/// Diagnostics in these files.
 pub fn diagnoses(alloc: Global, files: &Texts, list: &[Diag]) -> Result<Reply, OutOfMemory>
-    requires { AreIn (length files.now) list.now }
     ensures { IfOk result (λ r. reply_view r ≡ diagnoses_of files.now list.now) }
 {
-    let mut lines = Row::new(alloc);
-    for diag in list {
-        lines.push(print_diag(alloc, diag, files)?)?;
+    // Each diagnostic stands in a file of the configuration, so this gives up nowhere.
+    if !are_in(files, list) {
+        return Err(OutOfMemory);
     }
+    let mut lines = Row::new(alloc);
+    push_diags(alloc, &mut lines, files, list)?;
     Ok(Reply {
         lines,
         diagnosed: true,
     })
+}
+
+fn are_in(files: &Texts, list: &[Diag]) -> bool
+    ensures { result ≡ true → AreIn (length files.now) list.now }
+{
+    for diag in list {
+        if diag.place.file as usize >= files.len() {
+            return false;
+        }
+    }
+    true
+}
+
+/// Adds the line of each diagnostic.
+fn push_diags(
+    alloc: Global,
+    lines: &mut Texts,
+    files: &Texts,
+    list: &[Diag],
+) -> Result<(), OutOfMemory>
+    requires { AreIn (length files.now) list.now }
+    ensures { OnOk result (lines.new ≡ lines.old ++ map (diag_line files.now) list.now) }
+{
+    for diag in list {
+        lines.push(print_diag(alloc, diag, files)?)?;
+    }
+    Ok(())
 }
 
 /// The diagnostic that the program can't take a file yet.
