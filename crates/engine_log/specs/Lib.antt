@@ -1,0 +1,2 @@
+pub mod OnSite
+pub mod TurnLines
