@@ -1,2 +1,4 @@
 pub mod Segments
 pub mod Telling
+pub mod EventForms
+pub mod OnSite

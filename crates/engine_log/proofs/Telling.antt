@@ -1,4 +1,4 @@
--- What the lines of a turn are of a log that it tells.
+-- The lines of all that a turn gives are those of the log that it tells.
 use Rattle.std.proofs.Common.{◌≡◌, ℕ, List, ◌∷◌, ◌++◌, map, ap, ◌∙◌}
 use Rattle.std.specs.List.{flat_map}
 use Rattle.log_text.specs.LogLines.{turn_line}

@@ -1,10 +1,18 @@
 -- Turns over a site.
-use Rattle.std.specs.Prelude.{◌<◌, length, All}
+use Rattle.std.specs.Prelude.{Option}
+use Rattle.jiff_tz.specs.declared.tzif.Tzif.{Tzif}
+use Rattle.run_meaning.specs.Runs.{IsTurn, Stage, TurnLog}
+use Rattle.site_edge.specs.declared.turn.Turn.{Turn}
 use Rattle.site_model.specs.PlainSite.{PlainSite}
-use Rattle.site_text.specs.Entries.{IsPrintable}
+use Rattle.site_run.specs.Replay.{turn_read}
+use Rattle.turn_engine.specs.Stages.{Tells, basis_of_site}
 use Rattle.turn_engine.specs.declared.turn_out.TurnOut.{TurnOut}
 
--- all that a turn names is the site's: its entries can be printed, and its orders are of checkables of the site
-pub record IsOfSite (s : PlainSite) (out : TurnOut) : Type 0 where
-  pub entries : All (λ x. All (IsPrintable s x.checkable) x.entries) out.segments
-  pub orders : All (λ o. o.checkable < length s.checkables) out.orders.items
+-- it tells the log of some turn over this site, in some zone and at some stage of a run
+pub record IsTurnOf (s : PlainSite) (out : TurnOut) : Type 0 where
+  pub zone : Option Tzif
+  pub stage : Stage
+  pub turn : Turn
+  pub log : TurnLog
+  pub is : IsTurn (basis_of_site s zone) 1 stage (turn_read s turn) log
+  pub tells : Tells out log

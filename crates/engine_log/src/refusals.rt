@@ -13,12 +13,12 @@ pub(crate) fn print_refusal(alloc: Global, refusal: &Refusal) -> Result<Text, Ou
     ensures { IfOk result (λ t. t ≡ refusal_line (refusal_of refusal.now)) }
 {
     match refusal {
-        Refusal::Line { number, fault } => print_line(alloc, *number, *fault),
-        Refusal::Report { order } => print_report(alloc, *order),
+        Refusal::Line { number, fault } => print_refused_line(alloc, *number, *fault),
+        Refusal::Report { order } => print_refused_report(alloc, *order),
     }
 }
 
-fn print_line(alloc: Global, number: u64, fault: LineFault) -> Result<Text, OutOfMemory>
+fn print_refused_line(alloc: Global, number: u64, fault: LineFault) -> Result<Text, OutOfMemory>
     ensures { IfOk result (λ t. t ≡ refusal_line (refusal_of (Refusal.Line number fault))) }
 {
     let mut text = Text::copy_of(alloc, "refused line ")?;
@@ -29,7 +29,7 @@ fn print_line(alloc: Global, number: u64, fault: LineFault) -> Result<Text, OutO
     Ok(text)
 }
 
-fn print_report(alloc: Global, order: u64) -> Result<Text, OutOfMemory>
+fn print_refused_report(alloc: Global, order: u64) -> Result<Text, OutOfMemory>
     ensures { IfOk result (λ t. t ≡ refusal_line (refusal_of (Refusal.Report order))) }
 {
     let mut text = Text::copy_of(alloc, "refused report ")?;

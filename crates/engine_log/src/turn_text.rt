@@ -2,6 +2,7 @@
 ghost use Rattle.std.specs.Prelude.{◌≡◌, ◌<◌, ◌++◌, length, map, All, IfOk, OnOk};
 ghost use Rattle.std.specs.List.{flat_map};
 ghost use Rattle.site_model.specs.PlainSite.{site_view};
+ghost use Rattle.site_model.specs.Sound.{IsSound};
 ghost use Rattle.site_text.specs.Entries.{IsPrintable, entry_line};
 ghost use Rattle.run_meaning.specs.Runs.{TurnLog};
 ghost use Rattle.site_run.specs.LogText.{refusal_line};
@@ -9,7 +10,7 @@ ghost use Rattle.turn_deal.specs.Dealt.{refusal_of};
 ghost use Rattle.turn_engine.specs.Orders.{order_as};
 ghost use Rattle.turn_engine.specs.Stages.{Tells};
 ghost use Rattle.engine_log.specs.TurnLines.{ordered_line, segment_lines, turn_lines as lines_of_turn};
-ghost use Rattle.engine_log.specs.OnSite.{IsOfSite};
+ghost use Rattle.engine_log.specs.OnSite.{IsTurnOf};
 
 use crate::refusals::print_refusal;
 use log_text::{print_missing, print_order, print_turn};
@@ -22,7 +23,8 @@ use turn_deal::Refusal;
 use turn_engine::{OrderOut, TurnOut};
 
 /// The lines of a turn of the engine in version one of the log, each with its newline: its number and moment, what is refused, the
-/// entries by checkable and number, and the orders by number. The turn is one over this site.
+/// entries by checkable and number, and the orders by number. The site is sound, and the turn is one over it: what an engine of this
+/// site gives.
 ///
 /// It takes a time that grows with the length of these lines.
 ///
@@ -30,7 +32,8 @@ use turn_engine::{OrderOut, TurnOut};
 ///
 /// `OutOfMemory` where there is none for a line.
 pub fn turn_lines(alloc: Global, site: &Site, turn: &TurnOut) -> Result<Texts, OutOfMemory>
-    requires { IsOfSite (site_view site.now) turn.now }
+    requires sound { IsSound (site_view site.now) }
+    requires turn { IsTurnOf (site_view site.now) turn.now }
     ensures { (l : TurnLog) → Tells turn.now l → IfOk result (λ lines. lines ≡ lines_of_turn (site_view site.now) l) }
 {
     let mut lines = Row::new(alloc);

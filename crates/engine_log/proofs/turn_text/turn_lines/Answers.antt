@@ -1,13 +1,30 @@
 -- The turn's line, what is refused, the entries' lines and those of the orders stand one behind another.
-use Rattle.std.proofs.Common.{[], ◌∷◌, ◌++◌, map, ap, ◌∙◌}
+use Rattle.std.proofs.Common.{List, ◌<◌, All, length, subst, sym, [], ◌∷◌, ◌++◌, map, ap, ◌∙◌}
 use Rattle.std.specs.List.{flat_map}
-use Rattle.site_model.specs.PlainSite.{site_view}
+use Rattle.site_model.specs.PlainSite.{check_view, site_view}
+use Rattle.run_meaning.proofs.Lists.{length_map}
 use Rattle.site_run.specs.LogText.{refusal_line}
 use Rattle.turn_deal.specs.Dealt.{refusal_of}
 use Rattle.turn_engine.specs.Orders.{order_as}
 use Rattle.engine_log.specs.TurnLines.{ordered_line, segment_lines}
+use Rattle.site_posts.specs.declared.segment.Segment.{Segment}
+use Rattle.site_text.specs.Entries.{IsPrintable}
+use Rattle.turn_engine.specs.declared.order_out.OrderOut.{OrderOut}
+use Rattle.engine_log.proofs.OnSite.{entries_are, orders_are}
 use Rattle.engine_log.proofs.Telling.{told}
 use Rattle.engine_log.proofs.turn_text.turn_lines.Goals as goal
+
+pub add_segments-requires : goal.add_segments-requires
+add_segments-requires c =
+    let s = site_view c.args.site.now in
+    subst (λ (xs : List Segment). All (λ x. All (IsPrintable s x.checkable) x.entries) xs) (sym c.as_slice-2.ensures) (entries_are s c.args.turn.now c.requires.sound c.requires.turn)
+
+pub add_orders-requires : goal.add_orders-requires
+add_orders-requires c =
+    let s = site_view c.args.site.now in
+    let n = length_map check_view c.args.site.now.checkables in
+    subst (λ (os : List OrderOut). All (λ o. o.checkable < length c.args.site.now.checkables) os) (sym c.as_slice-3.ensures.value)
+    (subst (λ m. All (λ (o : OrderOut). o.checkable < m) c.args.turn.now.orders.items) n (orders_are s c.args.turn.now c.requires.sound c.requires.turn))
 
 pub returns : goal.returns
 returns c l tells =
