@@ -120,6 +120,13 @@ impl Engine {
         Ok(out)
     }
 
+    /// The site that it runs over.
+    pub fn site(&self) -> &Site
+        ensures { result.now ≡ self.now.run.site }
+    {
+        &self.works.site
+    }
+
     /// How many orders have no report yet. There are never more than may be.
     pub fn outstanding(&self) -> usize
         ensures orders { result ≡ length self.now.run.plans.outstanding }
