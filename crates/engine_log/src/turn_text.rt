@@ -45,11 +45,7 @@ pub fn turn_lines(alloc: Global, site: &Site, turn: &TurnOut) -> Result<Texts, O
 }
 
 /// Adds the lines of what is refused.
-fn add_refusals(
-    alloc: Global,
-    refusals: &[Refusal],
-    lines: &mut Texts,
-) -> Result<(), OutOfMemory>
+fn add_refusals(alloc: Global, refusals: &[Refusal], lines: &mut Texts) -> Result<(), OutOfMemory>
     ensures { OnOk result (lines.new ≡ lines.old ++ map refusal_line (map refusal_of refusals.now)) }
 {
     for refusal in refusals {
@@ -69,7 +65,13 @@ fn add_segments(
     ensures { OnOk result (lines.new ≡ lines.old ++ flat_map (segment_lines (site_view site.now)) segments.now) }
 {
     for segment in segments {
-        add_entries(alloc, site, segment.checkable, segment.entries.as_slice(), lines)?;
+        add_entries(
+            alloc,
+            site,
+            segment.checkable,
+            segment.entries.as_slice(),
+            lines,
+        )?;
     }
     Ok(())
 }
