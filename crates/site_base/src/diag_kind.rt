@@ -77,6 +77,4 @@ pub enum DiagKind {
     BadZone,
     /// A line of a script that isn't one.
     BadScript,
-    /// A text that this version of the program can't take.
-    NotYet,
 }
