@@ -8,3 +8,4 @@ pub mod Reading
 pub mod Writing
 pub mod Found
 pub mod Placed
+pub mod Searching

@@ -1,11 +1,12 @@
 // Names with their values.
 ghost use Rattle.std.specs.Prelude.{◌≡◌, IfOk, IfErr, OnOk, OnErr, IfSome, IfNone, T, Some, None, [], ℕ};
-ghost use Rattle.dsl_value.specs.Pairs.{Pairs, find, is_sorted, put, IsAt, IsGapFor, dict_of};
+ghost use Rattle.dsl_value.specs.Pairs.{Pairs, find, is_sorted, put, IsAt, IsGapFor, dict_of, key_cmp};
 ghost use Rattle.dsl_value.specs.Whole.{Names, NamesAll};
 
 use dsl_value::Value;
 use site_base::{OutOfMemory, Text};
 use std::alloc::Global;
+use std::cmp::Ordering;
 use std::marker::Model;
 
 /// Names with their values, by rising names: the locals of a frame, what a function captured, constants. A look-up takes as
@@ -94,11 +95,31 @@ fn place_of(pairs: &[(Text, Value)], name: &str) -> Result<usize, usize>
     ensures found { IfOk result (IsAt pairs.now name.now) }
     ensures absent { IfErr result (IsGapFor pairs.now name.now) }
 {
-    pairs.binary_search_by(|pair| pair.0.as_str().cmp(name))
+    let mut low = 0;
+    let mut high = pairs.len();
+    while low < high {
+        let middle = low + (high - low) / 2;
+        match name_order(pairs[middle].0.as_str(), name) {
+            Ordering::Less => low = middle + 1,
+            Ordering::Equal => return Ok(middle),
+            Ordering::Greater => high = middle,
+        }
+    }
+    Err(low)
+}
+
+/// The order of two names, by their bytes. Of most two the first bytes differ, and decide.
+fn name_order(a: &str, b: &str) -> Ordering
+    ensures { result ≡ key_cmp a.now b.now }
+{
+    match (a.as_bytes().first(), b.as_bytes().first()) {
+        (Some(x), Some(y)) if x != y => x.cmp(y),
+        _ => a.cmp(b),
+    }
 }
 
 /// The value of a name.
-fn value_of<'a>(pairs: &'a [(Text, Value)], name: &str) -> Option<&'a Value>
+pub(crate) fn value_of<'a>(pairs: &'a [(Text, Value)], name: &str) -> Option<&'a Value>
     requires { T (is_sorted pairs.now) }
     ensures found { IfSome result (λ v. find name.now pairs.now ≡ Some v.now) }
     ensures absent { IfNone result (find name.now pairs.now ≡ None) }

@@ -7,6 +7,7 @@ ghost use Rattle.eval_meaning.specs.Calls.{name_called, member_called, part_call
 ghost use Rattle.eval_work.specs.Works.{state_of, Gives, IsNamedFault};
 ghost use Rattle.eval_work.specs.Kept.{Named, IsFit, CalleeNamed};
 
+use crate::locals::value_of;
 use crate::{Stop, Work};
 use dsl_lib::LibraryCall;
 use dsl_value::{Cell, Store, Value};
@@ -32,7 +33,7 @@ fn in_cell<'a>(store: &'a Store, cell: u32, name: &Text) -> Option<&'a Value>
     ensures absent { IfNone result (name_in store.now.cells name.now (Value.Ref cell) ≡ None) }
 {
     match store.cell(cell) {
-        Cell::Dict(_) => store.get(cell, name.as_str()),
+        Cell::Dict(pairs) => value_of(pairs, name.as_str()),
         Cell::Array(_) => None,
     }
 }
