@@ -9,8 +9,8 @@ use Rattle.run_meaning.specs.Turns.{Asked, Histories, Outstanding, Reported, of_
 use Rattle.site_model.specs.PlainSite.{PlainCheck, PlainSite}
 use Rattle.site_model.specs.declared.entry.Entry.{Entry}
 use Rattle.site_model.specs.declared.event.Event.TheVariants as event
-use Rattle.site_run.specs.Replay.{as_line, lines_read}
-use Rattle.site_run.proofs.ReadingForms.{line_in_form}
+use Rattle.run_text.specs.TurnReading.{as_line, lines_read}
+use Rattle.run_text.proofs.ReadingForms.{line_in_form}
 use Rattle.site_text.specs.Entries.{IsInForm}
 
 abbrev pub AreInForm : List Asked → Type 0

@@ -25,7 +25,7 @@ use Rattle.site_model.specs.declared.outcome.Outcome.TheVariants as outcome
 use Rattle.site_model.specs.declared.sight.Sight.{Sight}
 use Rattle.site_posts.specs.Segments.{segments_from}
 use Rattle.site_posts.specs.declared.segment.Segment.{Segment}
-use Rattle.site_run.specs.Replay.{lines_read, turn_read}
+use Rattle.run_text.specs.TurnReading.{lines_read, turn_read}
 use Rattle.site_text.specs.Entries.{IsDecisionOf, IsInForm, IsOutcomeOf, IsPrintable}
 use Rattle.turn_engine.specs.Orders.{command_of, order_as}
 use Rattle.turn_engine.specs.Stages.{basis_of_site}

@@ -4,7 +4,7 @@ use Rattle.jiff_tz.specs.declared.tzif.Tzif.{Tzif}
 use Rattle.run_meaning.specs.Runs.{IsTurn, Stage, TurnLog}
 use Rattle.site_edge.specs.declared.turn.Turn.{Turn}
 use Rattle.site_model.specs.PlainSite.{PlainSite}
-use Rattle.site_run.specs.Replay.{turn_read}
+use Rattle.run_text.specs.TurnReading.{turn_read}
 use Rattle.turn_engine.specs.Stages.{Tells, basis_of_site}
 use Rattle.turn_engine.specs.declared.turn_out.TurnOut.{TurnOut}
 

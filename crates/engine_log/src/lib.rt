@@ -1,12 +1,9 @@
-//! The log of the engine: the lines of one turn in version one.
+//! The log of the engine: the lines of one turn.
 //!
-//! In reading order: the lines of what is refused (`refusals`), those of a whole turn (`turn_text`), and turns of an engine
-//! that are logged (`logging`).
+//! In reading order: the lines of what is refused (`refusals`), and those of a whole turn (`turn_text`).
 #![tactic(auto)]
 
-mod logging;
 mod refusals;
 mod turn_text;
 
-pub use logging::log_turn;
 pub use turn_text::turn_lines;

@@ -1,6 +1,6 @@
 // The lines of what a turn refuses.
 ghost use Rattle.std.specs.Prelude.{◌≡◌, IfOk};
-ghost use Rattle.site_run.specs.LogText.{refusal_line};
+ghost use Rattle.run_text.specs.LogText.{refusal_line};
 ghost use Rattle.turn_deal.specs.Dealt.{refusal_of};
 
 use event_text::LineFault;

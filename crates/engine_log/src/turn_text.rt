@@ -3,17 +3,18 @@ ghost use Rattle.std.specs.Prelude.{◌≡◌, ◌<◌, ◌++◌, length, map, A
 ghost use Rattle.std.specs.List.{flat_map};
 ghost use Rattle.site_model.specs.PlainSite.{site_view};
 ghost use Rattle.site_model.specs.Sound.{IsSound};
-ghost use Rattle.site_text.specs.Entries.{IsPrintable, entry_line};
+ghost use Rattle.site_text.specs.Entries.{IsPrintable};
 ghost use Rattle.run_meaning.specs.Runs.{TurnLog};
-ghost use Rattle.site_run.specs.LogText.{refusal_line};
+ghost use Rattle.run_text.specs.LogText.{ordered_line, refusal_line, styled_entry, turn_lines as lines_of_turn};
 ghost use Rattle.turn_deal.specs.Dealt.{refusal_of};
 ghost use Rattle.turn_engine.specs.Orders.{order_as};
 ghost use Rattle.turn_engine.specs.Stages.{Tells};
-ghost use Rattle.engine_log.specs.TurnLines.{ordered_line, segment_lines, turn_lines as lines_of_turn};
+ghost use Rattle.engine_log.specs.TurnLines.{segment_lines};
 ghost use Rattle.engine_log.specs.OnSite.{IsTurnOf};
 
 use crate::refusals::print_refusal;
-use log_text::{print_missing, print_order, print_turn};
+use log_text::{print_entry_two, print_missing, print_order, print_order_two, print_turn};
+use run_text::Style;
 use site_base::{OutOfMemory, Row, Text, Texts};
 use site_model::{Entry, Site};
 use site_posts::Segment;
@@ -22,7 +23,7 @@ use std::alloc::Global;
 use turn_deal::Refusal;
 use turn_engine::{OrderOut, TurnOut};
 
-/// The lines of a turn of the engine in version one of the log, each with its newline: its number and moment, what is refused, the
+/// The lines of a turn of the engine in a version of the log, each with its newline: its number and moment, what is refused, the
 /// entries by checkable and number, and the orders by number. The site is sound, and the turn is one over it: what an engine of this
 /// site gives.
 ///
@@ -31,16 +32,21 @@ use turn_engine::{OrderOut, TurnOut};
 /// # Errors
 ///
 /// `OutOfMemory` where there is none for a line.
-pub fn turn_lines(alloc: Global, site: &Site, turn: &TurnOut) -> Result<Texts, OutOfMemory>
+pub fn turn_lines(
+    alloc: Global,
+    style: Style,
+    site: &Site,
+    turn: &TurnOut,
+) -> Result<Texts, OutOfMemory>
     requires sound { IsSound (site_view site.now) }
     requires turn { IsTurnOf (site_view site.now) turn.now }
-    ensures { (l : TurnLog) → Tells turn.now l → IfOk result (λ lines. lines ≡ lines_of_turn (site_view site.now) l) }
+    ensures { (l : TurnLog) → Tells turn.now l → IfOk result (λ lines. lines ≡ lines_of_turn style (site_view site.now) l) }
 {
     let mut lines = Row::new(alloc);
     lines.push(print_turn(alloc, turn.number, turn.moment)?)?;
     add_refusals(alloc, turn.refusals.as_slice(), &mut lines)?;
-    add_segments(alloc, site, turn.segments.as_slice(), &mut lines)?;
-    add_orders(alloc, site, turn.orders.as_slice(), &mut lines)?;
+    add_segments(alloc, style, site, turn.segments.as_slice(), &mut lines)?;
+    add_orders(alloc, style, site, turn.orders.as_slice(), &mut lines)?;
     Ok(lines)
 }
 
@@ -57,16 +63,18 @@ fn add_refusals(alloc: Global, refusals: &[Refusal], lines: &mut Texts) -> Resul
 /// Adds the lines of the entries, checkable after checkable.
 fn add_segments(
     alloc: Global,
+    style: Style,
     site: &Site,
     segments: &[Segment],
     lines: &mut Texts,
 ) -> Result<(), OutOfMemory>
     requires { All (λ x. All (IsPrintable (site_view site.now) x.checkable) x.entries) segments.now }
-    ensures { OnOk result (lines.new ≡ lines.old ++ flat_map (segment_lines (site_view site.now)) segments.now) }
+    ensures { OnOk result (lines.new ≡ lines.old ++ flat_map (segment_lines style (site_view site.now)) segments.now) }
 {
     for segment in segments {
         add_entries(
             alloc,
+            style,
             site,
             segment.checkable,
             segment.entries.as_slice(),
@@ -79,43 +87,74 @@ fn add_segments(
 /// Adds the lines of the entries of a checkable.
 fn add_entries(
     alloc: Global,
+    style: Style,
     site: &Site,
     checkable: u32,
     entries: &[Entry],
     lines: &mut Texts,
 ) -> Result<(), OutOfMemory>
     requires { All (IsPrintable (site_view site.now) checkable) entries.now }
-    ensures { OnOk result (lines.new ≡ lines.old ++ map (entry_line (site_view site.now) checkable) entries.now) }
+    ensures { OnOk result (lines.new ≡ lines.old ++ map (styled_entry style (site_view site.now) checkable) entries.now) }
 {
     for entry in entries {
-        lines.push(print_entry(alloc, entry, checkable, site)?)?;
+        lines.push(print_styled(alloc, style, entry, checkable, site)?)?;
     }
     Ok(())
+}
+
+/// The line of an entry in this version.
+fn print_styled(
+    alloc: Global,
+    style: Style,
+    entry: &Entry,
+    checkable: u32,
+    site: &Site,
+) -> Result<Text, OutOfMemory>
+    requires { IsPrintable (site_view site.now) checkable entry.now }
+    ensures { IfOk result (λ t. t ≡ styled_entry style (site_view site.now) checkable entry.now) }
+{
+    match style {
+        Style::One => print_entry(alloc, entry, checkable, site),
+        Style::Two => print_entry_two(alloc, entry, checkable, site),
+    }
 }
 
 /// Adds the lines of the orders.
 fn add_orders(
     alloc: Global,
+    style: Style,
     site: &Site,
     orders: &[OrderOut],
     lines: &mut Texts,
 ) -> Result<(), OutOfMemory>
     requires { All (λ o. o.checkable < length site.now.checkables) orders.now }
-    ensures { OnOk result (lines.new ≡ lines.old ++ map (ordered_line (site_view site.now)) (map order_as orders.now)) }
+    ensures { OnOk result (lines.new ≡ lines.old ++ map (ordered_line style (site_view site.now)) (map order_as orders.now)) }
 {
     for order in orders {
-        lines.push(print_ordered(alloc, site, order)?)?;
+        lines.push(print_ordered(alloc, style, site, order)?)?;
     }
     Ok(())
 }
 
 /// The line of an order, with the macro that is missing for its command if one is.
-fn print_ordered(alloc: Global, site: &Site, order: &OrderOut) -> Result<Text, OutOfMemory>
+fn print_ordered(
+    alloc: Global,
+    style: Style,
+    site: &Site,
+    order: &OrderOut,
+) -> Result<Text, OutOfMemory>
     requires { order.now.checkable < length site.now.checkables }
-    ensures { IfOk result (λ t. t ≡ ordered_line (site_view site.now) (order_as order.now)) }
+    ensures { IfOk result (λ t. t ≡ ordered_line style (site_view site.now) (order_as order.now)) }
 {
-    match &order.argv {
-        Ok(_) => print_order(alloc, order.number, order.checkable, site),
-        Err(name) => print_missing(alloc, order.number, order.checkable, name.as_str(), site),
+    match (&order.argv, style) {
+        (Ok(_), Style::One) => print_order(alloc, order.number, order.checkable, site),
+        (Ok(words), Style::Two) => print_order_two(
+            alloc,
+            order.number,
+            order.checkable,
+            words.as_slice(),
+            site,
+        ),
+        (Err(name), _) => print_missing(alloc, order.number, order.checkable, name.as_str(), site),
     }
 }

@@ -43,7 +43,6 @@ kind_text kind.DependencyCycle = codes "DependencyCycle"
 kind_text kind.BadConst = codes "BadConst"
 kind_text kind.BadZone = codes "BadZone"
 kind_text kind.BadScript = codes "BadScript"
-kind_text kind.NotYet = codes "NotYet"
 
 -- a blank and the detail, where there is one
 abbrev pub detail_text : List ℕ → List ℕ

@@ -75,6 +75,5 @@ fn kind_name(kind: DiagKind) -> &'static str
         DiagKind::BadConst => "BadConst",
         DiagKind::BadZone => "BadZone",
         DiagKind::BadScript => "BadScript",
-        DiagKind::NotYet => "NotYet",
     }
 }

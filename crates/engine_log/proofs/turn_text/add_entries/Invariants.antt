@@ -1,9 +1,9 @@
 -- The lines so far, followed by those of the rest, are all.
 use Rattle.std.proofs.Common.{◌≡◌, ◌++◌, map, drop}
 use Rattle.site_model.specs.PlainSite.{site_view}
-use Rattle.site_text.specs.Entries.{entry_line}
+use Rattle.run_text.specs.LogText.{styled_entry}
 use Rattle.engine_log.proofs.turn_text.add_entries.Given as goal
 
 abbrev pub invariant-loop-entry : goal.invariant-loop-entry
 invariant-loop-entry l =
-    l.lines ++ map (entry_line (site_view l.site) l.checkable) (drop l.entry-index l.entries) ≡ l.initial.lines ++ map (entry_line (site_view l.site) l.checkable) l.fn.entries
+    l.lines ++ map (styled_entry l.style (site_view l.site) l.checkable) (drop l.entry-index l.entries) ≡ l.initial.lines ++ map (styled_entry l.style (site_view l.site) l.checkable) l.fn.entries

@@ -1,6 +1,6 @@
 -- The lines so far, followed by those of the rest, are all.
 use Rattle.std.proofs.Common.{◌≡◌, ◌++◌, map, drop}
-use Rattle.site_run.specs.LogText.{refusal_line}
+use Rattle.run_text.specs.LogText.{refusal_line}
 use Rattle.turn_deal.specs.Dealt.{refusal_of}
 use Rattle.engine_log.proofs.turn_text.add_refusals.Given as goal
 

@@ -7,4 +7,4 @@ use Rattle.engine_log.proofs.turn_text.add_segments.Given as goal
 
 abbrev pub invariant-loop-segment : goal.invariant-loop-segment
 invariant-loop-segment l =
-    l.lines ++ flat_map (segment_lines (site_view l.site)) (drop l.segment-index l.segments) ≡ l.initial.lines ++ flat_map (segment_lines (site_view l.site)) l.fn.segments
+    l.lines ++ flat_map (segment_lines l.style (site_view l.site)) (drop l.segment-index l.segments) ≡ l.initial.lines ++ flat_map (segment_lines l.style (site_view l.site)) l.fn.segments

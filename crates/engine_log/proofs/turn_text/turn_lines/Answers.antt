@@ -3,10 +3,10 @@ use Rattle.std.proofs.Common.{List, ◌<◌, All, length, subst, sym, [], ◌∷
 use Rattle.std.specs.List.{flat_map}
 use Rattle.site_model.specs.PlainSite.{check_view, site_view}
 use Rattle.run_meaning.proofs.Lists.{length_map}
-use Rattle.site_run.specs.LogText.{refusal_line}
+use Rattle.run_text.specs.LogText.{ordered_line, refusal_line}
 use Rattle.turn_deal.specs.Dealt.{refusal_of}
 use Rattle.turn_engine.specs.Orders.{order_as}
-use Rattle.engine_log.specs.TurnLines.{ordered_line, segment_lines}
+use Rattle.engine_log.specs.TurnLines.{segment_lines}
 use Rattle.site_posts.specs.declared.segment.Segment.{Segment}
 use Rattle.site_text.specs.Entries.{IsPrintable}
 use Rattle.turn_engine.specs.declared.order_out.OrderOut.{OrderOut}
@@ -31,15 +31,15 @@ returns c l tells =
     let s = site_view c.args.site.now in
     let out = c.args.turn.now in
     let refused = map refusal_line (map refusal_of out.refusals.items) in
-    let entries = flat_map (segment_lines s) out.segments in
+    let entries = flat_map (segment_lines c.args.style s) out.segments in
     c.in_ok-add_orders.ensures
-    ∙ ap (λ os. c.add_segments.new.lines ++ map (ordered_line s) (map order_as os)) c.as_slice-3.ensures.value
-    ∙ ap (λ ls. ls ++ map (ordered_line s) (map order_as out.orders.items))
+    ∙ ap (λ os. c.add_segments.new.lines ++ map (ordered_line c.args.style s) (map order_as os)) c.as_slice-3.ensures.value
+    ∙ ap (λ ls. ls ++ map (ordered_line c.args.style s) (map order_as out.orders.items))
     (c.in_ok-add_segments.ensures
-    ∙ ap (λ xs. c.add_refusals.new.lines ++ flat_map (segment_lines s) xs) c.as_slice-2.ensures
+    ∙ ap (λ xs. c.add_refusals.new.lines ++ flat_map (segment_lines c.args.style s) xs) c.as_slice-2.ensures
     ∙ ap (λ ls. ls ++ entries)
     (c.in_ok-add_refusals.ensures
     ∙ ap (λ rs. c.push.new.self ++ map refusal_line (map refusal_of rs)) c.as_slice.ensures.value
     ∙ ap (λ ls. ls ++ refused)
     (c.in_ok-push.ensures.ok ∙ ap (λ ls. ls ++ c.in_ok-print_turn.field-0 ∷ []) c.new-lines.ensures ∙ ap (λ t. t ∷ []) c.in_ok-print_turn.ensures)))
-    ∙ told s out l tells
+    ∙ told c.args.style s out l tells

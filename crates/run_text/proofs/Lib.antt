@@ -1,0 +1,4 @@
+pub mod CommandLaws
+pub mod ReadLaws
+pub mod ReadingForms
+pub mod Writing

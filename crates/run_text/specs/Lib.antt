@@ -1,0 +1,3 @@
+pub mod LogText
+pub mod ReadTurns
+pub mod TurnReading
