@@ -1,3 +1,4 @@
 pub mod Noting
 pub mod Ticking
 pub mod Rounding
+pub mod Showing

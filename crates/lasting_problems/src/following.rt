@@ -1,5 +1,5 @@
-// Problems after a round.
-ghost use Rattle.std.specs.Prelude.{◌≡◌, ◌<◌, ℕ, All, length, OnOk};
+// Problems that checkables show, at first and after a round.
+ghost use Rattle.std.specs.Prelude.{◌≡◌, ◌<◌, ◌^◌, ℕ, All, length, IfOk, OnOk};
 ghost use Rattle.site_model.specs.PlainSite.{PlainSite, site_view};
 ghost use Rattle.checkable_core.specs.Contents.{check_at};
 ghost use Rattle.run_meaning.specs.Runs.{joined};
@@ -14,8 +14,26 @@ use check_state::is_problem;
 use checkable_core::Checkable;
 use site_base::{Moment, OutOfMemory};
 use site_posts::Segment;
+use std::alloc::Global;
 
 impl Problems {
+    /// The problems that these checkables show, one of each index.
+    ///
+    /// # Errors
+    ///
+    /// `OutOfMemory` where there is none for all of them.
+    pub fn of(alloc: Global, books: &[Checkable]) -> Result<Problems, OutOfMemory>
+        requires few { length books.now < 2 ^ 32 }
+        ensures { (s : PlainSite) (moment : ℕ) → AreBooks s moment books.now → IfOk result (λ p. p ≡ noted (lasting s (histories_of books.now))) }
+    {
+        let mut problems = Problems::new(alloc);
+        for checkable in 0..books.len() as u32 {
+            let book = &books[checkable as usize];
+            problems.note(checkable, lasting_of(book))?;
+        }
+        Ok(problems)
+    }
+
     /// Notes what the checkables show that got entries of a round, of which these are the segments. The books have the entries.
     ///
     /// # Errors

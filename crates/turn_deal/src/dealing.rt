@@ -2,7 +2,7 @@
 ghost use Rattle.std.specs.Prelude.{◌≡◌, ◌++◌, map, IfOk, OnOk};
 ghost use Rattle.site_model.specs.PlainSite.{site_view};
 ghost use Rattle.run_meaning.specs.Dealing.{line_events, line_refusals, report_refusals, still, taken_reports};
-ghost use Rattle.site_run.specs.Replay.{lines_read, report_read};
+ghost use Rattle.run_text.specs.TurnReading.{lines_read, report_read};
 ghost use Rattle.site_posts.specs.Made.{asked_of};
 ghost use Rattle.lasting_problems.specs.Noted.{late_in};
 ghost use Rattle.turn_deal.specs.Dealt.{refusal_of, tick_of, with_outstanding};

@@ -3,7 +3,7 @@ ghost use Rattle.std.specs.Prelude.{◌≡◌, ◌++◌, ◌∷◌, [], map, OnO
 ghost use Rattle.site_model.specs.PlainSite.{site_view};
 ghost use Rattle.event_text.specs.Reading.{line_read};
 ghost use Rattle.run_meaning.specs.Dealing.{line_events, line_refusals};
-ghost use Rattle.site_run.specs.Replay.{as_line, lines_read};
+ghost use Rattle.run_text.specs.TurnReading.{as_line, lines_read};
 ghost use Rattle.site_posts.specs.Made.{asked_of};
 ghost use Rattle.turn_deal.specs.Dealt.{refusal_of};
 

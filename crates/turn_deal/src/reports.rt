@@ -1,7 +1,7 @@
 // What the reports of orders give.
 ghost use Rattle.std.specs.Prelude.{◌≡◌, ◌++◌, ◌∷◌, [], map, OnOk};
 ghost use Rattle.run_meaning.specs.Dealing.{report_refusals, still, taken_reports};
-ghost use Rattle.site_run.specs.Replay.{report_read};
+ghost use Rattle.run_text.specs.TurnReading.{report_read};
 ghost use Rattle.site_posts.specs.Made.{asked_of};
 ghost use Rattle.turn_deal.specs.Dealt.{refusal_of, with_outstanding};
 

@@ -8,8 +8,8 @@ use Rattle.run_meaning.specs.Alone.{AreOnSite}
 use Rattle.run_meaning.specs.Dealing.{Taken, checkable_of, line_events, taken_reports, taking, ticks, ticks_from, wants_tick, without}
 use Rattle.run_meaning.specs.Turns.{Asked, Histories, Outstanding, Reported, of_index}
 use Rattle.run_meaning.proofs.Counting.{AreWithin, within_still}
-use Rattle.site_run.specs.Replay.{as_line, lines_read}
-use Rattle.site_run.proofs.ReadingForms.{line_on_site}
+use Rattle.run_text.specs.TurnReading.{as_line, lines_read}
+use Rattle.run_text.proofs.ReadingForms.{line_on_site}
 
 nothing_on_site : (s : PlainSite) → AreOnSite s []
 nothing_on_site s i a h = absurd cc

@@ -28,8 +28,8 @@ use Rattle.site_posts.specs.Books.{AreBooks, histories_of}
 use Rattle.site_posts.specs.Segments.{segments_of}
 use Rattle.site_posts.specs.declared.segment.Segment.{Segment}
 use Rattle.site_posts.proofs.OneByOne.{alone_whole}
-use Rattle.site_run.specs.Replay.{lines_read, report_read, turn_read}
-use Rattle.site_run.proofs.CommandLaws.{lines_ask}
+use Rattle.run_text.specs.TurnReading.{lines_read, report_read, turn_read}
+use Rattle.run_text.proofs.CommandLaws.{lines_ask}
 use Rattle.turn_deal.specs.Dealt.{refusal_of, tick_of, with_outstanding}
 use Rattle.turn_engine.specs.Orders.{command_of, order_as}
 use Rattle.turn_engine.specs.Stages.{Running, Tells, basis_of_site, stage_of}

@@ -3,11 +3,11 @@ use Rattle.std.proofs.Common.{◌≡◌, ℕ, zero, suc, ◌+◌, List, [], ◌�
 use Rattle.checkable_core.specs.Contents.{Contents}
 use Rattle.run_meaning.specs.Turns.{Histories}
 use Rattle.site_model.specs.PlainSite.{PlainCheck, PlainSite}
-use Rattle.site_posts.specs.Books.{IsBook, histories_of}
-use Rattle.turn_engine.specs.Ready.{AreEmpty}
+use Rattle.site_posts.specs.Books.{histories_of}
+use Rattle.turn_engine.specs.Checkables.{AreEmpty, IsOf}
 
 pub record IsEmpty (s : PlainSite) (k : ℕ) (book : Contents) : Type 0 where
-  pub book_is : IsBook s 0 k book
+  pub book_is : IsOf s k book
   pub none : book.entries ≡ []
 
 -- those so far are the first checkables
@@ -40,6 +40,6 @@ none_in (b ∷ books) (c ∷ cs) n all = ap (λ es. es ∷ histories_of books) (
 
 pub all_empty : (s : PlainSite) (count : ℕ) (books : List Contents) → count ≡ length s.checkables → AreFirst s count books → AreEmpty s books
 all_empty s count books whole are = record {
-  each = record { whole = are.many ∙ whole; each = λ k book at. (are.each k book at).book_is };
+  all_of = record { whole = are.many ∙ whole; each = λ k book at. (are.each k book at).book_is };
   none = none_in books s.checkables (are.many ∙ whole) (λ k book at. (are.each k book at).none);
 }

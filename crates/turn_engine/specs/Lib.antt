@@ -1,3 +1,4 @@
+pub mod Checkables
 pub mod Orders
 pub mod Stages
 pub mod Ready

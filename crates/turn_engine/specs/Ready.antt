@@ -1,8 +1,6 @@
 -- What holds of an engine between its turns.
 use Rattle.std.specs.Prelude.{◌≡◌, ◌≤◌, ◌*◌, ◌^◌, ℕ, List, Option, None, Bool, map, MatchOption}
 use Rattle.jiff_tz.specs.declared.tzif.Tzif.{Tzif}
-use Rattle.checkable_core.specs.Contents.{Contents}
-use Rattle.run_meaning.specs.Runs.{no_entries}
 use Rattle.site_model.specs.PlainSite.{PlainSite}
 use Rattle.time_range.specs.Zone.{IsTableOf}
 use Rattle.check_plan.specs.Plans.{IsPlan, plans_of}
@@ -11,7 +9,7 @@ use Rattle.lasting_problems.specs.Lasting.{lasting}
 use Rattle.lasting_problems.specs.Noted.{noted}
 use Rattle.site_model.specs.PlainSite.{site_view}
 use Rattle.site_posts.specs.Books.{AreBooks, histories_of}
-use Rattle.site_run.specs.Replay.{report_read}
+use Rattle.run_text.specs.TurnReading.{report_read}
 use Rattle.turn_engine.specs.Stages.{Running}
 use Rattle.turn_engine.specs.declared.works.Works.{Works}
 
@@ -40,11 +38,6 @@ pub record IsReady (w : Works) : Type 0 where
 pub record Held : Type 0 where
   pub run : Running
   pub spent : Bool
-
--- there is one of each checkable, without entries
-pub record AreEmpty (s : PlainSite) (books : List Contents) : Type 0 where
-  pub each : AreBooks s 0 books
-  pub none : histories_of books ≡ no_entries s
 
 -- the table is that of the zone's file; there is none for UTC
 abbrev pub IsZoneOf : Option (List ℕ) → Option Tzif → Type 0

@@ -8,7 +8,7 @@ use Rattle.site_model.specs.PlainSite.{PlainSite}
 use Rattle.site_model.specs.declared.site.Site.{Site}
 use Rattle.site_posts.specs.Made.{basis_in}
 use Rattle.site_posts.specs.Segments.{segments_of}
-use Rattle.site_run.specs.Replay.{nothing_fed}
+use Rattle.run_text.specs.TurnReading.{nothing_fed}
 use Rattle.turn_deal.specs.Dealt.{refusal_of}
 use Rattle.turn_engine.specs.Orders.{command_of, order_as}
 use Rattle.turn_engine.specs.declared.turn_out.TurnOut.{TurnOut}

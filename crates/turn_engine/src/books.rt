@@ -2,7 +2,7 @@
 ghost use Rattle.std.specs.Prelude.{◌<◌, ◌^◌, IfOk, length};
 ghost use Rattle.site_model.specs.PlainSite.{site_view};
 ghost use Rattle.notify_rules.specs.Sent.{TellOnce};
-ghost use Rattle.turn_engine.specs.Ready.{AreEmpty};
+ghost use Rattle.turn_engine.specs.Checkables.{AreEmpty};
 
 use checkable_core::Checkable;
 use site_base::OutOfMemory;

@@ -7,15 +7,19 @@ ghost use Rattle.run_meaning.specs.Alone.{turn_alone};
 ghost use Rattle.run_meaning.specs.Runs.{IsTurn, begun_by, no_entries, stage_after, start};
 ghost use Rattle.run_meaning.specs.Turns.{Begun};
 ghost use Rattle.time_range.specs.Zone.{IsBadFile, IsTableOf};
-ghost use Rattle.site_run.specs.Replay.{turn_read};
+ghost use Rattle.site_posts.specs.Books.{AreBooks, histories_of};
+ghost use Rattle.run_text.specs.TurnReading.{turn_read};
 ghost use Rattle.turn_engine.specs.Stages.{Tells, basis_of_site, stage_of};
+ghost use Rattle.turn_engine.specs.Checkables.{AreOf};
 ghost use Rattle.turn_engine.specs.Ready.{IsZoneOf};
 
 use crate::books::books_of;
+use crate::moments::greatest_moment_of;
 use crate::turn_out::TurnOut;
 use crate::turns::take;
 use crate::works::Works;
 use check_plan::CheckPlan;
+use checkable_core::Checkable;
 use depend_graph::Graph;
 use lasting_problems::Problems;
 use site_base::{Moment, OutOfMemory};
@@ -65,12 +69,36 @@ impl Engine {
         ensures start { IfOk result (λ e. stage_of e.run [] ≡ start (site_view site) (no_entries (site_view site))) }
         ensures fresh { IfOk result (λ e. e.spent ≡ false) }
     {
+        let books = books_of(alloc, &site)?;
+        Engine::resume(alloc, site, books)
+    }
+
+    /// The engine of a site whose checkables have entries already, before its first turn: its moment is the greatest of theirs, no check is
+    /// ordered, and each is due. The site is one that `new` takes, and there is one checkable for each of its indices.
+    ///
+    /// It takes a time that grows with all entries.
+    ///
+    /// # Errors
+    ///
+    /// `OutOfMemory` where there is none for what is kept of the site.
+    pub fn resume(alloc: Global, site: Site, books: Vec<Checkable>) -> Result<Engine, OutOfMemory>
+        requires sound { IsSound (site_view site) }
+        requires few { length (site_view site).checkables < 2 ^ 32 - 1 }
+        requires free { All (λ d. IsOnCycle (site_view site) d → ⊥) (site_view site).depends }
+        requires zone { MatchOption (site_view site).zone (Unit {0}) (λ bytes. IsBadFile bytes → ⊥) }
+        requires books { AreOf (site_view site) books.items }
+        ensures site { IfOk result (λ e. e.run.site ≡ site) }
+        ensures zone { IfOk result (λ e. IsZoneOf (site_view site).zone e.run.zone) }
+        ensures start { IfOk result (λ e. stage_of e.run [] ≡ start (site_view site) (histories_of books.items)) }
+        ensures fresh { IfOk result (λ e. e.spent ≡ false) }
+    {
         let Ok(graph) = Graph::build(alloc, &site) else {
             return Err(OutOfMemory);
         };
         let zone = zone_of(alloc, &site)?;
-        let books = books_of(alloc, &site)?;
         let plan = CheckPlan::new(alloc, site.checkables.len() as u32)?;
+        let problems = Problems::of(alloc, books.as_slice())?;
+        let moment = greatest_moment_of(books.as_slice());
         Ok(Engine {
             works: Works {
                 alloc,
@@ -79,13 +107,23 @@ impl Engine {
                 zone,
                 books,
                 plan,
-                problems: Problems::new(alloc),
+                problems,
                 not_started: Vec::new(alloc),
                 turns: 0,
-                moment: Moment::of(0).unwrap(),
+                moment,
             },
             spent: false,
         })
+    }
+
+    /// The site and its checkables with their entries, with which another engine can go on. It takes no memory.
+    pub fn retire(self) -> (Site, Vec<Checkable>)
+        ensures site { result.0 ≡ self.run.site }
+        ensures entries { histories_of result.1.items ≡ self.run.histories }
+        ensures are { self.spent ≡ false → AreBooks (site_view self.run.site) self.run.moment result.1.items }
+        ensures each { self.spent ≡ false → AreOf (site_view self.run.site) result.1.items }
+    {
+        self.works.into_parts()
     }
 
     /// Takes a turn, and gives what is refused of it, the entries that checkables get, and the checks that are to be started. Reports of orders
@@ -125,6 +163,21 @@ impl Engine {
         ensures { result.now ≡ self.now.run.site }
     {
         &self.works.site
+    }
+
+    /// The checkables with their entries, by index.
+    pub fn books(&self) -> &[Checkable]
+        ensures entries { histories_of result.now ≡ self.now.run.histories }
+        ensures are { self.now.spent ≡ false → AreBooks (site_view self.now.run.site) self.now.run.moment result.now }
+    {
+        self.works.books.as_slice()
+    }
+
+    /// The moment of the last turn; 0 before the first.
+    pub fn moment(&self) -> Moment
+        ensures { result ≡ self.now.run.moment }
+    {
+        self.works.moment
     }
 
     /// How many orders have no report yet. There are never more than may be.

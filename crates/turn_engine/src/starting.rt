@@ -2,7 +2,7 @@
 ghost use Rattle.std.specs.Prelude.{◌≡◌, ◌++◌, ◌∷◌, [], map, codes, IfOk, OnOk};
 ghost use Rattle.site_model.specs.PlainSite.{site_view};
 ghost use Rattle.run_meaning.specs.Runs.{due_of, without_macro};
-ghost use Rattle.site_run.specs.Replay.{report_read};
+ghost use Rattle.run_text.specs.TurnReading.{report_read};
 ghost use Rattle.check_plan.specs.Walks.{ordered_as};
 ghost use Rattle.turn_engine.specs.Orders.{command_of, order_as};
 

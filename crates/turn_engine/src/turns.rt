@@ -1,17 +1,18 @@
 // One turn of the engine.
-ghost use Rattle.std.specs.Prelude.{◌≡◌, ◌<◌, ◌^◌, List, max, IfOk, OnOk};
+ghost use Rattle.std.specs.Prelude.{◌≡◌, ◌<◌, ◌^◌, List, IfOk, OnOk};
 ghost use Rattle.site_model.specs.PlainSite.{site_view};
 ghost use Rattle.run_meaning.specs.Alone.{turn_alone};
 ghost use Rattle.run_meaning.specs.Runs.{IsTurn, begun_by, stage_after};
 ghost use Rattle.run_meaning.specs.Turns.{Begun};
-ghost use Rattle.site_run.specs.Replay.{turn_read};
+ghost use Rattle.run_text.specs.TurnReading.{turn_read};
 ghost use Rattle.turn_engine.specs.Ready.{IsReady, running};
 ghost use Rattle.turn_engine.specs.Stages.{Tells, basis_of_site, stage_of};
 
+use crate::moments::later_of;
 use crate::starting::start;
 use crate::turn_out::TurnOut;
 use crate::works::Works;
-use site_base::{Moment, OutOfMemory};
+use site_base::OutOfMemory;
 use site_edge::Turn;
 use site_posts::{Setting, round_one};
 use turn_deal::deal;
@@ -76,15 +77,4 @@ pub(crate) fn take(works: &mut Works, turn: &Turn) -> Result<TurnOut, OutOfMemor
         segments,
         orders: started.orders,
     })
-}
-
-/// The later of two moments.
-fn later_of(left: Moment, right: Moment) -> Moment
-    ensures { result ≡ max left right }
-{
-    if left.secs() < right.secs() {
-        right
-    } else {
-        left
-    }
 }

@@ -1,4 +1,6 @@
 // What the engine keeps.
+ghost use Rattle.std.specs.Prelude.{◌≡◌};
+
 use check_plan::CheckPlan;
 use checkable_core::Checkable;
 use depend_graph::Graph;
@@ -26,4 +28,14 @@ pub(crate) struct Works {
     pub(crate) turns: u64,
     /// The last turn's moment; 0 before the first.
     pub(crate) moment: Moment,
+}
+
+impl Works {
+    /// The site and its checkables.
+    pub(crate) fn into_parts(self) -> (Site, Vec<Checkable>)
+        ensures site { result.0 ≡ self.site }
+        ensures books { result.1.items ≡ self.books.items }
+    {
+        (self.site, self.books)
+    }
 }

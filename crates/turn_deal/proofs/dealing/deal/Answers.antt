@@ -2,7 +2,7 @@
 use Rattle.std.proofs.Common.{◌++◌, map, sym, ap, ◌∙◌}
 use Rattle.site_model.specs.PlainSite.{site_view}
 use Rattle.run_meaning.specs.Dealing.{line_events, line_refusals, report_refusals, still, taken_reports}
-use Rattle.site_run.specs.Replay.{lines_read, report_read}
+use Rattle.run_text.specs.TurnReading.{lines_read, report_read}
 use Rattle.site_posts.specs.Made.{asked_of}
 use Rattle.lasting_problems.specs.Noted.{late_in}
 use Rattle.turn_deal.specs.Dealt.{refusal_of, tick_of, with_outstanding}

@@ -1,7 +1,7 @@
 -- One line more was dealt.
 use Rattle.std.proofs.Common.{◌+◌, map}
 use Rattle.site_model.specs.PlainSite.{site_view}
-use Rattle.site_run.proofs.DealingLaws.{events_more, refusals_more}
+use Rattle.turn_deal.proofs.LineByLine.{events_more, refusals_more}
 use Rattle.site_posts.specs.Made.{asked_of}
 use Rattle.turn_deal.specs.Dealt.{refusal_of}
 use Rattle.turn_deal.proofs.lines.deal_lines.Goals as goal

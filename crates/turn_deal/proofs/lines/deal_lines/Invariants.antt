@@ -2,7 +2,7 @@
 use Rattle.std.proofs.Common.{◌≡◌, ◌+◌, ◌++◌, map, drop}
 use Rattle.site_model.specs.PlainSite.{site_view}
 use Rattle.run_meaning.specs.Dealing.{line_events, line_refusals}
-use Rattle.site_run.specs.Replay.{lines_read}
+use Rattle.run_text.specs.TurnReading.{lines_read}
 use Rattle.site_posts.specs.Made.{asked_of}
 use Rattle.turn_deal.specs.Dealt.{refusal_of}
 use Rattle.turn_deal.proofs.lines.deal_lines.Given as goal

@@ -2,7 +2,7 @@
 use Rattle.std.proofs.Common.{◌+◌, ◌++◌, ◌∷◌, [], map, drop, sym, ap, ◌∙◌}
 use Rattle.notify_rules.proofs.Lists.{drop_next}
 use Rattle.run_meaning.specs.Dealing.{report_refusals, still, taken_reports}
-use Rattle.site_run.specs.Replay.{report_read}
+use Rattle.run_text.specs.TurnReading.{report_read}
 use Rattle.site_posts.specs.Made.{asked_of}
 use Rattle.turn_deal.specs.Dealt.{refusal_of, with_outstanding}
 use Rattle.turn_deal.proofs.Reporting.{events_step, refusals_step, still_step}

@@ -1,7 +1,7 @@
 -- What was dealt so far, followed by what the rest gives, is all.
 use Rattle.std.proofs.Common.{◌≡◌, ◌++◌, map, drop}
 use Rattle.run_meaning.specs.Dealing.{report_refusals, still, taken_reports}
-use Rattle.site_run.specs.Replay.{report_read}
+use Rattle.run_text.specs.TurnReading.{report_read}
 use Rattle.site_posts.specs.Made.{asked_of}
 use Rattle.turn_deal.specs.Dealt.{refusal_of, with_outstanding}
 use Rattle.turn_deal.proofs.reports.deal_reports.Given as goal

@@ -1,7 +1,6 @@
 -- One more is the next checkable.
 use Rattle.std.proofs.Common.{ap, arith}
 use Rattle.checkable_core.proofs.Listed.{length_map}
-use Rattle.run_meaning.specs.Dealing.{last_moment}
 use Rattle.site_model.specs.PlainSite.{check_view, site_view}
 use Rattle.turn_engine.proofs.Unwritten.{all_empty, one_more}
 use Rattle.turn_engine.proofs.books.books_of.Goals as goal
@@ -14,7 +13,6 @@ loop-checkable-preserved c =
       book_is = record {
         site = ap (λ b. site_view b.site) made;
         index = ap (λ b. b.index) made;
-        moment = (let e = ap (λ b. last_moment b.entries) made in omega (arith, e));
       };
       none = ap (λ b. b.entries) made;
     })

@@ -6,7 +6,7 @@ use Rattle.check_plan.specs.declared.ordered.Ordered.{Ordered}
 use Rattle.notify_rules.proofs.Lists.{drop_next}
 use Rattle.run_meaning.specs.Runs.{due_of}
 use Rattle.site_model.specs.PlainSite.{site_view}
-use Rattle.site_run.specs.Replay.{report_read}
+use Rattle.run_text.specs.TurnReading.{report_read}
 use Rattle.turn_engine.specs.Orders.{command_of, order_as}
 use Rattle.turn_engine.proofs.OneStarted.{due_more, orders_more}
 use Rattle.turn_engine.proofs.starting.start.Goals as goal

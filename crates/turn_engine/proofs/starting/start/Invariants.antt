@@ -3,7 +3,7 @@ use Rattle.std.proofs.Common.{◌≡◌, ◌++◌, map, drop}
 use Rattle.check_plan.specs.Walks.{ordered_as}
 use Rattle.run_meaning.specs.Runs.{due_of}
 use Rattle.site_model.specs.PlainSite.{site_view}
-use Rattle.site_run.specs.Replay.{report_read}
+use Rattle.run_text.specs.TurnReading.{report_read}
 use Rattle.turn_engine.specs.Orders.{command_of, order_as}
 use Rattle.turn_engine.proofs.starting.start.Given as goal
 

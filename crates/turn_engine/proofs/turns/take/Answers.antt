@@ -12,7 +12,7 @@ use Rattle.site_model.specs.PlainSite.{site_view}
 use Rattle.site_posts.specs.Books.{AreBooks, histories_of}
 use Rattle.site_posts.specs.Made.{asked_of}
 use Rattle.site_posts.specs.Segments.{segments_of}
-use Rattle.site_run.specs.Replay.{lines_read, nothing_fed, report_read}
+use Rattle.run_text.specs.TurnReading.{lines_read, nothing_fed, report_read}
 use Rattle.turn_deal.specs.Dealt.{tick_of, with_outstanding}
 use Rattle.turn_engine.specs.Orders.{command_of}
 use Rattle.turn_engine.specs.Ready.{running}

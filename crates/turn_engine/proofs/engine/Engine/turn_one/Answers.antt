@@ -3,7 +3,7 @@ use Rattle.std.proofs.Common.{ap, ◌∙◌, subst}
 use Rattle.run_meaning.specs.Alone.{turn_alone}
 use Rattle.run_meaning.specs.Runs.{IsTurn}
 use Rattle.site_model.specs.PlainSite.{site_view}
-use Rattle.site_run.specs.Replay.{turn_read}
+use Rattle.run_text.specs.TurnReading.{turn_read}
 use Rattle.turn_engine.specs.Ready.{Held}
 use Rattle.turn_engine.specs.Stages.{Tells, basis_of_site, stage_of}
 use Rattle.turn_engine.proofs.engine.Engine.turn_one.Goals as goal
