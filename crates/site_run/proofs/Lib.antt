@@ -1,9 +1,8 @@
-pub mod CommandLaws
-pub mod DealingLaws
-pub mod ReadLaws
-pub mod ReadingForms
-pub mod Resting
-pub mod RunLaws
-pub mod StandingLaws
-pub mod TurnLaws
-pub mod Writing
+pub mod Adding
+pub mod Ending
+pub mod Fed
+pub mod Going
+pub mod Logging
+pub mod OnSite
+pub mod Stopping
+pub mod Told

@@ -1,5 +1,7 @@
-pub mod LogFaults
-pub mod LogText
-pub mod ReadTurns
-pub mod Replay
-pub mod Standings
+pub mod Statuses
+pub mod Stops
+pub mod Feeds
+pub mod Starts
+pub mod Courses
+pub mod Ends
+pub mod Logs

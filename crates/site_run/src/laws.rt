@@ -1,56 +1,11 @@
-// What a replay is.
-ghost use Rattle.std.specs.Prelude.{◌≡◌, ◌↔◌, ◌≤◌, ℕ, List, [], Bool, Some, map, true, false, length, slice_get};
-ghost use Rattle.site_edge.specs.declared.turn.Turn.{Turn};
-ghost use Rattle.site_model.specs.PlainSite.{PlainCheck, PlainSite};
-ghost use Rattle.site_model.specs.Sound.{HasNames};
-ghost use Rattle.run_meaning.specs.Lookback.{AskCommands, ask_commands, back_by, is_outstanding, slot_back, stage_by};
-ghost use Rattle.run_meaning.specs.Meaning.{basis_of};
-ghost use Rattle.run_meaning.specs.Runs.{TurnLog, IsRun, start};
-ghost use Rattle.run_meaning.specs.Schedule.{is_waiting};
-ghost use Rattle.run_meaning.specs.Turns.{Command, Histories, ReadTurn};
-ghost use Rattle.site_run.specs.ReadTurns.{AreTurnsRead, SomeIsLater};
-ghost use Rattle.site_run.specs.Replay.{first_basis, first_stage, lines_read, needs_more, nothing_fed, replayed, turn_read};
+// What is known of how runs end.
+ghost use Rattle.std.specs.Prelude.{ℕ};
+ghost use Rattle.site_run.specs.Courses.{Course};
+ghost use Rattle.site_run.specs.Ends.{Ends, Outside, TellsOf};
+ghost use Rattle.site_run.specs.declared.status.Status.{Status};
 
-use run_meaning::{
-    a_log_is_one_function, no_more_orders_than_may_be, outstanding_orders_are_the_same,
-    slots_are_by_looking_back,
-};
-
-/// The logs of a script's turns are those of a run with one caller, and there are no others.
-pub fn a_replay_is_a_run()
-    ensures is { (s : PlainSite) (ts : List Turn) → IsRun (first_basis s) 1 (first_stage s) (map (turn_read s) ts) (replayed s ts) }
-    ensures only { (s : PlainSite) (ts : List Turn) (ls : List TurnLog) → IsRun (first_basis s) 1 (first_stage s) (map (turn_read s) ts) ls → ls ≡ replayed s ts }
-{
-    a_log_is_one_function();
-}
-
-/// By the relation of command lines turns are read in exactly one way, unless some line of them tells what a replay can't
-/// follow yet.
-pub fn turns_are_read_in_one_way()
-    ensures is { (s : PlainSite) (ts : List Turn) → HasNames s → needs_more s ts ≡ false → AreTurnsRead s ts (map (turn_read s) ts) }
-    ensures only { (s : PlainSite) (ts : List Turn) (rs : List ReadTurn) → HasNames s → AreTurnsRead s ts rs → (needs_more s ts ≡ false) × (rs ≡ map (turn_read s) ts) }
-    ensures later { (s : PlainSite) (ts : List Turn) → HasNames s → (needs_more s ts ≡ true) ↔ SomeIsLater s ts }
+/// With whatever a run ends, of as many as may be taken of the turns that came it wrote a prefix of the text and started a prefix of the
+/// orders; and all of the text where it ended with `Done` or `TurnsSpent`, which tell whether no more turns came than may be taken.
+pub fn runs_write_their_text()
+    ensures { (s : Status) (c : Course) (limit : ℕ) (old new : Outside) → Ends s c limit (λ _. Unit {0}) old new → TellsOf s c limit old new }
 {}
-
-/// Lines ask for what a command can ask for alone: for no ordered check's result and for no tick. So do the turns of a
-/// script.
-pub fn lines_ask_for_commands()
-    ensures lines { (s : PlainSite) (lines : List (List ℕ)) → ask_commands (lines_read s lines) ≡ true }
-    ensures turns { (s : PlainSite) (ts : List Turn) → AskCommands (first_basis s).feed (map (turn_read s) ts) }
-{}
-
-/// So in every run of a script's turns, whatever checks are ordered and however many callers there are, the schedule keeps
-/// of a checkable what looking back gives, has an order of it outstanding exactly where one is by its entries, and never
-/// more orders outstanding than may be.
-pub fn scripts_keep_the_schedule()
-    ensures slots { (s : PlainSite) (holds : ℕ → ℕ → Bool) (command : ℕ → Command) (callers : ℕ) (given : Histories) (ts : List Turn) (ls : List TurnLog) → IsRun (basis_of s holds command nothing_fed) callers (start s given) (map (turn_read s) ts) ls → (k : ℕ) (c : PlainCheck) → slice_get s.checkables k ≡ Some c →
-        slice_get (stage_by (basis_of s holds command nothing_fed) (start s given) (map (turn_read s) ts) ls).plans.slots k ≡ Some (slot_back c (back_by s holds command nothing_fed k c [] (start s given) (map (turn_read s) ts) ls)) }
-    ensures outstanding { (s : PlainSite) (holds : ℕ → ℕ → Bool) (command : ℕ → Command) (callers : ℕ) (given : Histories) (ts : List Turn) (ls : List TurnLog) → IsRun (basis_of s holds command nothing_fed) callers (start s given) (map (turn_read s) ts) ls → (k : ℕ) (c : PlainCheck) → slice_get s.checkables k ≡ Some c →
-        is_waiting (stage_by (basis_of s holds command nothing_fed) (start s given) (map (turn_read s) ts) ls).plans.outstanding k ≡ is_outstanding (back_by s holds command nothing_fed k c [] (start s given) (map (turn_read s) ts) ls) }
-    ensures few { (s : PlainSite) (holds : ℕ → ℕ → Bool) (command : ℕ → Command) (callers : ℕ) (given : Histories) (ts : List Turn) (ls : List TurnLog) → IsRun (basis_of s holds command nothing_fed) callers (start s given) (map (turn_read s) ts) ls →
-        length (stage_by (basis_of s holds command nothing_fed) (start s given) (map (turn_read s) ts) ls).plans.outstanding ≤ s.max_orders }
-{
-    slots_are_by_looking_back();
-    outstanding_orders_are_the_same();
-    no_more_orders_than_may_be();
-}

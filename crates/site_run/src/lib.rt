@@ -1,27 +1,24 @@
-//! A run of turns over a typed site with one worker, and the text of its log. Nothing depends on anything in such a site,
-//! nobody is notified and nothing is ordered.
+//! The loop of a run with one worker: turn after turn its lines are written and its orders started.
 //!
-//! In reading order: the scripts that can't be taken yet (`needs`); what stands of a checkable between its events
-//! (`standing`), which events and refusals a turn gives (`dealing`, `refusal`), what the events make of all checkables
-//! (`round`), the lines of a turn (`turn_text`), and turn after turn (`log`), each line written by one call (`output`).
-//! `laws` tells that a log is that of a run, how turns are read, and what they ask for.
+//! In reading order: with what a run ends (`status`), what stands before a turn's own lines (`feed`), and the world of a script
+//! (`script_world`); why a run stops within a turn (`stop`), which orders are started (`starting`), a turn of the engine (`taking`) and
+//! of the whole run (`turning`), and all turns (`driving`); what is known of that (`laws`), and the whole log of a site (`logs`).
 #![tactic(auto)]
 
-mod dealing;
+mod driving;
+mod feed;
 mod laws;
-mod log;
-mod log_fault;
-mod needs;
-mod output;
-mod refusal;
-mod round;
-mod standing;
-mod turn_text;
+mod logs;
+mod script_world;
+mod starting;
+mod status;
+mod stop;
+mod taking;
+mod turning;
 
-pub use laws::{
-    a_replay_is_a_run, lines_ask_for_commands, scripts_keep_the_schedule, turns_are_read_in_one_way,
-};
-pub use log::write_log;
-pub use log_fault::LogFault;
-pub use needs::needs_more;
-pub use output::write_lines;
+pub use driving::{drive_alone, drive_one, drive_part_one};
+pub use feed::{Feed, NoFeed};
+pub use laws::runs_write_their_text;
+pub use logs::write_log;
+pub use script_world::ScriptWorld;
+pub use status::Status;

@@ -1,0 +1,161 @@
+-- How far a run came, from turn to turn.
+use Rattle.std.proofs.Common.{◌≡◌, ◌+◌, ◌<◌, ◌≤◌, ℕ, false, Option, Some, None, List, [], ◌∷◌, ◌++◌, length, ◌⊎◌, inl, inr, refl, sym, ap, ◌∙◌, subst, arith, length-append}
+use Rattle.std.proofs.lemmas.List.{append-nil}
+use Rattle.run_meaning.specs.Runs.{Stage, begun_by}
+use Rattle.run_meaning.specs.Turns.{Begun}
+use Rattle.run_text.specs.declared.style.Style.{Style}
+use Rattle.site_edge.specs.Lists.{Adds, TakesFirst}
+use Rattle.site_edge.specs.declared.order.Order.{Order}
+use Rattle.site_edge.specs.declared.turn.Turn.{Turn}
+use Rattle.site_edge.specs.declared.world_error.WorldError.{WorldError}
+use Rattle.site_edge.specs.declared.world_error.WorldError.TheVariants as world
+use Rattle.site_model.specs.PlainSite.{site_view}
+use Rattle.turn_engine.specs.Ready.{Held}
+use Rattle.turn_engine.specs.Stages.{Running, stage_of}
+use Rattle.site_run.specs.Courses.{Course, behind, course_of, log_of, orders, text, text_of}
+use Rattle.site_run.specs.Ends.{Ends, EndsBehind, IsAt, IsBefore, IsBetween, IsInLines, IsInOrders, IsPartStarted, IsPartWritten, Outside, Stands, StopsIn, Takes}
+use Rattle.site_run.specs.Feeds.{Changing, Giving, basis_fed, feed_after}
+use Rattle.site_run.specs.Starts.{started_of}
+use Rattle.site_run.specs.Stops.{status_of, stop_of_world}
+use Rattle.site_run.specs.declared.status.Status.{Status}
+use Rattle.site_run.specs.declared.status.Status.TheVariants as status
+use Rattle.site_run.specs.declared.stop.Stop.{Stop}
+use Rattle.site_run.specs.declared.stop.Stop.TheVariants as stop
+use Rattle.site_run.proofs.Adding.{adds_same, at_more, at_within, none_left, started_within, takes_first, takes_nothing, written_within}
+use Rattle.site_run.proofs.Fed.{feed_more}
+use Rattle.site_run.proofs.Going.{behind_both, orders_more, text_more}
+
+-- so many turns are done, and engine and feed stand behind them
+pub record IsOnWay {F : Type 0} (c : Course) (after : Changing F) (first : F) (count : ℕ) (engine : Held) (feed : F) (old new : Outside) : Type 0 where
+  pub done : List Turn
+  pub many : length done ≡ count
+  pub stands : Stands c after first done engine feed
+  pub at : IsBetween c done old new
+
+-- the course of an engine that stands behind some turns is the run behind them
+pub course_is : {F : Type 0} (r r0 : Running) (begun : List Begun) (style : Style) (gives : Giving F) (after : Changing F) (first : F) (st : Stage) → r.site ≡ r0.site → r.zone ≡ r0.zone → stage_of r begun ≡ st
+    → course_of r begun style gives after first ≡ record { basis = basis_fed (site_view r0.site) r0.zone gives after first; stage = st; style = style }
+course_is r r0 begun style gives after first st site zone stage =
+    λ i. record { basis = basis_fed (site_view (site i)) (zone i) gives after first; stage = stage i; style = style }
+
+-- nothing more was taken, written or started
+unchanged : (a : List Turn) (w : List ℕ) (s : List Order) (o m n : Outside) → n.turns ≡ m.turns → n.started ≡ m.started → n.written ≡ m.written → IsAt a w s o m → IsAt a w s o n
+unchanged a w s o m n t r v p = record {
+  turns = subst (Takes a o.turns) (sym t) p.turns;
+  written = subst (Adds w o.written) (sym v) p.written;
+  started = subst (Adds s o.started) (sym r) p.started;
+}
+
+-- one turn more was taken
+pub before_turn : (c : Course) (done : List Turn) (t : Turn) (o m n : Outside) → TakesFirst m.turns n.turns (Some t) → n.started ≡ m.started → n.written ≡ m.written → IsBetween c done o m → IsBefore c done t o n
+before_turn c done t o m n first r v p =
+    let taken : IsAt (t ∷ []) [] [] m n = record { turns = takes_first t m.turns n.turns first; written = adds_same m.written n.written v; started = adds_same m.started n.started r } in
+    subst (λ w. IsAt (done ++ t ∷ []) w (orders c done) o n) (append-nil (text c done))
+    (subst (λ os. IsAt (done ++ t ∷ []) (text c done ++ []) os o n) (append-nil (orders c done)) (at_more done (t ∷ []) (text c done) [] (orders c done) [] o m n p taken))
+
+-- a turn was gone through
+pub one_done : (c : Course) (done : List Turn) (t : Turn) (o m n : Outside) → IsBefore c done t o m → IsAt [] (text_of (behind c done) (log_of (behind c done) t)) (started_of (log_of (behind c done) t).orders) m n → IsBetween c (done ++ t ∷ []) o n
+one_done c done t o m n p q =
+    subst (λ w. IsAt (done ++ t ∷ []) w (orders c (done ++ t ∷ [])) o n) (sym (text_more c done t))
+    (subst (λ os. IsAt (done ++ t ∷ []) (text c done ++ text_of (behind c done) (log_of (behind c done) t)) os o n) (sym (orders_more c done t))
+    (at_within (done ++ t ∷ []) (text c done) _ (orders c done) _ o m n p q))
+
+in_lines : (c : Course) (done : List Turn) (t : Turn) (o m n : Outside) → IsBefore c done t o m → IsPartWritten [] [] (text_of (behind c done) (log_of (behind c done) t)) [] m n → IsInLines c done t o n
+in_lines c done t o m n p q = written_within (done ++ t ∷ []) (text c done) _ (orders c done) o m n p q
+
+in_orders : (c : Course) (done : List Turn) (t : Turn) (o m n : Outside) → IsBefore c done t o m → IsPartStarted [] (text_of (behind c done) (log_of (behind c done) t)) [] (started_of (log_of (behind c done) t).orders) m n → IsInOrders c done t o n
+in_orders c done t o m n p q =
+    subst (λ w. IsPartStarted (done ++ t ∷ []) w (orders c done) (started_of (log_of (behind c done) t).orders) o n) (sym (text_more c done t))
+    (started_within (done ++ t ∷ []) (text c done) _ (orders c done) _ o m n p q)
+
+-- or it wasn't
+pub stopped : (s : Stop) (c : Course) (limit : ℕ) (stands : List Turn → Type 0) (done : List Turn) (t : Turn) (o m n : Outside) → length done < limit → IsBefore c done t o m
+    → StopsIn s (text_of (behind c done) (log_of (behind c done) t)) (started_of (log_of (behind c done) t).orders) m n → Ends (status_of s) c limit stands o n
+stopped stop.Sink c limit stands done t o m n few p q = record { done = done; few = omega (arith, few); ends = (few, (t, in_lines c done t o m n p q)) }
+stopped stop.World c limit stands done t o m n few p q = record { done = done; few = omega (arith, few); ends = inr (few, (t, in_orders c done t o m n p q)) }
+stopped stop.OutOfMemory c limit stands done t o m n few p (inl q) = record { done = done; few = omega (arith, few); ends = inr (few, (t, inl (in_lines c done t o m n p q))) }
+stopped stop.OutOfMemory c limit stands done t o m n few p (inr q) = record { done = done; few = omega (arith, few); ends = inr (few, (t, inr (in_orders c done t o m n p q))) }
+
+-- what is asked of where engine and feed stand may be less
+pub less_asked : (s : Status) (c : Course) (limit : ℕ) (P Q : List Turn → Type 0) (o n : Outside) → ((done : List Turn) → P done → Q done) → Ends s c limit P o n → Ends s c limit Q o n
+less_asked s c limit P Q o n h e = record { done = e.done; few = e.few; ends = by s e.ends }
+  where
+    by : (s : Status) → EndsBehind s c limit P e.done o n → EndsBehind s c limit Q e.done o n
+    by status.Done x = (h e.done x.0, x.1, x.2)
+    by status.TurnsSpent x = x
+    by status.WriteFault x = x
+    by status.WorldFault x = x
+    by status.OutOfMemory x = x
+    by status.Diagnosed x = absurd x
+    by status.Usage x = absurd x
+    by status.ReadFault x = absurd x
+
+-- From turn to turn.
+
+module _ {F : Type 0} (r : Running) (style : Style) (gives : Giving F) (after : Changing F) (first : F) (count limit : ℕ) (engine : Held) (feed : F) (o m : Outside) where
+  abbrev c : Course
+  c = course_of r [] style gives after first
+
+  module _ (few : count ≤ limit) (way : IsOnWay c after first count engine feed o m) where
+    few_done : length way.done ≤ limit
+    few_done = let n = way.many in omega (arith, few, n)
+
+    -- the world gave no turn since it failed
+    pub failed : (e : WorldError) (stands : List Turn → Type 0) (n : Outside) → n.turns ≡ m.turns → n.started ≡ m.started → n.written ≡ m.written → Ends (status_of (stop_of_world e)) c limit stands o n
+    failed e stands n t r' v = by e (unchanged way.done (text c way.done) (orders c way.done) o m n t r' v way.at)
+      where
+        by : (e : WorldError) → IsBetween c way.done o n → Ends (status_of (stop_of_world e)) c limit stands o n
+        by world.Failed p = record { done = way.done; few = few_done; ends = inl p }
+        by world.OutOfMemory p = record { done = way.done; few = few_done; ends = inl p }
+
+    -- it had no more
+    pub all_done : (n : Outside) → TakesFirst m.turns n.turns None → n.started ≡ m.started → n.written ≡ m.written → Ends status.Done c limit (λ done. Stands c after first done engine feed) o n
+    all_done n none r' v = record {
+      done = way.done;
+      few = few_done;
+      ends = (way.stands, unchanged way.done (text c way.done) (orders c way.done) o m n (takes_nothing m.turns n.turns none) r' v way.at, none_left m.turns n.turns none);
+    }
+
+    -- it gave one more than may be taken
+    pub spent : (t : Turn) (stands : List Turn → Type 0) (n : Outside) → count ≡ limit → TakesFirst m.turns n.turns (Some t) → n.started ≡ m.started → n.written ≡ m.written → Ends status.TurnsSpent c limit stands o n
+    spent t stands n all one r' v = record { done = way.done; few = few_done; ends = (way.many ∙ all, (t, before_turn c way.done t o m n one r' v way.at)) }
+
+    -- it gave one
+
+    abbrev pub begun : List Begun
+    begun = (behind c way.done).stage.begun
+
+    abbrev pub next : Course
+    next = course_of engine.run begun style gives after first
+
+    module _ (t : Turn) (n : Outside) (site : engine.run.site ≡ r.site) (zone : engine.run.zone ≡ r.zone) (more : count < limit) (one : TakesFirst m.turns n.turns (Some t)) (same : n.started ≡ m.started) (kept : n.written ≡ m.written) where
+      next_is : next ≡ behind c way.done
+      next_is = course_is engine.run r begun style gives after first (behind c way.done).stage site zone way.stands.stage
+
+      before : IsBefore c way.done t o n
+      before = before_turn c way.done t o m n one same kept way.at
+
+      -- in which the run stops
+      pub stops : (why : Stop) (stands : List Turn → Type 0) (x : Outside) → StopsIn why (text_of next (log_of next t)) (started_of (log_of next t).orders) n x → Ends (status_of why) c limit stands o x
+      stops why stands x p =
+          let k = way.many in
+          stopped why c limit stands way.done t o n x (omega (arith, k, more)) before (subst (λ (d : Course). StopsIn why (text_of d (log_of d t)) (started_of (log_of d t).orders) n x) next_is p)
+
+      -- or behind which it goes on
+      pub goes_on : (x : Outside) (moved : Held) (fed : F) → IsAt [] (text_of next (log_of next t)) (started_of (log_of next t).orders) n x → moved.spent ≡ false
+          → stage_of moved.run (begun_by (stage_of engine.run begun) moved.run.moment) ≡ (behind next (t ∷ [])).stage → fed ≡ after feed engine.run.histories moved.run.moment
+          → IsOnWay c after first (count + 1) moved fed o x
+      goes_on x moved fed p fresh stage fed_is =
+          let now : Begun = record { histories = engine.run.histories; moment = moved.run.moment } in
+          let reached = stage ∙ ap (λ (d : Course). (behind d (t ∷ [])).stage) next_is ∙ sym (behind_both c way.done (t ∷ [])) in
+          let so : begun ++ now ∷ [] ≡ (behind c (way.done ++ t ∷ [])).stage.begun = ap (λ (st : Stage). st.begun) reached in
+          record {
+            done = way.done ++ t ∷ [];
+            many = (let l = length-append way.done (t ∷ []) in let k = way.many in omega (arith, l, k));
+            stands = record {
+              fresh = fresh;
+              stage = ap (stage_of moved.run) (sym so) ∙ reached;
+              feed = fed_is ∙ ap (λ f. after f engine.run.histories moved.run.moment) way.stands.feed ∙ sym (feed_more after first begun now) ∙ ap (feed_after after first) so;
+            };
+            at = one_done c way.done t o n x before (subst (λ (d : Course). IsAt [] (text_of d (log_of d t)) (started_of (log_of d t).orders) n x) next_is p);
+          }

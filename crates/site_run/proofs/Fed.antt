@@ -1,0 +1,121 @@
+-- A turn of a run that is fed is one of a run that isn't, with what is fed before its own lines.
+use Rattle.std.proofs.Common.{◌≡◌, ℕ, max, List, [], ◌∷◌, ◌++◌, map, Option, refl, sym, ap, ◌∙◌, subst, arith}
+use Rattle.std.proofs.lemmas.List.{map-append}
+use Rattle.jiff_tz.specs.declared.tzif.Tzif.{Tzif}
+use Rattle.run_meaning.specs.Acts.{Basis}
+use Rattle.run_meaning.specs.Alone.{turn_alone}
+use Rattle.run_meaning.specs.Dealing.{dealt, line_events, line_refusals, report_refusals, taken_reports, ticks}
+use Rattle.run_meaning.specs.Rounds.{IsRound}
+use Rattle.run_meaning.specs.Runs.{IsTurn, Stage, TurnLog, begun_by, lines_of, reports_of, stage_after}
+use Rattle.run_meaning.specs.Turns.{Asked, Begun, Feed, Histories, Line, ReadTurn}
+use Rattle.run_meaning.proofs.OneLog.{only_log}
+use Rattle.event_text.specs.Reading.{line_read}
+use Rattle.run_text.specs.TurnReading.{as_line, lines_read, turn_read}
+use Rattle.run_text.specs.declared.style.Style.{Style}
+use Rattle.site_edge.specs.declared.turn.Turn.{Turn}
+use Rattle.site_model.specs.PlainSite.{PlainSite, site_view}
+use Rattle.site_posts.specs.Made.{basis_in}
+use Rattle.turn_engine.specs.Orders.{command_of}
+use Rattle.turn_engine.specs.Stages.{Running, basis_of_site, stage_of}
+use Rattle.site_run.specs.Courses.{course_alone, course_of}
+use Rattle.site_run.specs.Feeds.{Changing, Giving, basis_fed, feed_after, feed_of, lines_fed}
+
+-- What a feed gives for the last of some turns.
+
+pub lines_behind : {F : Type 0} (gives : Giving F) (after : Changing F) (feed : F) (bs : List Begun) (b : Begun) → lines_fed gives after feed (bs ++ b ∷ []) ≡ gives (feed_after after feed bs) b.histories b.moment
+lines_behind gives after feed [] b = refl
+lines_behind gives after feed (c ∷ []) b = refl
+lines_behind gives after feed (c ∷ d ∷ bs) b = lines_behind gives after (after feed c.histories c.moment) (d ∷ bs) b
+
+pub feed_more : {F : Type 0} (after : Changing F) (feed : F) (bs : List Begun) (b : Begun) → feed_after after feed (bs ++ b ∷ []) ≡ after (feed_after after feed bs) b.histories b.moment
+feed_more after feed [] b = refl
+feed_more after feed (c ∷ bs) b = feed_more after (after feed c.histories c.moment) bs b
+
+-- No rule of a round looks at what is fed.
+
+round_with : (b : Basis) (feed : Feed) (moment : ℕ) (before : Histories) (events : List (List Asked)) (round : Histories) → IsRound b moment before events round → IsRound (record b { feed = feed }) moment before events round
+round_with b feed moment before events round x = record {
+  whole = x.whole;
+  taken = x.taken;
+  callers = x.callers;
+  made = λ c i e at. let m = x.made c i e at in record { check = m.check; is = m.is; made = m.made };
+  ancestors = x.ancestors;
+  seen = x.seen;
+  rising = x.rising;
+  own = x.own;
+}
+
+-- A turn.
+
+abbrev with_lines : List Line → ReadTurn → ReadTurn
+with_lines before t = record t { lines = before ++ t.lines }
+
+turn_with : (b : Basis) (feed : Feed) (st : Stage) (t : ReadTurn) (before : List Line) (l : TurnLog) → ((bs : List Begun) → b.feed bs ≡ []) → before ≡ feed (begun_by st l.moment)
+    → IsTurn b 1 st (with_lines before t) l → IsTurn (record b { feed = feed }) 1 st t l
+turn_with b feed st t before l none is x =
+    let m = l.moment in
+    let c : Basis = record b { feed = feed } in
+    let same : lines_of b st (with_lines before t) m ≡ lines_of c st t m = ap (λ ls. ls ++ (before ++ t.lines)) (none (begun_by st m)) ∙ ap (λ ls. ls ++ t.lines) is in
+    record {
+      number = x.number;
+      moment = x.moment;
+      refusals = x.refusals ∙ ap (λ ls. line_refusals 1 ls ++ report_refusals st.plans.outstanding (reports_of st t)) same;
+      round =
+          subst (λ ls. IsRound c m st.histories (dealt 1 (line_events ls) (taken_reports st.plans.outstanding (reports_of st t)) (ticks b.site st.histories m)) l.round) same
+          (round_with b feed m st.histories (dealt 1 (line_events (lines_of b st (with_lines before t) m)) (taken_reports st.plans.outstanding (reports_of st t)) (ticks b.site st.histories m)) l.round x.round);
+      orders = x.orders;
+    }
+
+first_of : {A : Type 0} (x y : A) → x ∷ [] ≡ y ∷ [] → x ≡ y
+first_of x y e = cc
+
+log_is : (b : Basis) (st : Stage) (t : ReadTurn) (l : TurnLog) → IsTurn b 1 st t l → l ≡ turn_alone b st t
+log_is b st t l x = first_of l (turn_alone b st t) (only_log b st (t ∷ []) (l ∷ []) (record { someone = omega arith; turns = (x, refl) }))
+
+module _ {F : Type 0} (s : PlainSite) (zone : Option Tzif) (gives : Giving F) (after : Changing F) (first now : F) (st : Stage) (t fed : Turn) (given : List (List ℕ)) (now_is : now ≡ feed_after after first st.begun) (given_is : given ≡ gives now st.histories (max st.moment t.moment)) (fed_is : fed ≡ record t { lines = given ++ t.lines }) (x : IsTurn (basis_of_site s zone) 1 st (turn_read s fed) (turn_alone (basis_of_site s zone) st (turn_read s fed))) where
+  abbrev plain : Basis
+  plain = basis_of_site s zone
+
+  abbrev basis : Basis
+  basis = basis_fed s zone gives after first
+
+  abbrev own : ReadTurn
+  own = turn_read s t
+
+  abbrev log : TurnLog
+  log = turn_alone plain st (turn_read s fed)
+
+  read_is : turn_read s fed ≡ with_lines (lines_read s given) own
+  read_is = ap (turn_read s) fed_is ∙ ap (λ ls. record own { lines = ls }) (map-append (λ line. as_line (line_read s line)) given t.lines)
+
+  moment_is : log.moment ≡ max st.moment t.moment
+  moment_is = ap (λ (r : ReadTurn). max st.moment r.moment) read_is
+
+  given_so : lines_read s given ≡ feed_of s gives after first (begun_by st log.moment)
+  given_so =
+      ap (lines_read s)
+      (given_is
+      ∙ ap (λ f. gives f st.histories (max st.moment t.moment)) now_is
+      ∙ ap (gives (feed_after after first st.begun) st.histories) (sym moment_is)
+      ∙ sym (lines_behind gives after first st.begun (record { histories = st.histories; moment = log.moment })))
+
+  -- it has the same log
+  pub log_fed : log ≡ turn_alone basis st own
+  log_fed = log_is basis st own log (turn_with plain (feed_of s gives after first) st own (lines_read s given) log (λ bs. refl) given_so (subst (λ (r : ReadTurn). IsTurn plain 1 st r log) read_is x))
+
+  -- and leads to the same stage
+  pub stage_fed : stage_after plain st (turn_read s fed) log ≡ stage_after basis st own (turn_alone basis st own)
+  stage_fed = ap (λ (r : ReadTurn). stage_after plain st r log) read_is ∙ ap (stage_after basis st own) log_fed
+
+-- A feed that gives nothing.
+
+none_fed : {F : Type 0} (after : Changing F) (first : F) (begun : List Begun) → lines_fed (λ _ _ _. []) after first begun ≡ []
+none_fed after first [] = refl
+none_fed after first (b ∷ []) = refl
+none_fed after first (b ∷ c ∷ bs) = none_fed after (after first b.histories b.moment) (c ∷ bs)
+
+-- with it a run goes on as one without a feed
+pub course_is_alone : {F : Type 0} (r : Running) (begun : List Begun) (style : Style) (after : Changing F) (first : F) → course_of r begun style (λ _ _ _. []) after first ≡ course_alone r begun style
+course_is_alone r begun style after first =
+    let s = site_view r.site in
+    λ i. record { basis = basis_in s r.zone (command_of s) (λ bs. lines_read s (none_fed after first bs i)); stage = stage_of r begun; style = style }

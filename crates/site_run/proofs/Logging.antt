@@ -1,0 +1,155 @@
+-- How far a log came tells what was written.
+use Rattle.std.proofs.Common.{◌≡◌, ◌<◌, ◌≤◌, ℕ, nat_lt, cond, Bool, true, false, List, [], ◌∷◌, ◌++◌, length, take, Option, Some, None, ◌⊎◌, inl, inr, refl, sym, ap, ◌∙◌, subst, append_assoc}
+use Rattle.std.proofs.lemmas.Bool.{le-ltb, lt-ltb}
+use Rattle.std.proofs.lemmas.List.Folds.{concat-append}
+use Rattle.std.specs.List.{concat, flat_map}
+use Rattle.jiff_tz.specs.declared.tzif.Tzif.{Tzif}
+use Rattle.run_meaning.specs.Runs.{no_entries, start}
+use Rattle.run_text.specs.LogText.{first_lines, log_text, turn_lines}
+use Rattle.run_text.specs.declared.style.Style.{Style}
+use Rattle.run_text.proofs.ReadLaws.{turns_are_read}
+use Rattle.site_edge.specs.Lists.{Adds, AddsPart}
+use Rattle.site_edge.specs.declared.order.Order.{Order}
+use Rattle.site_edge.specs.declared.turn.Turn.{Turn}
+use Rattle.site_model.specs.PlainSite.{PlainSite, site_view}
+use Rattle.site_model.specs.Sound.{HasNames}
+use Rattle.site_model.specs.declared.site.Site.{Site}
+use Rattle.turn_engine.specs.Ready.{IsZoneOf}
+use Rattle.turn_engine.specs.Stages.{Running, basis_of_site, stage_of}
+use Rattle.site_run.specs.Courses.{Course, course_alone, logs, reads, text}
+use Rattle.site_run.specs.Ends.{Came, Ends, Outside, Takes, WritesOf, outside}
+use Rattle.site_run.specs.Logs.{AnswersWorld, EndsOne, EndsRun, EndsWhole, IsAtFirst, IsLog, IsNowhere, IsOverTurns, Whole, course_from_start}
+use Rattle.site_run.specs.declared.status.Status.{Status}
+use Rattle.site_run.specs.declared.status.Status.TheVariants as status
+use Rattle.site_run.proofs.Adding.{adds_more, adds_none, adds_part, part_of, takes_none}
+use Rattle.site_run.proofs.OnSite.{runs_alone}
+use Rattle.site_run.proofs.Told.{tells_of}
+
+-- Parts.
+
+part_longer : {A : Type 0} (a b : List A) (o n : Option (List A)) → AddsPart a o n → AddsPart (a ++ b) o n
+part_longer a b o n p =
+    let q = part_of a o n p in
+    subst (λ xs. AddsPart xs o n) (sym (ap (λ xs. xs ++ b) q.2 ∙ append_assoc q.0 q.1 b)) (adds_part q.0 (q.1 ++ b) o n q.3)
+
+part_behind : {A : Type 0} (a b : List A) (o m n : Option (List A)) → Adds a o m → AddsPart b m n → AddsPart (a ++ b) o n
+part_behind a b o m n p r =
+    let q = part_of b m n r in
+    subst (λ xs. AddsPart xs o n) (append_assoc a q.0 q.1 ∙ ap (λ xs. a ++ xs) (sym q.2)) (adds_part (a ++ q.0) q.1 o n (adds_more a q.0 o m n p q.3))
+
+nothing_taken : (o n : Option (List Turn)) → Takes [] o n → n ≡ o
+nothing_taken None n p = p
+nothing_taken (Some all) n p = p.2 ∙ ap Some (sym p.1)
+
+some_came : (told : Option (List Turn)) → (came : List Turn) × Came told came
+some_came None = ([], tt)
+some_came (Some ts) = (ts, refl)
+
+-- How a run ends in which nothing fails.
+
+abbrev end_of : Bool → Status
+end_of b = cond b status.TurnsSpent status.Done
+
+module _ (style : Style) (limit : ℕ) (s : PlainSite) (names : HasNames s) (zone : Option Tzif) (is_zone : IsZoneOf s.zone zone) where
+  abbrev c : Course
+  c = course_from_start s zone style
+
+  abbrev whole : List Turn → Whole
+  whole came = record { text = log_text style s (logs c (take limit came)); ends = end_of (nat_lt limit (length came)) }
+
+  is_log : (came : List Turn) → IsLog style limit s came (whole came)
+  is_log came = record {
+    logs = logs c (take limit came);
+    are = record {
+      zone = zone;
+      is_zone = is_zone;
+      reads = reads c (take limit came);
+      read = turns_are_read s (take limit came) names;
+      run = runs_alone s zone (no_entries s) (take limit came);
+    };
+    text = refl;
+    ends = refl;
+  }
+
+  text_is : (came : List Turn) → (whole came).text ≡ concat (first_lines style) ++ text c (take limit came)
+  text_is came = concat-append (first_lines style) (flat_map (turn_lines style s) (logs c (take limit came)))
+
+  answers : (turns : Option (List Turn)) (came : List Turn) → Came turns came → AnswersWorld style limit turns s (whole came)
+  answers turns came told = record { came = came; told = told; log = is_log came }
+
+  one : (x : Status) (turns : Option (List Turn)) (came : List Turn) (o n : Option (List ℕ)) → Came turns came → EndsWhole x (whole came) o n → EndsOne x (AnswersWorld style limit turns s) o n
+  one x turns came o n told e = (whole came, answers turns came told, e)
+
+  -- in what stands before the first turn
+  first_part : (turns : Option (List Turn)) (o n : Option (List ℕ)) → AddsPart (concat (first_lines style)) o n → (came : List Turn) × Came turns came × AddsPart (whole came).text o n
+  first_part turns o n p =
+      let some = some_came turns in
+      (some.0, some.1, subst (λ xs. AddsPart xs o n) (sym (text_is some.0)) (part_longer (concat (first_lines style)) (text c (take limit some.0)) o n p))
+
+  pub first_written : (x : Status) (old new : Outside) → IsAtFirst x style old new → EndsRun x (AnswersWorld style limit old.turns s) old.written new.written
+  first_written x old new p =
+      let more = adds_part p.at.part p.at.rest old.written new.written p.at.at.written in
+      let w = first_part old.turns old.written new.written (subst (λ xs. AddsPart xs old.written new.written) (sym p.at.are) more) in
+      elim p.cause [
+        | inl e ↦ subst (λ y. EndsRun y (AnswersWorld style limit old.turns s) old.written new.written) (sym e) (one status.WriteFault old.turns w.0 old.written new.written w.1 w.2)
+        | inr e ↦ subst (λ y. EndsRun y (AnswersWorld style limit old.turns s) old.written new.written) (sym e) (inr (one status.OutOfMemory old.turns w.0 old.written new.written w.1 w.2))
+      ]
+
+  -- over turns
+  module _ (turns : Option (List Turn)) (o m n : Option (List ℕ)) (first : Adds (concat (first_lines style)) o m) (came : List Turn) (told : Came turns came) where
+    all_written : Adds (text c (take limit came)) m n → Adds (whole came).text o n
+    all_written p = subst (λ xs. Adds xs o n) (sym (text_is came)) (adds_more (concat (first_lines style)) (text c (take limit came)) o m n first p)
+
+    part_written : AddsPart (text c (take limit came)) m n → AddsPart (whole came).text o n
+    part_written p = subst (λ xs. AddsPart xs o n) (sym (text_is came)) (part_behind (concat (first_lines style)) (text c (take limit came)) o m n first p)
+
+    over : (x : Status) → (x ≡ status.Diagnosed → ⊥) → (x ≡ status.Usage → ⊥) → (x ≡ status.ReadFault → ⊥) → WritesOf x c limit came m n → EndsRun x (AnswersWorld style limit turns s) o n
+    over status.Done d u r w = one status.Done turns came o n told (ap end_of (le-ltb limit (length came) w.0), all_written w.1)
+    over status.TurnsSpent d u r w = one status.TurnsSpent turns came o n told (ap end_of (lt-ltb limit (length came) w.0), all_written w.1)
+    over status.WriteFault d u r w = one status.WriteFault turns came o n told (part_written w)
+    over status.WorldFault d u r w = one status.WorldFault turns came o n told (part_written w)
+    over status.OutOfMemory d u r w = inr (one status.OutOfMemory turns came o n told (part_written w))
+    over status.Diagnosed d u r w = absurd (d refl)
+    over status.Usage d u r w = absurd (u refl)
+    over status.ReadFault d u r w = absurd (r refl)
+
+-- a run ends with none of these
+pub never : (c : Course) (limit : ℕ) (stands : List Turn → Type 0) (old new : Outside) (x : Status) → Ends x c limit stands old new → (x ≡ status.Diagnosed → ⊥) × (x ≡ status.Usage → ⊥) × (x ≡ status.ReadFault → ⊥)
+never c limit stands old new x e = (
+  λ is. (subst (λ y. Ends y c limit stands old new) is e).ends,
+  λ is. (subst (λ y. Ends y c limit stands old new) is e).ends,
+  λ is. (subst (λ y. Ends y c limit stands old new) is e).ends,
+)
+
+pub over_written : (style : Style) (limit : ℕ) (s : PlainSite) (names : HasNames s) (x : Status) (old new : Outside) → IsOverTurns x style limit s old new → EndsRun x (AnswersWorld style limit old.turns s) old.written new.written
+over_written style limit s names x old new p =
+    let t = tells_of (course_from_start s p.zone style) limit p.begun new x (λ _. Unit {0}) p.ends in
+    let none = never (course_from_start s p.zone style) limit (λ _. Unit {0}) p.begun new x p.ends in
+    over style limit s names p.zone p.is_zone old.turns old.written p.begun.written new.written p.first.written t.came (subst (λ turns. Came turns t.came) (nothing_taken old.turns p.begun.turns p.first.turns) t.told) x none.0 none.1 none.2 t.written
+
+pub nowhere_written : (style : Style) (limit : ℕ) (s : PlainSite) (x : Status) (old new : Outside) → IsNowhere x old new → EndsRun x (AnswersWorld style limit old.turns s) old.written new.written
+nowhere_written style limit s x old new p =
+    subst (λ y. EndsRun y (AnswersWorld style limit old.turns s) old.written new.written) (sym p.cause) (inl (ap (λ (o : Outside). o.written) p.same))
+
+-- the run of an engine before its first turn
+pub from_start : (r : Running) (site : Site) (style : Style) → r.site ≡ site → stage_of r [] ≡ start (site_view site) (no_entries (site_view site)) → course_alone r [] style ≡ course_from_start (site_view site) r.zone style
+from_start r site style same begin = λ i. record { basis = basis_of_site (site_view (same i)) r.zone; stage = begin i; style = style }
+
+-- it is over turns once what stands before the first one is written
+pub over_turns : (x : Status) (style : Style) (limit : ℕ) (r : Running) (site : Site) (turns : Option (List Turn)) (started : Option (List Order)) (w v : Option (List ℕ)) (new : Outside) → r.site ≡ site → IsZoneOf (site_view site).zone r.zone
+    → stage_of r [] ≡ start (site_view site) (no_entries (site_view site)) → Adds (concat (first_lines style)) w v → Ends x (course_alone r [] style) limit (λ _. Unit {0}) (outside turns started v) new
+    → IsOverTurns x style limit (site_view site) (outside turns started w) new
+over_turns x style limit r site turns started w v new same zone begin first ends = record {
+  zone = r.zone;
+  is_zone = zone;
+  begun = outside turns started v;
+  first = record { turns = takes_none turns; written = first; started = adds_none started };
+  ends = subst (λ c. Ends x c limit (λ _. Unit {0}) (outside turns started v) new) (from_start r site style same begin) ends;
+}
+
+-- and before that at first
+pub at_first : (x : Status) (style : Style) (turns : Option (List Turn)) (started : Option (List Order)) (w v : Option (List ℕ)) → (x ≡ status.WriteFault) ⊎ (x ≡ status.OutOfMemory) → AddsPart (concat (first_lines style)) w v
+    → IsAtFirst x style (outside turns started w) (outside turns started v)
+at_first x style turns started w v cause p =
+    let q = part_of (concat (first_lines style)) w v p in
+    record { cause = cause; at = record { part = q.0; rest = q.1; are = q.2; at = record { turns = takes_none turns; written = q.3; started = adds_none started } } }

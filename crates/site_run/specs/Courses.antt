@@ -1,0 +1,59 @@
+-- Turns of a run, one after another: their logs, what is written and started of them, and what stands behind them.
+use Rattle.std.specs.Prelude.{ℕ, List, [], map}
+use Rattle.std.specs.List.{concat, flat_map}
+use Rattle.run_meaning.specs.Acts.{Basis}
+use Rattle.run_meaning.specs.Alone.{run_alone, turn_alone}
+use Rattle.run_meaning.specs.Lookback.{stage_by}
+use Rattle.run_meaning.specs.Runs.{Stage, TurnLog}
+use Rattle.run_meaning.specs.Turns.{Begun, ReadTurn}
+use Rattle.run_text.specs.LogText.{turn_lines}
+use Rattle.run_text.specs.TurnReading.{turn_read}
+use Rattle.run_text.specs.declared.style.Style.{Style}
+use Rattle.site_edge.specs.declared.order.Order.{Order}
+use Rattle.site_edge.specs.declared.turn.Turn.{Turn}
+use Rattle.site_model.specs.PlainSite.{site_view}
+use Rattle.turn_engine.specs.Stages.{Running, basis_of_site, stage_of}
+use Rattle.site_run.specs.Feeds.{Changing, Giving, basis_fed}
+use Rattle.site_run.specs.Starts.{started_of}
+
+-- what a run stands on, the stage from which it goes on, and the version of its log
+pub record Course : Type 0 where
+  pub basis : Basis
+  pub stage : Stage
+  pub style : Style
+
+-- that of an engine with a feed, where this is what stood when each turn so far began, and which the feed was at first
+abbrev pub course_of : {F : Type 0} → Running → List Begun → Style → Giving F → Changing F → F → Course
+course_of r begun style gives after first =
+    record { basis = basis_fed (site_view r.site) r.zone gives after first; stage = stage_of r begun; style = style }
+
+-- that of an engine without a feed
+abbrev pub course_alone : Running → List Begun → Style → Course
+course_alone r begun style = record { basis = basis_of_site (site_view r.site) r.zone; stage = stage_of r begun; style = style }
+
+-- the log of the next turn
+abbrev pub log_of : Course → Turn → TurnLog
+log_of c t = turn_alone c.basis c.stage (turn_read c.basis.site t)
+
+-- its text
+abbrev pub text_of : Course → TurnLog → List ℕ
+text_of c l = concat (turn_lines c.style c.basis.site l)
+
+abbrev pub reads : Course → List Turn → List ReadTurn
+reads c ts = map (turn_read c.basis.site) ts
+
+-- the logs of the next turns
+abbrev pub logs : Course → List Turn → List TurnLog
+logs c ts = run_alone c.basis c.stage (reads c ts)
+
+-- their text
+abbrev pub text : Course → List Turn → List ℕ
+text c ts = concat (flat_map (turn_lines c.style c.basis.site) (logs c ts))
+
+-- the orders that are started of them
+abbrev pub orders : Course → List Turn → List Order
+orders c ts = flat_map (λ l. started_of l.orders) (logs c ts)
+
+-- the run behind them
+abbrev pub behind : Course → List Turn → Course
+behind c ts = record c { stage = stage_by c.basis c.stage (reads c ts) (logs c ts) }

@@ -1,0 +1,44 @@
+-- What a feed gives over the turns of a run, and what a run with it stands on.
+use Rattle.std.specs.Prelude.{ℕ, List, [], ◌∷◌, Option}
+use Rattle.checkable_core.specs.Contents.{Contents}
+use Rattle.jiff_tz.specs.declared.tzif.Tzif.{Tzif}
+use Rattle.run_meaning.specs.Acts.{Basis}
+use Rattle.run_meaning.specs.Turns.{Begun, Feed, Histories}
+use Rattle.run_text.specs.TurnReading.{lines_read}
+use Rattle.site_model.specs.PlainSite.{PlainSite}
+use Rattle.site_posts.specs.Books.{AreBooks}
+use Rattle.site_posts.specs.Made.{basis_in}
+use Rattle.turn_engine.specs.Orders.{command_of}
+
+-- they are those of a site that a feed was made for
+pub record AreBooksFor (made_for : PlainSite → Type 0) (moment : ℕ) (books : List Contents) : Type 0 where
+  pub site : PlainSite
+  pub made : made_for site
+  pub are : AreBooks site moment books
+
+-- which lines a feed gives where these entries stand at a moment
+abbrev pub Giving : Type 0 → Type 0
+Giving F = F → Histories → ℕ → List (List ℕ)
+
+-- what it is afterwards
+abbrev pub Changing : Type 0 → Type 0
+Changing F = F → Histories → ℕ → F
+
+-- what a feed is once these turns began
+abbrev pub feed_after : {F : Type 0} → Changing F → F → List Begun → F
+feed_after after feed [] = feed
+feed_after after feed (b ∷ bs) = feed_after after (after feed b.histories b.moment) bs
+
+-- the lines that it gives for the last of these turns
+abbrev pub lines_fed : {F : Type 0} → Giving F → Changing F → F → List Begun → List (List ℕ)
+lines_fed gives after feed [] = []
+lines_fed gives after feed (b ∷ []) = gives feed b.histories b.moment
+lines_fed gives after feed (b ∷ c ∷ bs) = lines_fed gives after (after feed b.histories b.moment) (c ∷ bs)
+
+-- the same, as they are read
+abbrev pub feed_of : {F : Type 0} → PlainSite → Giving F → Changing F → F → Feed
+feed_of s gives after feed begun = lines_read s (lines_fed gives after feed begun)
+
+-- what a run over a site in a zone stands on whose turns are fed so
+abbrev pub basis_fed : {F : Type 0} → PlainSite → Option Tzif → Giving F → Changing F → F → Basis
+basis_fed s zone gives after feed = basis_in s zone (command_of s) (feed_of s gives after feed)

@@ -1,0 +1,94 @@
+-- The log of a world's turns over a site, and how far it came.
+use Rattle.std.specs.Prelude.{ℕ, ◌≡◌, ◌⊎◌, nat_lt, List, [], length, take, Option, IfSome, if◌then◌else◌}
+use Rattle.std.specs.List.{concat}
+use Rattle.jiff_tz.specs.declared.tzif.Tzif.{Tzif}
+use Rattle.run_meaning.specs.Runs.{IsRun, TurnLog, no_entries, start}
+use Rattle.run_meaning.specs.Turns.{ReadTurn}
+use Rattle.run_text.specs.LogText.{first_lines, log_text}
+use Rattle.run_text.specs.ReadTurns.{AreTurnsRead}
+use Rattle.run_text.specs.declared.style.Style.{Style}
+use Rattle.site_edge.specs.Lists.{Adds, AddsPart}
+use Rattle.site_edge.specs.declared.turn.Turn.{Turn}
+use Rattle.site_model.specs.PlainSite.{PlainSite}
+use Rattle.turn_engine.specs.Ready.{IsZoneOf}
+use Rattle.turn_engine.specs.Stages.{basis_of_site}
+use Rattle.site_run.specs.Courses.{Course}
+use Rattle.site_run.specs.Ends.{Came, Ends, IsAt, IsPartWritten, Outside}
+use Rattle.site_run.specs.declared.status.Status.{Status}
+use Rattle.site_run.specs.declared.status.Status.TheVariants as status
+
+-- What is written.
+
+-- the logs of a run of these turns over a site, as they are read, with one caller
+pub record AreLogs (s : PlainSite) (turns : List Turn) (logs : List TurnLog) : Type 0 where
+  pub zone : Option Tzif
+  pub is_zone : IsZoneOf s.zone zone
+  pub reads : List ReadTurn
+  pub read : AreTurnsRead s turns reads
+  pub run : IsRun (basis_of_site s zone) 1 (start s (no_entries s)) reads logs
+
+-- what a run writes in which nothing fails, and how it ends
+pub record Whole : Type 0 where
+  pub text : List ℕ
+  pub ends : Status
+
+-- the log of the first so many of these turns
+pub record IsLog (style : Style) (limit : ℕ) (s : PlainSite) (turns : List Turn) (w : Whole) : Type 0 where
+  pub logs : List TurnLog
+  pub are : AreLogs s (take limit turns) logs
+  pub text : w.text ≡ log_text style s logs
+  pub ends : w.ends ≡ (if nat_lt limit (length turns) then status.TurnsSpent else status.Done)
+
+-- that of the world's turns: of those that are told, and else of some
+pub record AnswersWorld (style : Style) (limit : ℕ) (turns : Option (List Turn)) (s : PlainSite) (w : Whole) : Type 0 where
+  pub came : List Turn
+  pub told : Came turns came
+  pub log : IsLog style limit s came w
+
+-- what was written, by the status: all of it where the run ends so where nothing fails, and a prefix after a fault
+abbrev pub EndsWhole : Status → Whole → Option (List ℕ) → Option (List ℕ) → Type 0
+EndsWhole status.Done w old new = (w.ends ≡ status.Done) × Adds w.text old new
+EndsWhole status.Diagnosed w old new = (w.ends ≡ status.Diagnosed) × Adds w.text old new
+EndsWhole status.TurnsSpent w old new = (w.ends ≡ status.TurnsSpent) × Adds w.text old new
+EndsWhole status.Usage w old new = ⊥
+EndsWhole status.ReadFault w old new = new ≡ old
+EndsWhole status.WriteFault w old new = AddsPart w.text old new
+EndsWhole status.WorldFault w old new = AddsPart w.text old new
+EndsWhole status.OutOfMemory w old new = AddsPart w.text old new
+
+-- a run of these ended so
+abbrev pub EndsOne : Status → (Whole → Type 0) → Option (List ℕ) → Option (List ℕ) → Type 0
+EndsOne s Is old new = (w : Whole) × Is w × EndsWhole s w old new
+
+-- the same. Where the files could not be read, or there was no memory for what they come to, nothing was written.
+abbrev pub EndsRun : Status → (Whole → Type 0) → Option (List ℕ) → Option (List ℕ) → Type 0
+EndsRun status.ReadFault Is old new = new ≡ old
+EndsRun status.OutOfMemory Is old new = (new ≡ old) ⊎ EndsOne status.OutOfMemory Is old new
+EndsRun s Is old new = EndsOne s Is old new
+
+-- How far it came.
+
+-- nowhere: there was no memory for the engine
+pub record IsNowhere (s : Status) (old new : Outside) : Type 0 where
+  pub cause : s ≡ status.OutOfMemory
+  pub same : new ≡ old
+
+-- into what stands before the first turn
+pub record IsAtFirst (s : Status) (style : Style) (old new : Outside) : Type 0 where
+  pub cause : (s ≡ status.WriteFault) ⊎ (s ≡ status.OutOfMemory)
+  pub at : IsPartWritten [] [] (concat (first_lines style)) [] old new
+
+-- the run over a site from its start
+abbrev pub course_from_start : PlainSite → Option Tzif → Style → Course
+course_from_start s zone style = record { basis = basis_of_site s zone; stage = start s (no_entries s); style = style }
+
+-- behind that, over turns
+pub record IsOverTurns (s : Status) (style : Style) (limit : ℕ) (site : PlainSite) (old new : Outside) : Type 0 where
+  pub zone : Option Tzif
+  pub is_zone : IsZoneOf site.zone zone
+  pub begun : Outside
+  pub first : IsAt [] (concat (first_lines style)) [] old begun
+  pub ends : Ends s (course_from_start site zone style) limit (λ _. Unit {0}) begun new
+
+abbrev pub Went : Status → Style → ℕ → PlainSite → Outside → Outside → Type 0
+Went s style limit site old new = IsNowhere s old new ⊎ (IsAtFirst s style old new ⊎ IsOverTurns s style limit site old new)

@@ -1,0 +1,13 @@
+-- Which orders of a turn are started.
+use Rattle.std.specs.Prelude.{ℕ, List, [], ◌∷◌}
+use Rattle.run_meaning.specs.Turns.{Command, Ordered, missing, words}
+use Rattle.site_edge.specs.declared.order.Order.{Order}
+
+abbrev pub start_with : ℕ → Command → List Order → List Order
+start_with number (words ws) os = record { number = number; argv = ws } ∷ os
+start_with number (missing macro) os = os
+
+-- those for whose commands no macro is missing
+abbrev pub started_of : List Ordered → List Order
+started_of [] = []
+started_of (o ∷ os) = start_with o.number o.command (started_of os)

@@ -1,0 +1,139 @@
+// The turns of a run, one after another.
+ghost use Rattle.std.specs.Prelude.{◌≡◌, ◌≢◌, ◌≤◌, ◌+◌, ◌^◌, [], false};
+ghost use Rattle.site_edge.specs.Told.{Rose};
+ghost use Rattle.site_model.specs.PlainSite.{site_view};
+ghost use Rattle.site_model.specs.Sound.{IsSound};
+ghost use Rattle.site_run.specs.Courses.{course_alone, course_of};
+ghost use Rattle.site_run.specs.Ends.{Ends, Stands, ended, outside};
+
+use crate::feed::{Feed, NoFeed};
+use crate::status::Status;
+use crate::stop::Stop;
+use crate::turning::drive_turn;
+use run_text::Style;
+use site_edge::{Sink, World};
+use std::alloc::Global;
+use turn_engine::Engine;
+
+/// Takes the turns of a world, one after another. Of each it writes the lines in a version of the log and then starts the orders that have
+/// words, before it takes the next one. The lines of the feed stand before a turn's own. The line `log 2` isn't written.
+///
+/// The engine isn't spent, its turns and the limit are together at most 2^40, its site is sound, and the feed is made for it.
+///
+/// It ends with `Done` after the last turn, and then the engine and the feed stand behind all of them; with `TurnsSpent` where one more
+/// came than the limit; with `WriteFault` where a line could not be written; with `WorldFault` where the world could give no turn or take
+/// no orders; and with `OutOfMemory`. After another status than `Done` the engine may be spent, and nothing is said of the feed.
+pub fn drive_part_one<W: World, S: Sink, F: Feed>(
+    alloc: Global,
+    engine: &mut Engine,
+    world: &mut W,
+    out: &mut S,
+    feed: &mut F,
+    style: Style,
+    limit: u64,
+) -> Status
+    requires fresh { engine.old.spent ≡ false }
+    requires few { engine.old.run.turns + limit ≤ 2 ^ 40 }
+    requires sound { IsSound (site_view engine.old.run.site) }
+    requires made { F.made_for feed.old (site_view engine.old.run.site) }
+    ensures ends { let c = course_of engine.old.run [] style F.gives F.after feed.old in
+        Ends result c limit (λ done. Stands c F.after feed.old done engine.new feed.new) (outside (W.turns world.old) (W.started world.old) (S.written out.old)) (outside (W.turns world.new) (W.started world.new) (S.written out.new)) }
+    ensures site { result ≡ Status.Done → engine.new.run.site ≡ engine.old.run.site }
+    ensures zone { result ≡ Status.Done → engine.new.run.zone ≡ engine.old.run.zone }
+    ensures made { result ≡ Status.Done → F.made_for feed.new (site_view engine.old.run.site) }
+    ensures write_fault { result ≡ Status.WriteFault → Rose (S.faults out.old) (S.faults out.new) }
+    ensures world_fault { result ≡ Status.WorldFault → Rose (W.faults world.old) (W.faults world.new) }
+    ensures calm_sink { S.calm out.old → result ≢ Status.WriteFault }
+    ensures calm_world { W.calm world.old → result ≢ Status.WorldFault }
+    ensures sink_counts { S.faults out.old ≤ S.faults out.new }
+    ensures sink_calm { S.calm out.old → S.calm out.new }
+    ensures world_counts { W.faults world.old ≤ W.faults world.new }
+    ensures world_calm { W.calm world.old → W.calm world.new }
+{
+    match drive_turns(alloc, engine, world, out, feed, style, limit) {
+        Ok(status) => status,
+        Err(stop) => stop.status(),
+    }
+}
+
+/// Takes the turns of a world with an engine that takes no others, as [`drive_part_one`] with no feed.
+pub fn drive_alone<W: World, S: Sink>(
+    alloc: Global,
+    mut engine: Engine,
+    world: &mut W,
+    out: &mut S,
+    style: Style,
+    limit: u64,
+) -> Status
+    requires fresh { engine.spent ≡ false }
+    requires few { engine.run.turns + limit ≤ 2 ^ 40 }
+    requires sound { IsSound (site_view engine.run.site) }
+    ensures ends { Ends result (course_alone engine.run [] style) limit (λ _. Unit {0}) (outside (W.turns world.old) (W.started world.old) (S.written out.old)) (outside (W.turns world.new) (W.started world.new) (S.written out.new)) }
+    ensures write_fault { result ≡ Status.WriteFault → Rose (S.faults out.old) (S.faults out.new) }
+    ensures world_fault { result ≡ Status.WorldFault → Rose (W.faults world.old) (W.faults world.new) }
+    ensures calm_sink { S.calm out.old → result ≢ Status.WriteFault }
+    ensures calm_world { W.calm world.old → result ≢ Status.WorldFault }
+{
+    let mut feed = NoFeed::new(alloc);
+    drive_part_one(alloc, &mut engine, world, out, &mut feed, style, limit)
+}
+
+/// The same in version one of the log.
+pub fn drive_one<W: World, S: Sink>(
+    alloc: Global,
+    engine: Engine,
+    world: &mut W,
+    out: &mut S,
+    limit: u64,
+) -> Status
+    requires fresh { engine.spent ≡ false }
+    requires few { engine.run.turns + limit ≤ 2 ^ 40 }
+    requires sound { IsSound (site_view engine.run.site) }
+    ensures ends { Ends result (course_alone engine.run [] Style.One) limit (λ _. Unit {0}) (outside (W.turns world.old) (W.started world.old) (S.written out.old)) (outside (W.turns world.new) (W.started world.new) (S.written out.new)) }
+    ensures write_fault { result ≡ Status.WriteFault → Rose (S.faults out.old) (S.faults out.new) }
+    ensures world_fault { result ≡ Status.WorldFault → Rose (W.faults world.old) (W.faults world.new) }
+    ensures calm_sink { S.calm out.old → result ≢ Status.WriteFault }
+    ensures calm_world { W.calm world.old → result ≢ Status.WorldFault }
+{
+    drive_alone(alloc, engine, world, out, Style::One, limit)
+}
+
+/// Takes the turns of a world, and tells with which status the run ends, or why it stops.
+fn drive_turns<W: World, S: Sink, F: Feed>(
+    alloc: Global,
+    engine: &mut Engine,
+    world: &mut W,
+    out: &mut S,
+    feed: &mut F,
+    style: Style,
+    limit: u64,
+) -> Result<Status, Stop>
+    requires fresh { engine.old.spent ≡ false }
+    requires few { engine.old.run.turns + limit ≤ 2 ^ 40 }
+    requires sound { IsSound (site_view engine.old.run.site) }
+    requires made { F.made_for feed.old (site_view engine.old.run.site) }
+    ensures ends { let c = course_of engine.old.run [] style F.gives F.after feed.old in
+        Ends (ended result) c limit (λ done. Stands c F.after feed.old done engine.new feed.new) (outside (W.turns world.old) (W.started world.old) (S.written out.old)) (outside (W.turns world.new) (W.started world.new) (S.written out.new)) }
+    ensures site { ended result ≡ Status.Done → engine.new.run.site ≡ engine.old.run.site }
+    ensures zone { ended result ≡ Status.Done → engine.new.run.zone ≡ engine.old.run.zone }
+    ensures made { ended result ≡ Status.Done → F.made_for feed.new (site_view engine.old.run.site) }
+    ensures write_fault { ended result ≡ Status.WriteFault → Rose (S.faults out.old) (S.faults out.new) }
+    ensures world_fault { ended result ≡ Status.WorldFault → Rose (W.faults world.old) (W.faults world.new) }
+    ensures calm_sink { S.calm out.old → ended result ≢ Status.WriteFault }
+    ensures calm_world { W.calm world.old → ended result ≢ Status.WorldFault }
+    ensures sink_counts { S.faults out.old ≤ S.faults out.new }
+    ensures sink_calm { S.calm out.old → S.calm out.new }
+    ensures world_counts { W.faults world.old ≤ W.faults world.new }
+    ensures world_calm { W.calm world.old → W.calm world.new }
+{
+    for _ in 0..limit {
+        let Some(turn) = world.next()? else {
+            return Ok(Status::Done);
+        };
+        drive_turn(alloc, engine, world, out, feed, style, turn)?;
+    }
+    match world.next()? {
+        Some(_) => Ok(Status::TurnsSpent),
+        None => Ok(Status::Done),
+    }
+}
