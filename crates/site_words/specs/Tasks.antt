@@ -1,0 +1,76 @@
+-- What the program is asked to do.
+use Rattle.std.specs.Prelude.{ℕ, ◌==◌, ◌&&◌, not, Bool, false, List, [], ◌∷◌, Option, Some, None, if◌then◌else◌, codes}
+use Rattle.std.specs.Str.{bytes_eq}
+use Rattle.run_text.specs.declared.style.Style.{Style}
+use Rattle.run_text.specs.declared.style.Style.TheVariants as style
+use Rattle.site_words.specs.declared.words.Task as declared
+use Rattle.site_words.specs.declared.words.Task.TheVariants.{Check, Daemon, Objects, Replay}
+
+-- what words ask for, by the names of files
+pub data Task : Type 0 where
+  -- of a root
+  check : List ℕ → Task
+  objects : List ℕ → Task
+  -- in a version of the log, of a root and a script
+  replay : Style → List ℕ → List ℕ → Task
+  -- in a version of the log, of a root
+  daemon : Style → List ℕ → Task
+
+abbrev pub task_view : declared.Task → Task
+task_view (Check root) = check root.now
+task_view (Objects root) = objects root.now
+task_view (Replay style root script) = replay style root.now script.now
+task_view (Daemon style root) = daemon style root.now
+
+-- a file's name: it isn't empty and doesn't begin with `-`
+abbrev pub is_file_word : List ℕ → Bool
+is_file_word [] = false
+is_file_word (b ∷ bs) = not (b == 45)
+
+-- `check ROOT` or `objects ROOT`
+abbrev pub plain_task : List ℕ → List ℕ → Option Task
+plain_task w x =
+    if bytes_eq w (codes "check") && is_file_word x then Some (check x)
+    else if bytes_eq w (codes "objects") && is_file_word x then Some (objects x)
+    else None
+
+-- `replay ROOT SCRIPT`
+abbrev pub replay_task : Style → List ℕ → List ℕ → List ℕ → Option Task
+replay_task version w root script =
+    if bytes_eq w (codes "replay") && (is_file_word root && is_file_word script) then Some (replay version root script) else None
+
+-- `daemon ROOT`
+abbrev pub daemon_task : Style → List ℕ → List ℕ → Option Task
+daemon_task version w root = if bytes_eq w (codes "daemon") && is_file_word root then Some (daemon version root) else None
+
+abbrev pub is_log_option : List ℕ → Bool
+is_log_option w = bytes_eq w (codes "--log")
+
+-- words that ask for a log in this version
+abbrev pub logged_task : Style → List (List ℕ) → Option Task
+logged_task version (w ∷ root ∷ []) = daemon_task version w root
+logged_task version (w ∷ root ∷ script ∷ []) = replay_task version w root script
+logged_task version ws = None
+
+-- the same by the word behind `--log`, which is `1` or `2`
+abbrev pub logged : List ℕ → List (List ℕ) → Option Task
+logged version ws =
+    if bytes_eq version (codes "1") then logged_task style.One ws
+    else if bytes_eq version (codes "2") then logged_task style.Two ws
+    else None
+
+abbrev pub two_words : List ℕ → List ℕ → Option Task
+two_words w x = if bytes_eq w (codes "daemon") then daemon_task style.One w x else plain_task w x
+
+-- words that don't begin with an option; it may stand behind them
+abbrev pub command_task : List (List ℕ) → Option Task
+command_task (w ∷ x ∷ []) = two_words w x
+command_task (w ∷ x ∷ y ∷ []) = replay_task style.One w x y
+command_task (w ∷ x ∷ o ∷ v ∷ []) = if is_log_option o then logged v (w ∷ x ∷ []) else None
+command_task (w ∷ x ∷ y ∷ o ∷ v ∷ []) = if is_log_option o then logged v (w ∷ x ∷ y ∷ []) else None
+command_task ws = None
+
+-- `--log V` may stand once, before or behind the words that ask for a log; no other words ask for anything
+abbrev pub task_of : List (List ℕ) → Option Task
+task_of (o ∷ v ∷ ws) = if is_log_option o then logged v ws else command_task (o ∷ v ∷ ws)
+task_of ws = None

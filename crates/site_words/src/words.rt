@@ -1,0 +1,143 @@
+// What the words of a command line ask for.
+ghost use Rattle.std.specs.Prelude.{◌≡◌, ◌&&◌, option_map};
+ghost use Rattle.site_words.specs.Tasks.{command_task, daemon_task as task_of_daemon, is_file_word as names_file, is_log_option as is_option, logged as logged_by, logged_task as task_logged, plain_task as task_plain, replay_task as task_of_replay, task_of as task_in, task_view, two_words as task_of_two};
+
+use run_text::Style;
+use site_base::Text;
+
+/// What the words of a command line ask for. Each names files: a root, and a script.
+#[derive(Clone, Copy, Debug)]
+pub enum Task<'a> {
+    /// `check ROOT`: how many objects the files from the root on make.
+    Check {
+        root: &'a str,
+    },
+    /// `objects ROOT`: the objects that the files from the root on make.
+    Objects {
+        root: &'a str,
+    },
+    /// `replay ROOT SCRIPT`: the log of the script's turns over the site that they make, in a version.
+    Replay {
+        style: Style,
+        root: &'a str,
+        script: &'a str,
+    },
+    /// `daemon ROOT`: the log of the world's turns over the site that they make, in a version.
+    Daemon {
+        style: Style,
+        root: &'a str,
+    },
+}
+
+/// What the words ask for; `None` for all words that ask for nothing that the program does. `--log V` may stand before or behind the
+/// words of `replay` and `daemon`, with V 1 or 2.
+pub fn task_of(words: &[Text]) -> Option<Task<'_>>
+    ensures { option_map task_view result ≡ task_in words.now }
+{
+    match words {
+        [option, version, rest @ ..] if is_log_option(option) => logged(version, rest),
+        [_, _, ..] => command_of(words),
+        _ => None,
+    }
+}
+
+/// What words without an option before them ask for.
+fn command_of(words: &[Text]) -> Option<Task<'_>>
+    ensures { option_map task_view result ≡ command_task words.now }
+{
+    match words {
+        [word, named] => two_words(word, named),
+        [word, root, script] => replay_task(Style::One, word, root, script),
+        [_, _, option, version] if is_log_option(option) => logged(version, &words[..2]),
+        [_, _, _, option, version] if is_log_option(option) => logged(version, &words[..3]),
+        _ => None,
+    }
+}
+
+/// What words ask for that ask for a log in this version.
+fn logged<'a>(version: &'a Text, words: &'a [Text]) -> Option<Task<'a>>
+    ensures { option_map task_view result ≡ logged_by version.now words.now }
+{
+    match version.as_str() {
+        "1" => logged_task(Style::One, words),
+        "2" => logged_task(Style::Two, words),
+        _ => None,
+    }
+}
+
+fn logged_task(style: Style, words: &[Text]) -> Option<Task<'_>>
+    ensures { option_map task_view result ≡ task_logged style words.now }
+{
+    match words {
+        [word, root] => daemon_task(style, word, root),
+        [word, root, script] => replay_task(style, word, root, script),
+        _ => None,
+    }
+}
+
+fn two_words<'a>(word: &'a Text, named: &'a Text) -> Option<Task<'a>>
+    ensures { option_map task_view result ≡ task_of_two word.now named.now }
+{
+    if word.as_str() == "daemon" {
+        daemon_task(Style::One, word, named)
+    } else {
+        plain_task(word, named)
+    }
+}
+
+fn plain_task<'a>(word: &'a Text, named: &'a Text) -> Option<Task<'a>>
+    ensures { option_map task_view result ≡ task_plain word.now named.now }
+{
+    let name = named.as_str();
+    match word.as_str() {
+        "check" if is_file_word(named) => Some(Task::Check { root: name }),
+        "objects" if is_file_word(named) => Some(Task::Objects { root: name }),
+        _ => None,
+    }
+}
+
+fn daemon_task<'a>(style: Style, word: &'a Text, root: &'a Text) -> Option<Task<'a>>
+    ensures { option_map task_view result ≡ task_of_daemon style word.now root.now }
+{
+    if word.as_str() == "daemon" && is_file_word(root) {
+        let root = root.as_str();
+        Some(Task::Daemon { style, root })
+    } else {
+        None
+    }
+}
+
+fn replay_task<'a>(
+    style: Style,
+    word: &'a Text,
+    root: &'a Text,
+    script: &'a Text,
+) -> Option<Task<'a>>
+    ensures { option_map task_view result ≡ task_of_replay style word.now root.now script.now }
+{
+    if word.as_str() == "replay" && is_file_word(root) && is_file_word(script) {
+        Some(Task::Replay {
+            style,
+            root: root.as_str(),
+            script: script.as_str(),
+        })
+    } else {
+        None
+    }
+}
+
+fn is_log_option(word: &Text) -> bool
+    ensures { result ≡ is_option word.now }
+{
+    word.as_str() == "--log"
+}
+
+/// Whether a word can name a file: it isn't empty and doesn't begin with `-`.
+fn is_file_word(word: &Text) -> bool
+    ensures { result ≡ names_file word.now }
+{
+    match word.as_bytes() {
+        [] => false,
+        [first, ..] => *first != b'-',
+    }
+}
