@@ -1,2 +1,2 @@
-pub mod AnswerLaws
-pub mod PlanLaws
+pub mod Ending
+pub mod Answering

@@ -1,57 +1,91 @@
--- What answers to a task over files.
-use Rattle.std.specs.Prelude.{ℕ, ◌≡◌, ◌⊎◌, Bool, false, List, Option, Some, None, IfSome}
+-- What a run writes for a task over files and the turns of the world.
+use Rattle.std.specs.Prelude.{ℕ, ◌≡◌, ◌⊎◌, Bool, true, false, List, Option, Some, None, IfSome}
 use Rattle.std.specs.Bool.{Decides}
-use Rattle.std.specs.List.{flat_map}
+use Rattle.commit_meaning.specs.Commits as commits
+use Rattle.commit_meaning.specs.Commits.{Committed}
+use Rattle.run_text.specs.declared.style.Style.{Style}
 use Rattle.site_edge.specs.Told.{find_file}
 use Rattle.site_edge.specs.declared.turn.Turn.{Turn}
-use Rattle.site_model.specs.PlainSite.{PlainSite}
-use Rattle.site_text.specs.Scripts.{Answer, Has, told, bad_line}
-use Rattle.run_meaning.specs.Runs.{TurnLog, IsRun}
-use Rattle.run_meaning.specs.Turns.{ReadTurn}
 use Rattle.site_load.specs.Configs.{IsBadZone, config_outcome, names_of}
 use Rattle.site_load.specs.Loads.{load_outcome}
-use Rattle.site_program.specs.Replies.{PlainReply, bad_script, config_reply, no_script, not_yet}
-use Rattle.site_program.specs.declared.replies.Shown.{Shown}
-use Rattle.site_program.specs.declared.replies.Shown.TheVariants as shown
-use Rattle.site_run.specs.LogText.{turn_lines}
-use Rattle.site_program.specs.Plans.{Found, runs_over, refused, found_in}
-use Rattle.site_run.specs.ReadTurns.{AreTurnsRead, SomeIsLater}
-use Rattle.site_run.specs.Replay.{first_basis, first_stage}
-use Rattle.site_program.specs.Tasks.{Task, check, objects, replay}
+use Rattle.site_model.specs.PlainSite.{PlainSite}
+use Rattle.site_program.specs.Runs.{replied}
+use Rattle.site_replies.specs.Replies.{bad_script, config_reply, diagnoses, no_script}
+use Rattle.site_replies.specs.declared.replies.Shown.{Shown}
+use Rattle.site_replies.specs.declared.replies.Shown.TheVariants as shown
+use Rattle.site_run.specs.Ends.{Outside}
+use Rattle.site_run.specs.Logs.{AnswersWorld, IsLog, Went, Whole}
+use Rattle.site_run.specs.declared.status.Status.{Status}
+use Rattle.site_text.specs.Scripts.{Answer, Has, told, bad_line}
+use Rattle.site_words.specs.Tasks.{Task, check, daemon, objects, replay}
 
--- the lines of the log of a run of these turns, as they are read, with one caller
-pub record IsLog (s : PlainSite) (turns : List Turn) (reply : PlainReply) : Type 0 where
-  pub reads : List ReadTurn
-  pub read : AreTurnsRead s turns reads
-  pub logs : List TurnLog
-  pub run : IsRun (first_basis s) 1 (first_stage s) reads logs
-  pub text : reply.lines ≡ flat_map (turn_lines s) logs
-  pub done : reply.diagnosed ≡ false
+abbrev pub Files : Type 0
+Files = List (List ℕ × List ℕ)
 
--- the log of a script's turns over this site; or some line of it isn't read yet, or its first line that is none is this one
-abbrev pub AnswersScript : List ℕ → PlainSite → Answer → PlainReply → Type 0
-AnswersScript script s (told turns) reply = (SomeIsLater s turns × (reply ≡ not_yet script)) ⊎ IsLog s turns reply
-AnswersScript script s (bad_line n) reply = reply ≡ bad_script script n
+-- Configurations.
 
-abbrev pub AnswersBytes : List ℕ → PlainSite → Option (List ℕ) → PlainReply → Type 0
-AnswersBytes script s None reply = reply ≡ no_script script
-AnswersBytes script s (Some bytes) reply = (a : Answer) × Has bytes a × AnswersScript script s a reply
+-- what a root's configuration comes to, by the names of its files, where it is known whether the file of its zone is none
+abbrev pub AnswersRoot : Files → List ℕ → (List (List ℕ) → Committed PlainSite → Type 0) → Type 0
+AnswersRoot files root Is =
+    (bad : Bool) → Decides bad (IsBadZone (load_outcome files root)) → Is (names_of (load_outcome files root)) (config_outcome bad (load_outcome files root))
 
--- the diagnostics of the files, or what answers to the script over their site
-abbrev pub AnswersFound : List (List ℕ × List ℕ) → List ℕ → Found → PlainReply → Type 0
-AnswersFound files script (refused faults) reply = reply ≡ faults
-AnswersFound files script (runs_over s) reply = AnswersBytes script s (find_file script files) reply
+-- its objects, as they are asked for, or its diagnostics
+abbrev pub AnswersShown : Files → Shown → List ℕ → Whole → Type 0
+AnswersShown files how root w = AnswersRoot files root (λ names c. w ≡ replied (config_reply how names c))
 
--- what a root's configuration comes to, where it is known whether the file of its zone is none
-abbrev pub AnswersRoot : List (List ℕ × List ℕ) → Shown → List ℕ → PlainReply → Type 0
-AnswersRoot files how root reply =
-    (bad : Bool) → Decides bad (IsBadZone (load_outcome files root)) → reply ≡ config_reply how (names_of (load_outcome files root)) (config_outcome bad (load_outcome files root))
+-- what is asked of its site, or its diagnostics
+abbrev pub AnswersOver : (PlainSite → Whole → Type 0) → Whole → List (List ℕ) → Committed PlainSite → Type 0
+AnswersOver Is w names (commits.site s) = Is s w
+AnswersOver Is w names (commits.refused list) = w ≡ replied (diagnoses names list)
 
-abbrev pub AnswersTask : List (List ℕ × List ℕ) → Task → PlainReply → Type 0
-AnswersTask files (check root) reply = AnswersRoot files shown.Count root reply
-AnswersTask files (objects root) reply = AnswersRoot files shown.Listing root reply
-AnswersTask files (replay root script) reply = (bad : Bool) → Decides bad (IsBadZone (load_outcome files root)) → AnswersFound files script (found_in bad files root) reply
+abbrev pub AnswersSite : Files → List ℕ → (PlainSite → Whole → Type 0) → Whole → Type 0
+AnswersSite files root Is w = AnswersRoot files root (AnswersOver Is w)
+
+-- Logs.
+
+-- how many turns are taken at most
+abbrev pub most_turns : ℕ
+most_turns = 100000000
+
+-- the log of a script's turns, or that its first line that is none is this one
+abbrev pub AnswersScript : Style → List ℕ → PlainSite → Answer → Whole → Type 0
+AnswersScript style script s (told turns) w = IsLog style most_turns s turns w
+AnswersScript style script s (bad_line n) w = w ≡ replied (bad_script script n)
+
+abbrev pub AnswersBytes : Style → List ℕ → PlainSite → Option (List ℕ) → Whole → Type 0
+AnswersBytes style script s None w = w ≡ replied (no_script script)
+AnswersBytes style script s (Some bytes) w = (a : Answer) × Has bytes a × AnswersScript style script s a w
+
+-- Tasks.
+
+abbrev pub AnswersTask : Task → Files → Option (List Turn) → Whole → Type 0
+AnswersTask (check root) files turns w = AnswersShown files shown.Count root w
+AnswersTask (objects root) files turns w = AnswersShown files shown.Listing root w
+AnswersTask (replay style root script) files turns w = AnswersSite files root (λ s. AnswersBytes style script s (find_file script files)) w
+AnswersTask (daemon style root) files turns w = AnswersSite files root (AnswersWorld style most_turns turns) w
 
 -- what answers to a task where the files are told, and else anything
-abbrev pub Answers : Task → Option (List (List ℕ × List ℕ)) → PlainReply → Type 0
-Answers task all reply = IfSome all (λ files. AnswersTask files task reply)
+abbrev pub Answers : Task → Option Files → Option (List Turn) → Whole → Type 0
+Answers task files turns w = IfSome files (λ all. AnswersTask task all turns w)
+
+abbrev pub is_daemon : Task → Bool
+is_daemon (daemon style root) = true
+is_daemon task = false
+
+-- How far a daemon came: nowhere near the world, or over the site of its root.
+
+abbrev pub IsSiteOf : Files → List ℕ → PlainSite → Type 0
+IsSiteOf files root s = AnswersRoot files root (λ names c. c ≡ commits.site s)
+
+pub record IsOverSite (status : Status) (style : Style) (root : List ℕ) (files : Option Files) (old new : Outside) : Type 0 where
+  pub site : PlainSite
+  pub is : IfSome files (λ all. IsSiteOf all root site)
+  pub went : Went status style most_turns site old new
+
+abbrev pub CameFar : Status → Style → List ℕ → Option Files → Outside → Outside → Type 0
+CameFar status style root files old new = ((new.turns ≡ old.turns) × (new.started ≡ old.started)) ⊎ IsOverSite status style root files old new
+
+-- of a daemon
+abbrev pub Came : Status → Task → Option Files → Outside → Outside → Type 0
+Came status (daemon style root) files old new = CameFar status style root files old new
+Came status task files old new = Unit {0}

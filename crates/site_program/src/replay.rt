@@ -1,29 +1,41 @@
-// A replay from its files to its output.
-ghost use Rattle.std.specs.Prelude.{◌≡◌, ◌≢◌};
-ghost use Rattle.site_edge.specs.Told.{Rose};
-ghost use Rattle.site_program.specs.Plans.{plan_view, reply_of_plan, IsReadable};
-ghost use Rattle.site_program.specs.Runs.{Ends, EndsRun};
-ghost use Rattle.site_program.specs.Tasks.{replay as replay_of};
+// The log of a script.
+ghost use Rattle.std.specs.Prelude.{◌≡◌, ◌≢◌, Some, IfSome};
+ghost use Rattle.site_edge.specs.Told.{Rose, find_file};
+ghost use Rattle.site_model.specs.PlainSite.{site_view};
+ghost use Rattle.site_phases.specs.Phases.{IsReady};
+ghost use Rattle.site_text.specs.ScriptReading.{Tells};
+ghost use Rattle.site_text.specs.Scripts.{Has};
+ghost use Rattle.site_run.specs.Logs.{EndsRun};
+ghost use Rattle.site_program.specs.TaskAnswers.{AnswersBytes, AnswersSite};
 
-use crate::output::write_reply;
-use crate::plan::Plan;
-use crate::planning::plan;
-use crate::status::Status;
-use site_conf::LoadFault;
-use site_edge::{Files, Sink};
-use site_run::{LogFault, write_log};
+use crate::config::status_of;
+use crate::output::write_made;
+use run_text::Style;
+use site_base::{Blob, Row};
+use site_edge::{FileFault, Files, Sink, Turn};
+use site_load::config_answer;
+use site_model::Site;
+use site_phases::Answer;
+use site_replies::{bad_script, diagnoses, no_script};
+use site_run::{ScriptWorld, Status, write_log};
+use site_text::{ScriptError, read_script};
 use std::alloc::Global;
 
-/// Writes the log of the script's turns over the site that the files from the root on make, or why there is none.
+/// How many turns are taken at most.
+pub const MOST_TURNS: u64 = 100_000_000;
+
+/// Writes the log of a script's turns over the site that the files from the root on make, or why there is none. The script is read
+/// only where there is a site.
 pub fn replay<F: Files, S: Sink>(
     alloc: Global,
+    style: Style,
     root: &str,
     script: &str,
     files: &mut F,
     out: &mut S,
 ) -> Status
     ensures never_usage { result ≢ Status.Usage }
-    ensures written { EndsRun result (replay_of root.now script.now) (F.told files.old) (S.written out.old) (S.written out.new) }
+    ensures written { EndsRun result (λ w. IfSome (F.told files.old) (λ all. AnswersSite all root.now (λ s. AnswersBytes style script.now s (find_file script.now all)) w)) (S.written out.old) (S.written out.new) }
     ensures told { F.told files.new ≡ F.told files.old }
     ensures read_fault { result ≡ Status.ReadFault → Rose (F.faults files.old) (F.faults files.new) }
     ensures write_fault { result ≡ Status.WriteFault → Rose (S.faults out.old) (S.faults out.new) }
@@ -31,28 +43,76 @@ pub fn replay<F: Files, S: Sink>(
     ensures calm_sink { S.calm out.old → result ≢ Status.WriteFault }
     ensures no_world_fault { result ≢ Status.WorldFault }
 {
-    match plan(alloc, files, root, script) {
-        Ok(plan) => run_plan(alloc, plan, out),
-        Err(LoadFault::Failed) => Status::ReadFault,
-        Err(LoadFault::OutOfMemory) => Status::OutOfMemory,
+    match config_answer(alloc, files, root) {
+        Ok(Answer::Site(site)) => replay_over(alloc, style, script, site, files, out),
+        Ok(Answer::Diags { files, list }) => {
+            write_made(diagnoses(alloc, &files, list.as_slice()), out)
+        }
+        Err(fault) => status_of(fault),
     }
 }
 
-/// Writes the log of what is to be run, or what is told in its place.
-fn run_plan<S: Sink>(alloc: Global, plan: Plan, out: &mut S) -> Status
-    requires { IsReadable (plan_view plan) }
+/// Reads the script, and writes the log of its turns over a site.
+fn replay_over<F: Files, S: Sink>(
+    alloc: Global,
+    style: Style,
+    script: &str,
+    site: Site,
+    files: &mut F,
+    out: &mut S,
+) -> Status
+    requires ready { IsReady (site_view site) }
+    ensures never_usage { result ≢ Status.Usage }
+    ensures written { EndsRun result (λ w. IfSome (F.told files.old) (λ all. AnswersBytes style script.now (site_view site) (find_file script.now all) w)) (S.written out.old) (S.written out.new) }
+    ensures told { F.told files.new ≡ F.told files.old }
+    ensures read_fault { result ≡ Status.ReadFault → Rose (F.faults files.old) (F.faults files.new) }
+    ensures write_fault { result ≡ Status.WriteFault → Rose (S.faults out.old) (S.faults out.new) }
+    ensures calm_files { F.calm files.old → result ≢ Status.ReadFault }
+    ensures calm_sink { S.calm out.old → result ≢ Status.WriteFault }
+    ensures no_world_fault { result ≢ Status.WorldFault }
+{
+    match files.read(script) {
+        Ok(Some(bytes)) => replay_bytes(alloc, style, script, site, bytes, out),
+        Ok(None) => write_made(no_script(alloc, script), out),
+        Err(FileFault::Failed) => Status::ReadFault,
+        Err(FileFault::OutOfMemory) => Status::OutOfMemory,
+    }
+}
+
+/// Writes the log of the turns of these bytes over a site, or which line of them is none of a script.
+fn replay_bytes<S: Sink>(
+    alloc: Global,
+    style: Style,
+    script: &str,
+    site: Site,
+    bytes: Blob,
+    out: &mut S,
+) -> Status
+    requires ready { IsReady (site_view site) }
+    ensures never_usage { result ≢ Status.Usage }
     ensures no_read_fault { result ≢ Status.ReadFault }
-    ensures written { Ends result (reply_of_plan (plan_view plan)) (S.written out.old) (S.written out.new) }
+    ensures written { EndsRun result (AnswersBytes style script.now (site_view site) (Some bytes)) (S.written out.old) (S.written out.new) }
     ensures write_fault { result ≡ Status.WriteFault → Rose (S.faults out.old) (S.faults out.new) }
     ensures calm_sink { S.calm out.old → result ≢ Status.WriteFault }
     ensures no_world_fault { result ≢ Status.WorldFault }
 {
-    match plan {
-        Plan::Runs { site, turns } => match write_log(alloc, &site, turns.as_slice(), out) {
-            Ok(()) => Status::Done,
-            Err(LogFault::Failed) => Status::WriteFault,
-            Err(LogFault::OutOfMemory) => Status::OutOfMemory,
-        },
-        Plan::Tells(reply) => write_reply(&reply, out),
+    match turns_of(alloc, bytes) {
+        Ok(turns) => write_log(
+            alloc,
+            style,
+            site,
+            &mut ScriptWorld::new(turns),
+            out,
+            MOST_TURNS,
+        ),
+        Err(ScriptError::BadScript { line }) => write_made(bad_script(alloc, script, line), out),
+        Err(ScriptError::OutOfMemory) => Status::OutOfMemory,
     }
+}
+
+/// The turns of a script, whose bytes are kept no longer.
+fn turns_of(alloc: Global, bytes: Blob) -> Result<Row<Turn>, ScriptError>
+    ensures { Tells (Has bytes) result }
+{
+    read_script(alloc, bytes.as_slice())
 }

@@ -1,22 +1,33 @@
-use Rattle.std.proofs.Common.{inl, refl}
-use Rattle.site_program.specs.Plans.{plan_view, reply_of_plan}
-use Rattle.site_program.specs.Tasks.{replay}
-use Rattle.site_program.proofs.AnswerLaws.{replied}
-use Rattle.site_program.proofs.PlanLaws.{plan_answers}
+use Rattle.std.proofs.Common.{◌≡◌, IfOk, IfSome, Option, rules, subst}
+use Rattle.site_edge.specs.Told.{find_file}
+use Rattle.site_model.specs.PlainSite.{site_view}
+use Rattle.site_program.specs.Runs.{replied}
+use Rattle.site_program.specs.TaskAnswers.{AnswersBytes, AnswersSite, Files}
+use Rattle.site_replies.specs.Replies.{diagnoses, reply_view}
+use Rattle.site_program.proofs.Answering.{diags_answer, site_answers}
+use Rattle.site_program.proofs.Ending.{ended, ended_as}
 use Rattle.site_program.proofs.replay.replay.Goals as goal
 
-pub returns-in-Ok-clause-written : goal.returns-in-Ok-clause-written
-returns-in-Ok-clause-written g c =
-    let p = plan_view c.in-Ok.plan in
-    replied c.run_plan.result (replay c.args.root.now c.args.script.now) (g.F.Files.told c.args.files.now) (g.S.Sink.written c.args.out.now) (g.S.Sink.written c.run_plan.new.out) (
-      reply_of_plan p,
-      plan_answers c.args.root.now c.args.script.now (g.F.Files.told c.args.files.now) p
-          (λ files bad h decided. (c.in-Ok.ensures.value files bad h decided, c.in-Ok.ensures.named files bad h decided)),
-      c.run_plan.ensures.written,
+pub returns-in-Ok-Site-clause-written : goal.returns-in-Ok-Site-clause-written
+returns-in-Ok-Site-clause-written g c =
+    let told = g.F.Files.told c.args.files.now in
+    let a = c.in-Ok-Site in
+    let script = c.args.script.now in
+    ended_as c.replay_over.result (λ w. IfSome (g.F.Files.told c.config_answer.new.files) (λ all. AnswersBytes c.args.style script (site_view a.site) (find_file script all) w))
+    (λ w. IfSome told (λ all. AnswersSite all c.args.root.now (λ s. AnswersBytes c.args.style script s (find_file script all)) w)) (g.S.Sink.written c.args.out.now) (g.S.Sink.written c.replay_over.new.out)
+    (λ w is. site_answers (λ all s. AnswersBytes c.args.style script s (find_file script all)) c.args.root.now told a.field-0 a.site a.field-0-is (λ files h. (a.ensures.files files h, λ bad decided. a.ensures.value files bad h decided)) w
+    (subst (λ (t : Option Files). IfSome t (λ all. AnswersBytes c.args.style script (site_view a.site) (find_file script all) w)) c.config_answer.ensures.same is))
+    c.replay_over.ensures.written
+
+pub returns-in-Ok-Diags-clause-written : goal.returns-in-Ok-Diags-clause-written
+returns-in-Ok-Diags-clause-written g c =
+    let told = g.F.Files.told c.args.files.now in
+    let a = c.in-Ok-Diags in
+    let script = c.args.script.now in
+    let reply = diagnoses a.files a.list in
+    let made : IfOk c.diagnoses.result (λ x. reply_view x ≡ reply) = search rules in
+    ended c.write_made.result (λ w. IfSome told (λ all. AnswersSite all c.args.root.now (λ s. AnswersBytes c.args.style script s (find_file script all)) w)) (g.S.Sink.written c.args.out.now) (g.S.Sink.written c.write_made.new.out) (
+      replied reply,
+      diags_answer (λ all s. AnswersBytes c.args.style script s (find_file script all)) c.args.root.now told a.field-0 a.files a.list a.field-0-is (λ files h. (a.ensures.files files h, λ bad decided. a.ensures.value files bad h decided)),
+      c.write_made.ensures.written reply made,
     )
-
-pub returns-in-Err-Failed-clause-written : goal.returns-in-Err-Failed-clause-written
-returns-in-Err-Failed-clause-written g c = refl
-
-pub returns-in-Err-OutOfMemory-clause-written : goal.returns-in-Err-OutOfMemory-clause-written
-returns-in-Err-OutOfMemory-clause-written g c = inl refl

@@ -1,0 +1,48 @@
+-- How runs end.
+use Rattle.std.proofs.Common.{◌≡◌, ◌⊎◌, inl, inr, ℕ, List, [], ◌++◌, Bool, true, false, Option, Some, None, Result, Ok, Err, IfOk, refl, sym, ap, ◌∙◌, subst, append-nil, append_assoc}
+use Rattle.site_edge.specs.Lists.{Adds, AddsPart}
+use Rattle.site_conf.specs.declared.load_fault.LoadFault.{LoadFault}
+use Rattle.site_conf.specs.declared.load_fault.LoadFault.TheVariants as load
+use Rattle.site_program.specs.Runs.{status_by}
+use Rattle.site_run.specs.Logs.{EndsOne, EndsRun, Whole}
+use Rattle.site_run.specs.declared.status.Status.{Status}
+use Rattle.site_run.specs.declared.status.Status.TheVariants as status
+
+-- nothing was added
+pub nothing : (more : List ℕ) (old : Option (List ℕ)) → AddsPart more old old
+nothing more None = refl
+nothing more (Some all) = ([], more, refl, ap Some (sym (append-nil all)))
+
+-- a run of one of these
+pub ended : (end : Status) (Is : Whole → Type 0) (old new : Option (List ℕ)) → EndsOne end Is old new → EndsRun end Is old new
+ended status.Done Is old new h = h
+ended status.Diagnosed Is old new h = h
+ended status.Usage Is old new h = h
+ended status.ReadFault Is old new h = h.2
+ended status.WriteFault Is old new h = h
+ended status.WorldFault Is old new h = h
+ended status.OutOfMemory Is old new h = inr h
+ended status.TurnsSpent Is old new h = h
+
+one_as : (end : Status) (P Q : Whole → Type 0) (old new : Option (List ℕ)) → ((w : Whole) → P w → Q w) → EndsOne end P old new → EndsOne end Q old new
+one_as end P Q old new f h = (h.0, f h.0 h.1, h.2)
+
+either_as : (P Q : Whole → Type 0) (old new : Option (List ℕ)) → ((w : Whole) → P w → Q w) → (new ≡ old) ⊎ EndsOne status.OutOfMemory P old new → (new ≡ old) ⊎ EndsOne status.OutOfMemory Q old new
+either_as P Q old new f (inl h) = inl h
+either_as P Q old new f (inr h) = inr (one_as status.OutOfMemory P Q old new f h)
+
+-- what is one of these is one of those
+pub ended_as : (end : Status) (P Q : Whole → Type 0) (old new : Option (List ℕ)) → ((w : Whole) → P w → Q w) → EndsRun end P old new → EndsRun end Q old new
+ended_as status.Done P Q old new f h = one_as status.Done P Q old new f h
+ended_as status.Diagnosed P Q old new f h = one_as status.Diagnosed P Q old new f h
+ended_as status.Usage P Q old new f h = one_as status.Usage P Q old new f h
+ended_as status.ReadFault P Q old new f h = h
+ended_as status.WriteFault P Q old new f h = one_as status.WriteFault P Q old new f h
+ended_as status.WorldFault P Q old new f h = one_as status.WorldFault P Q old new f h
+ended_as status.OutOfMemory P Q old new f h = either_as P Q old new f h
+ended_as status.TurnsSpent P Q old new f h = one_as status.TurnsSpent P Q old new f h
+
+-- files that can't be read leave nothing written
+pub unread : (fault : LoadFault) (end : Status) (Is : Whole → Type 0) (old : Option (List ℕ)) → end ≡ status_by fault → EndsRun end Is old old
+unread load.Failed end Is old e = subst (λ s. EndsRun s Is old old) (sym e) refl
+unread load.OutOfMemory end Is old e = subst (λ s. EndsRun s Is old old) (sym e) (inl refl)

@@ -1,0 +1,47 @@
+// The objects of a configuration.
+ghost use Rattle.std.specs.Prelude.{◌≡◌, ◌≢◌, IfSome};
+ghost use Rattle.site_edge.specs.Told.{Rose};
+ghost use Rattle.site_program.specs.Runs.{status_by};
+ghost use Rattle.site_run.specs.Logs.{EndsRun};
+ghost use Rattle.site_program.specs.TaskAnswers.{AnswersShown};
+
+use crate::output::write_made;
+use site_conf::LoadFault;
+use site_edge::{Files, Sink};
+use site_load::config_answer;
+use site_replies::{Shown, reply_to_config};
+use site_run::Status;
+use std::alloc::Global;
+
+/// Writes the objects of the configuration that the files from the root on make, as they are asked for, or what is wrong with it.
+pub fn show_objects<F: Files, S: Sink>(
+    alloc: Global,
+    root: &str,
+    shown: Shown,
+    files: &mut F,
+    out: &mut S,
+) -> Status
+    ensures never_usage { result ≢ Status.Usage }
+    ensures written { EndsRun result (λ w. IfSome (F.told files.old) (λ all. AnswersShown all shown root.now w)) (S.written out.old) (S.written out.new) }
+    ensures told { F.told files.new ≡ F.told files.old }
+    ensures read_fault { result ≡ Status.ReadFault → Rose (F.faults files.old) (F.faults files.new) }
+    ensures write_fault { result ≡ Status.WriteFault → Rose (S.faults out.old) (S.faults out.new) }
+    ensures calm_files { F.calm files.old → result ≢ Status.ReadFault }
+    ensures calm_sink { S.calm out.old → result ≢ Status.WriteFault }
+    ensures no_world_fault { result ≢ Status.WorldFault }
+{
+    match config_answer(alloc, files, root) {
+        Ok(answer) => write_made(reply_to_config(alloc, answer, shown), out),
+        Err(fault) => status_of(fault),
+    }
+}
+
+/// With what a run ends whose files can't be read.
+pub fn status_of(fault: LoadFault) -> Status
+    ensures { result ≡ status_by fault }
+{
+    match fault {
+        LoadFault::Failed => Status::ReadFault,
+        LoadFault::OutOfMemory => Status::OutOfMemory,
+    }
+}

@@ -1,0 +1,48 @@
+// The log of the world.
+ghost use Rattle.std.specs.Prelude.{◌≡◌, ◌≢◌, IfSome};
+ghost use Rattle.site_edge.specs.Told.{Rose};
+ghost use Rattle.site_run.specs.Logs.{AnswersWorld, EndsRun};
+ghost use Rattle.site_run.specs.Ends.{outside};
+ghost use Rattle.site_program.specs.TaskAnswers.{AnswersSite, CameFar, most_turns};
+
+use crate::config::status_of;
+use crate::output::write_made;
+use crate::replay::MOST_TURNS;
+use run_text::Style;
+use site_edge::{Files, Sink, World};
+use site_load::config_answer;
+use site_phases::Answer;
+use site_replies::diagnoses;
+use site_run::{Status, write_log};
+use std::alloc::Global;
+
+/// Writes the log of the world's turns over the site that the files from the root on make, or why there is none. No turn is taken and
+/// no check started where there is none.
+pub fn watch<F: Files, W: World, S: Sink>(
+    alloc: Global,
+    style: Style,
+    root: &str,
+    files: &mut F,
+    world: &mut W,
+    out: &mut S,
+) -> Status
+    ensures never_usage { result ≢ Status.Usage }
+    ensures written { EndsRun result (λ w. IfSome (F.told files.old) (λ all. AnswersSite all root.now (AnswersWorld style most_turns (W.turns world.old)) w)) (S.written out.old) (S.written out.new) }
+    // Which turns were taken, what was written of them, and which of their checks were started.
+    ensures came { CameFar result style root.now (F.told files.old) (outside (W.turns world.old) (W.started world.old) (S.written out.old)) (outside (W.turns world.new) (W.started world.new) (S.written out.new)) }
+    ensures told { F.told files.new ≡ F.told files.old }
+    ensures read_fault { result ≡ Status.ReadFault → Rose (F.faults files.old) (F.faults files.new) }
+    ensures write_fault { result ≡ Status.WriteFault → Rose (S.faults out.old) (S.faults out.new) }
+    ensures world_fault { result ≡ Status.WorldFault → Rose (W.faults world.old) (W.faults world.new) }
+    ensures calm_files { F.calm files.old → result ≢ Status.ReadFault }
+    ensures calm_sink { S.calm out.old → result ≢ Status.WriteFault }
+    ensures calm_world { W.calm world.old → result ≢ Status.WorldFault }
+{
+    match config_answer(alloc, files, root) {
+        Ok(Answer::Site(site)) => write_log(alloc, style, site, world, out, MOST_TURNS),
+        Ok(Answer::Diags { files, list }) => {
+            write_made(diagnoses(alloc, &files, list.as_slice()), out)
+        }
+        Err(fault) => status_of(fault),
+    }
+}
