@@ -1,0 +1,5 @@
+pub mod Front
+pub mod Reading
+pub mod Seconds
+pub mod Splits
+pub mod Starting

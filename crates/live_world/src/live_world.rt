@@ -1,0 +1,177 @@
+// The real world.
+ghost use Rattle.std.specs.Prelude.{◌≡◌, ◌≤◌, ◌++◌, ◌∷◌, [], None, OnOk, OnErr, IfOk, IfSome, IsErrOf, IsPermutation};
+ghost use Rattle.site_edge.specs.Told.{Rose};
+ghost use Rattle.live_world.specs.Turns.{IsSecondLater, numbers, reported, ordered, StartsPart};
+
+use crate::input::InputLines;
+use crate::reports::split_off_reports;
+use crate::running::Running;
+use site_base::{Moment, OutOfMemory, Row};
+use site_edge::{Order, Report, Turn, World, WorldError};
+use std::mem;
+use std::thread::Threads;
+use std::time::{Duration, Instant, SystemTime, UNIX_EPOCH};
+
+/// So many seconds after a turn the next one comes, at least.
+const TURN: u64 = 1;
+
+/// The clock, the lines of standard input and check programs. Nothing is told of the turns that they give.
+///
+/// A turn comes once a second has passed since the last one, and the first once a second has passed since it was asked for. Its
+/// moment is the clock's, in whole seconds. Its lines are those of standard input that ended since the last turn, and the
+/// last one too where the input has ended behind it; its reports are of the orders whose programs ended since. No turn is
+/// left once the input has ended and no order is without its report.
+///
+/// Of a line and of a program's output the first 65,536 bytes are kept. A program that can't be run, or that a signal ends,
+/// is reported with status 3. A program has no time limit.
+///
+/// `next` is `Failed` where the clock or standard input can't be read, and where the clock shows a moment past the last one.
+/// `start` is never `Failed`.
+#[derive(Drop)]
+pub struct LiveWorld<T: Threads + Drop> {
+    rt: HostRuntime,
+    threads: T,
+    input: InputLines,
+    running: Vec<Running>,
+    last: Option<Instant>,
+    faults: u64,
+}
+
+impl<T: Threads + Drop> LiveWorld<T> {
+    /// The world of this process, which starts threads by `threads`.
+    pub fn new(rt: HostRuntime, threads: T) -> Result<LiveWorld<T>, OutOfMemory>
+        ensures { IfOk result (λ w. ⟦<LiveWorld<T> as World>⟧.faults w ≡ 0) }
+    {
+        let alloc = rt.alloc();
+        Ok(LiveWorld {
+            rt,
+            threads,
+            input: InputLines::new(alloc)?,
+            running: Vec::new(alloc),
+            last: None,
+            faults: 0,
+        })
+    }
+
+    /// Counts an error.
+    fn counted<A>(&mut self, answer: Result<A, WorldError>) -> Result<A, WorldError>
+        ensures same { result ≡ answer }
+        ensures rises { OnErr answer (Rose self.old.faults self.new.faults) }
+        ensures counts { self.old.faults ≤ self.new.faults }
+        ensures quiet { OnOk answer (self.new.faults ≡ self.old.faults) }
+    {
+        if answer.is_err() {
+            self.faults = self.faults.saturating_add(1);
+        }
+        answer
+    }
+
+    /// The next turn.
+    fn turn(&mut self) -> Result<Option<Turn>, WorldError>
+        ensures second { IfOk result (λ t. IfSome t (λ _. IsSecondLater self.old.last self.new.last)) }
+        ensures reports { IfOk result (λ t. IfSome t (λ turn. IsPermutation (numbers self.old.running.items) (reported turn.reports ++ numbers self.new.running.items))) }
+        ensures faults { self.new.faults ≡ self.old.faults }
+    {
+        let Some(now) = self.await_turn()? else {
+            return Ok(None);
+        };
+        let moment = self.moment()?;
+        let reports = self.take_reports()?;
+        let lines = self.input.take();
+        self.last = Some(now);
+        Ok(Some(Turn {
+            moment,
+            reports,
+            lines,
+        }))
+    }
+
+    /// Waits for the next turn, and gives the time at which it comes.
+    #[tactic(auto, using(crate::proofs::Seconds::second_later))]
+    fn await_turn(&mut self) -> Result<Option<Instant>, WorldError>
+        ensures second { IfOk result (λ now. IsSecondLater self.old.last now) }
+        ensures running { self.new.running ≡ self.old.running }
+        ensures faults { self.new.faults ≡ self.old.faults }
+    {
+        let asked = Instant::now(&self.rt).map_err(|_| WorldError::Failed)?;
+        let last = self.last.unwrap_or(asked);
+        for _ in 0..u64::MAX {
+            let now = Instant::now(&self.rt).map_err(|_| WorldError::Failed)?;
+            let left = Duration::from_secs(TURN).saturating_sub(now.duration_since(last));
+            self.input.wait(&self.rt, left)?;
+            if self.input.is_over() && self.running.is_empty() {
+                return Ok(None);
+            }
+            if left.is_zero() {
+                return Ok(Some(now));
+            }
+        }
+        Err(WorldError::Failed)
+    }
+
+    /// The clock's moment.
+    fn moment(&self) -> Result<Moment, WorldError> {
+        let now = SystemTime::now(&self.rt).map_err(|_| WorldError::Failed)?;
+        match now.duration_since(UNIX_EPOCH) {
+            Ok(passed) => Moment::of(passed.as_secs()).ok_or(WorldError::Failed),
+            Err(_) => Err(WorldError::Failed),
+        }
+    }
+
+    /// Takes the reports that are there.
+    fn take_reports(&mut self) -> Result<Row<Report>, OutOfMemory>
+        ensures reports { IfOk result (λ reports. IsPermutation (numbers self.old.running.items) (reported reports ++ numbers self.new.running.items)) }
+        ensures last { self.new.last ≡ self.old.last }
+        ensures faults { self.new.faults ≡ self.old.faults }
+    {
+        let alloc = self.rt.alloc();
+        let running = mem::replace(&mut self.running, Vec::new(alloc));
+        let (reports, left) = split_off_reports(alloc, &self.threads, running)?;
+        self.running = left;
+        Ok(reports)
+    }
+
+    /// Starts each of the orders once.
+    #[tactic(auto, using(crate::proofs::Starting::starts_part))]
+    fn start_each(&mut self, orders: &[Order]) -> Result<(), WorldError>
+        ensures ok { OnOk result (numbers self.new.running.items ≡ numbers self.old.running.items ++ ordered orders.now) }
+        ensures err { OnErr result (StartsPart orders.now (numbers self.old.running.items) (numbers self.new.running.items)) }
+        ensures faults { self.new.faults ≡ self.old.faults }
+    {
+        for order in orders {
+            self.start_one(order)?;
+        }
+        Ok(())
+    }
+
+    fn start_one(&mut self, order: &Order) -> Result<(), WorldError>
+        ensures ok { OnOk result (numbers self.new.running.items ≡ numbers self.old.running.items ++ order.now.number ∷ []) }
+        ensures err { OnErr result (numbers self.new.running.items ≡ numbers self.old.running.items) }
+        ensures faults { self.new.faults ≡ self.old.faults }
+    {
+        self.running.reserve(1)?;
+        self.running
+            .push(Running::start(&self.rt, &self.threads, order)?)?;
+        Ok(())
+    }
+}
+
+impl<T: Threads + Drop> World for LiveWorld<T> {
+    ghost turns = { λ _. None };
+
+    ghost started = { λ _. None };
+
+    ghost faults = { λ w. w.faults };
+
+    ghost calm = { λ _. ⊥ };
+
+    fn next(&mut self) -> Result<Option<Turn>, WorldError> {
+        let answer = self.turn();
+        self.counted(answer)
+    }
+
+    fn start(&mut self, orders: &[Order]) -> Result<(), WorldError> {
+        let answer = self.start_each(orders);
+        self.counted(answer)
+    }
+}
