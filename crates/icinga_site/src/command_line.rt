@@ -1,9 +1,11 @@
 // The words of the command line, over the real files and standard output.
-use site_base::{Row, Text};
-use site_edge::{DiskFiles, MemWorld, OutSink};
+use live_world::LiveWorld;
+use site_base::{OutOfMemory, Text};
+use site_edge::{DiskFiles, OutSink};
 use site_program::{Status, run_one};
 use std::env;
 use std::io::ErrorKind;
+use std::thread::Threads;
 
 /// What `--help` prints.
 const HELP: &str = "\
@@ -13,17 +15,20 @@ usage:
   icinga_site check ROOT            counts the objects that the configuration file ROOT makes
   icinga_site objects ROOT          lists them
   icinga_site replay ROOT SCRIPT    writes the log of the turns of SCRIPT over the site of ROOT
+  icinga_site daemon ROOT           runs the checks of that site, takes command lines from standard input, and writes the log
   icinga_site --help                prints this text
   icinga_site --version             prints the program's version
+
+--log 1 or --log 2, before or behind the words of replay and daemon, chooses the version of the log.
 ";
 
 /// What `--version` prints.
 const VERSION: &str = "icinga_site 0.1.0\n";
 
 /// Does what the words of the command line ask for.
-pub(crate) fn run(rt: &HostRuntime) -> Status {
+pub(crate) fn run<T: Threads + Drop>(rt: &HostRuntime, threads: T) -> Status {
     match words_of(rt) {
-        Ok(words) => run_words(rt, &words),
+        Ok(words) => run_words(rt, threads, &words),
         Err(status) => status,
     }
 }
@@ -48,18 +53,28 @@ fn words_of(rt: &HostRuntime) -> Result<Vec<Text>, Status> {
 }
 
 /// Does what the words ask for, over the real files and standard output.
-fn run_words(rt: &HostRuntime, words: &[Text]) -> Status {
+fn run_words<T: Threads + Drop>(rt: &HostRuntime, threads: T, words: &[Text]) -> Status {
     match words {
         [word] if word.as_str() == "--help" => print_text(rt, HELP),
         [word] if word.as_str() == "--version" => print_text(rt, VERSION),
-        words => {
-            let alloc = rt.alloc();
-            let mut files = DiskFiles::new(rt);
-            let mut world = MemWorld::new(alloc, Row::new(alloc), Row::new(alloc));
-            let mut out = OutSink::new(alloc, rt);
-            run_one(alloc, words, &mut files, &mut world, &mut out).unwrap()
-        }
+        words => run_over(rt, threads, words),
     }
+}
+
+/// The same for words that ask for more than a text.
+fn run_over<T: Threads + Drop>(rt: &HostRuntime, threads: T, words: &[Text]) -> Status {
+    let Ok(mut world) = world_of(rt, threads) else {
+        return Status::OutOfMemory;
+    };
+    let alloc = rt.alloc();
+    let mut files = DiskFiles::new(rt);
+    let mut out = OutSink::new(alloc, rt);
+    run_one(alloc, words, &mut files, &mut world, &mut out).unwrap()
+}
+
+/// The clock, standard input and check programs, each of which a thread waits for.
+fn world_of<T: Threads + Drop>(rt: &HostRuntime, threads: T) -> Result<LiveWorld<T>, OutOfMemory> {
+    LiveWorld::new(rt.clone()?, threads)
 }
 
 fn print_text(rt: &HostRuntime, text: &str) -> Status {

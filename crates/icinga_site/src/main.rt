@@ -3,10 +3,14 @@
 
 mod command_line;
 
+use site_program::Status;
 use std::process::ExitCode;
 
 fn main(rt: HostRuntime) -> ExitCode {
-    let status = command_line::run(&rt);
+    let status = match rt.clone() {
+        Ok(threads) => command_line::run(&rt, threads),
+        Err(_) => Status::OutOfMemory,
+    };
     if status.number() > 1 {
         let _ = eprintln!(rt; "icinga_site: {status}");
     }
