@@ -1,0 +1,17 @@
+pub mod Lists
+pub mod Mapped
+pub mod Sorting
+pub mod Evaluations
+pub mod Answers
+pub mod Numbers
+pub mod Faults
+pub mod Items
+pub mod Rules
+pub mod Groups
+pub mod Names
+pub mod Targets
+pub mod Groupings
+pub mod Waves
+pub mod Commits
+pub mod Trees
+pub mod Computing

@@ -1,0 +1,4 @@
+pub mod Reordered
+pub mod Unordered
+pub mod Alike
+pub mod Examples
