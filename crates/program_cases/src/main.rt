@@ -1,7 +1,8 @@
 //! Reads rows from standard input, and writes each with what the program gives for it.
 //!
-//! A row is a command line, with files in memory and calls that fail (the head of the file `stdin` says how it is
-//! written). Each line of the input is written as it is, and behind a row its status and the lines of its output.
+//! A row is a command line, with files and a world in memory and calls that fail (the head of the file `stdin` says how it is
+//! written). Each line of the input is written as it is, and behind a row its status, the lines of its output, and the
+//! orders that were started.
 #![tactic(auto)]
 
 mod case;

@@ -1,12 +1,14 @@
 // What the program gives.
 use crate::case::Case;
-use site_base::{OutOfMemory, Row, Text};
-use site_edge::{MemFiles, MemSink, MemWorld};
+use site_base::{OutOfMemory, Text, quote};
+use site_edge::{MemFiles, MemSink, MemWorld, Order};
 use site_program::{Status, run_one};
+use site_text::{ScriptError, read_script};
 use std::alloc::Global;
 use std::str;
 
-/// Runs the program as a case says, and adds the status and, each on a line of its own, the lines of the output.
+/// Runs the program as a case says, and adds the status and, each on a line of its own, the lines of the output and the orders that
+/// were started.
 pub(crate) fn push_outcome(alloc: Global, out: &mut Text, case: Case) -> Result<(), OutOfMemory> {
     let Case {
         words,
@@ -14,19 +16,26 @@ pub(crate) fn push_outcome(alloc: Global, out: &mut Text, case: Case) -> Result<
         reads,
         puts,
         turns,
+        world,
     } = case;
-    let mut files = MemFiles::new(alloc, files, reads);
-    let mut world = MemWorld::new(alloc, Row::new(alloc), turns);
-    let mut sink = MemSink::new(alloc, puts);
     out.push_str("  →  ")?;
+    let script = match read_script(alloc, world.as_slice()) {
+        Ok(script) => script,
+        Err(ScriptError::BadScript { .. }) => return out.push_str("no such world"),
+        Err(ScriptError::OutOfMemory) => return Err(OutOfMemory),
+    };
+    let mut files = MemFiles::new(alloc, files, reads);
+    let mut world = MemWorld::new(alloc, script, turns);
+    let mut sink = MemSink::new(alloc, puts);
     match run_one(alloc, &words, &mut files, &mut world, &mut sink) {
         Some(status) => push_status(out, status)?,
         None => out.push_str("nothing")?,
     }
     match str::from_utf8(sink.written()) {
-        Ok(text) => push_lines(out, text),
-        Err(_) => out.push_str("\n  no text"),
+        Ok(text) => push_lines(out, text)?,
+        Err(_) => out.push_str("\n  no text")?,
     }
+    push_started(alloc, out, world.started())
 }
 
 /// Adds a status as its number and name.
@@ -51,6 +60,19 @@ fn push_lines(out: &mut Text, text: &str) -> Result<(), OutOfMemory> {
     if begins { Ok(()) } else { out.push('…') }
 }
 
+/// Adds each order with its words, quoted, on a line of its own.
+fn push_started(alloc: Global, out: &mut Text, orders: &[Order]) -> Result<(), OutOfMemory> {
+    for order in orders {
+        out.push_str("\n  started ")?;
+        out.push_decimal(order.number)?;
+        for word in order.argv.as_slice() {
+            out.push(' ')?;
+            out.push_str(quote(alloc, word.as_str())?.as_str())?;
+        }
+    }
+    Ok(())
+}
+
 /// Adds all statuses.
 pub(crate) fn push_statuses(out: &mut Text) -> Result<(), OutOfMemory> {
     for status in [
@@ -61,6 +83,7 @@ pub(crate) fn push_statuses(out: &mut Text) -> Result<(), OutOfMemory> {
         Status::WriteFault,
         Status::WorldFault,
         Status::OutOfMemory,
+        Status::TurnsSpent,
     ] {
         out.push_str("\n  ")?;
         push_status(out, status)?;
