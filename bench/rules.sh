@@ -116,7 +116,7 @@ fn items_of(
         return Err(NoAnswer::instead(alloc, "no lawful rule"));
     }
     match instances(alloc, view, rule, target, spare)? {
-        RuleAnswer::Items(items) => Ok(items.len()),
+        RuleAnswer::Instances(made) => Ok(made.len()),
         _ => Ok(1),
     }
 }

@@ -1,4 +1,5 @@
 pub mod Judging
+pub mod Keys
 pub mod Lawful
 pub mod Looped
 pub mod Named

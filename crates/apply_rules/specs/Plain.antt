@@ -1,10 +1,11 @@
 -- The plain values of what rules and groups work with.
-use Rattle.std.specs.Prelude.{ℕ, List, [], ◌∷◌, map, Option, Some, None, Vec}
+use Rattle.std.specs.Prelude.{ℕ, List, [], ◌∷◌, ◌++◌, map, Option, Some, None, Vec}
 use Rattle.std.specs.Borrow.{Bor}
 use Rattle.std.specs.declared.alloc.Global.{Global}
+use Rattle.site_base.specs.declared.item_no.ItemNo.{ItemNo}
 use Rattle.site_model.specs.PlainSite.{object_view}
-use Rattle.eval_meaning.specs.Registered.{PlainItem}
-use Rattle.eval_work.specs.Works.{plain_item}
+use Rattle.eval_meaning.specs.Registered.{PlainItem, PlainRule}
+use Rattle.eval_work.specs.Works.{plain_item, plain_pair, plain_rule}
 use Rattle.eval_work.specs.declared.item.Item.{Item}
 use Rattle.commit_meaning.specs.Answers as answer
 use Rattle.commit_meaning.specs.Answers.{Answer}
@@ -12,10 +13,12 @@ use Rattle.commit_meaning.specs.Conditions as conditions
 use Rattle.commit_meaning.specs.Groups as groups
 use Rattle.commit_meaning.specs.Names as names
 use Rattle.commit_meaning.specs.Rules as rules
+use Rattle.commit_meaning.specs.Starts.{Trees}
 use Rattle.apply_rules.specs.declared.conditions.Verdict.{Verdict}
 use Rattle.apply_rules.specs.declared.elements.Element.{Element}
 use Rattle.apply_rules.specs.declared.group_answer.GroupAnswer.{GroupAnswer}
 use Rattle.apply_rules.specs.declared.group_answer.GroupAnswer.TheVariants as group_answers
+use Rattle.apply_rules.specs.declared.instance.Instance.{Instance}
 use Rattle.apply_rules.specs.declared.taking.Taken.{Taken}
 use Rattle.apply_rules.specs.declared.rule_answer.RuleAnswer.{RuleAnswer}
 use Rattle.apply_rules.specs.declared.rule_answer.RuleAnswer.TheVariants as rule_answers
@@ -37,16 +40,23 @@ plain_element e = record { key = e.key; bound = e.bound.items }
 abbrev pub plain_elements : Vec Element Global → List rules.Element
 plain_elements es = map plain_element es.items
 
-abbrev pub plain_items : Vec Item Global → List PlainItem
-plain_items is = map plain_item is.items
+-- the item of a rule at a target, with this number and name, in which the names of the target and these are bound
+abbrev pub item_at : ItemNo → PlainRule → names.Target → List ℕ → Trees → PlainItem
+item_at n r t name own = record (rules.instance r t n.key name (names.target_names t ++ own)) { number = n }
 
--- an item that is kept, as a list of one
-abbrev pub plain_kept : Option Item → List PlainItem
-plain_kept (Some i) = plain_item i ∷ []
+abbrev pub plain_instance : Instance → PlainItem
+plain_instance i = item_at i.number (plain_rule i.rule.now) (plain_target i.target) i.name (map plain_pair i.own.items)
+
+abbrev pub plain_items : Vec Instance Global → List PlainItem
+plain_items is = map plain_instance is.items
+
+-- an instance that is kept, as a list of one
+abbrev pub plain_kept : Option Instance → List PlainItem
+plain_kept (Some i) = plain_instance i ∷ []
 plain_kept None = []
 
 abbrev pub rule_answer : RuleAnswer → Answer (List PlainItem)
-rule_answer (rule_answers.Items is) = answer.made (plain_items is)
+rule_answer (rule_answers.Instances is) = answer.made (plain_items is)
 rule_answer (rule_answers.Diag d) = answer.diagnosed (d ∷ [])
 rule_answer (rule_answers.Blocked r) = answer.blocked r
 

@@ -3,7 +3,7 @@ ghost use Rattle.std.specs.Prelude.{◌≡◌, ◌+◌, ◌++◌, [], false, OnO
 ghost use Rattle.dsl_syntax.specs.SyntaxView.{each_view};
 ghost use Rattle.dsl_value.specs.PlainStores.{plain_store};
 ghost use Rattle.eval_meaning.specs.States.{rule as rule_task};
-ghost use Rattle.eval_work.specs.Works.{state_of, view_of, plain_item, plain_rule, Gives};
+ghost use Rattle.eval_work.specs.Works.{state_of, view_of, plain_rule, Gives};
 ghost use Rattle.commit_meaning.specs.Answers.{answered};
 ghost use Rattle.commit_meaning.specs.Names.{target_names};
 ghost use Rattle.commit_meaning.specs.Starts.{fresh};
@@ -14,27 +14,27 @@ ghost use Rattle.item_start.specs.Ready.{IsReady};
 ghost use Rattle.apply_rules.specs.Judging.{in_rule_with, judged_element, looped_items, unframed};
 ghost use Rattle.apply_rules.specs.Lawful.{IsApplicable};
 ghost use Rattle.apply_rules.specs.Named.{ElementsNamed};
-ghost use Rattle.apply_rules.specs.Plain.{plain_target, plain_element, plain_items, plain_kept};
+ghost use Rattle.apply_rules.specs.Plain.{plain_target, plain_element, plain_instance, plain_items, plain_kept};
 
 use crate::elements::{Element, elements};
 use crate::keeping::{element_item, judged_item};
 use crate::prepared::begin_expressions;
-use crate::{PreparedTarget, Target};
+use crate::{Instance, PreparedTarget, Target};
 use dsl_syntax::Each;
 use dsl_value::{Store, Value};
-use eval_work::{Item, Locals, Rule, Stop, Task, Work, WorldView};
+use eval_work::{Locals, Rule, Stop, Task, Work, WorldView};
 use site_base::{OutOfMemory, Text};
 use std::alloc::Global;
 use std::mem;
 
-/// The items of a rule at a target. It ends early by the first fault, or by the first read that isn't decided.
-pub(crate) fn run_rule(
+/// The instances of a rule at a target. It ends early by the first fault, or by the first read that isn't decided.
+pub(crate) fn run_rule<'a>(
     alloc: Global,
     view: &WorldView,
-    rule: &Rule,
-    target: &PreparedTarget,
+    rule: &'a Rule,
+    target: &PreparedTarget<'a>,
     spare: &mut Locals,
-) -> Result<Vec<Item>, Stop>
+) -> Result<Vec<Instance<'a>>, Stop>
     requires { IsApplicable view.now rule.now target.now }
     ensures { Answers plain_items (pair_number (plain_rule rule.now) (plain_target target.now.target)) result (answered (pair_number (plain_rule rule.now) (plain_target target.now.target)) (rule_run (view_of view.now) (plain_rule rule.now) (plain_target target.now.target))) }
 {
@@ -44,14 +44,14 @@ pub(crate) fn run_rule(
     }
 }
 
-/// The item of a rule without a `for`, if it is kept.
-fn run_once(
+/// The instance of a rule without a `for`, if it is kept.
+fn run_once<'a>(
     alloc: Global,
     view: &WorldView,
-    rule: &Rule,
-    target: &PreparedTarget,
+    rule: &'a Rule,
+    target: &PreparedTarget<'a>,
     spare: &mut Locals,
-) -> Result<Vec<Item>, Stop>
+) -> Result<Vec<Instance<'a>>, Stop>
     requires applicable { IsApplicable view.now rule.now target.now }
     requires once { (plain_rule rule.now).loop ≡ None }
     ensures { Answers plain_items (pair_number (plain_rule rule.now) (plain_target target.now.target)) result (answered (pair_number (plain_rule rule.now) (plain_target target.now.target)) (rule_run (view_of view.now) (plain_rule rule.now) (plain_target target.now.target))) }
@@ -62,12 +62,12 @@ fn run_once(
     items
 }
 
-fn one_item(
+fn one_item<'a>(
     view: &WorldView,
-    rule: &Rule,
-    target: &Target,
+    rule: &'a Rule,
+    target: &Target<'a>,
     work: &mut Work,
-) -> Result<Vec<Item>, Stop>
+) -> Result<Vec<Instance<'a>>, Stop>
     requires { IsReady view.now work.old }
     ensures { Gives plain_items result (state_of work.new) (judged_element (view_of view.now) (plain_rule rule.now) (plain_target target.now) 0 [] (target_names (plain_target target.now) ++ []) (state_of work.old)) }
 {
@@ -79,15 +79,15 @@ fn one_item(
     Ok(items)
 }
 
-/// The items of a rule with a `for`.
-fn run_loop(
+/// The instances of a rule with a `for`.
+fn run_loop<'a>(
     alloc: Global,
     view: &WorldView,
-    rule: &Rule,
+    rule: &'a Rule,
     each: &Each,
-    target: &PreparedTarget,
+    target: &PreparedTarget<'a>,
     spare: &mut Locals,
-) -> Result<Vec<Item>, Stop>
+) -> Result<Vec<Instance<'a>>, Stop>
     requires applicable { IsApplicable view.now rule.now target.now }
     requires each { (plain_rule rule.now).loop ≡ Some (each_view each.now) }
     ensures { Answers plain_items (pair_number (plain_rule rule.now) (plain_target target.now.target)) result (answered (pair_number (plain_rule rule.now) (plain_target target.now.target)) (rule_run (view_of view.now) (plain_rule rule.now) (plain_target target.now.target))) }
@@ -98,13 +98,13 @@ fn run_loop(
     items
 }
 
-fn loop_items(
+fn loop_items<'a>(
     view: &WorldView,
-    rule: &Rule,
+    rule: &'a Rule,
     each: &Each,
-    target: &Target,
+    target: &Target<'a>,
     work: &mut Work,
-) -> Result<Vec<Item>, Stop>
+) -> Result<Vec<Instance<'a>>, Stop>
     requires ready { IsReady view.now work.old }
     requires captured { PairsNamed work.old.store rule.now.captured.items }
     requires task { work.old.task ≡ Task.Rule }
@@ -139,14 +139,14 @@ fn begin_rule(
     )
 }
 
-/// The items of elements that are kept, which are numbered from 1. Each begins with the cells and functions as they are before the first.
-fn run_elements(
+/// The instances for elements that are kept, which are numbered from 1. Each begins with the cells and functions as they are before the first.
+fn run_elements<'a>(
     view: &WorldView,
-    rule: &Rule,
-    target: &Target,
+    rule: &'a Rule,
+    target: &Target<'a>,
     elements: &[Element],
     work: &mut Work,
-) -> Result<Vec<Item>, Stop>
+) -> Result<Vec<Instance<'a>>, Stop>
     requires ready { IsReady view.now work.old }
     requires captured { PairsNamed work.old.store rule.now.captured.items }
     requires elements { ElementsNamed work.old.store (map plain_element elements.now) }
@@ -186,12 +186,12 @@ fn begin_again(before: &Store, work: &mut Work) -> Result<(), OutOfMemory>
     Ok(())
 }
 
-/// Adds an item that is kept.
-fn keep(items: &mut Vec<Item>, kept: Option<Item>) -> Result<(), OutOfMemory>
-    ensures { OnOk result (map plain_item items.new.items ≡ map plain_item items.old.items ++ plain_kept kept) }
+/// Adds an instance that is kept.
+fn keep<'a>(made: &mut Vec<Instance<'a>>, kept: Option<Instance<'a>>) -> Result<(), OutOfMemory>
+    ensures { OnOk result (map plain_instance made.new.items ≡ map plain_instance made.old.items ++ plain_kept kept.entry) }
 {
     match kept {
-        Some(item) => Ok(items.push(item)?),
+        Some(instance) => Ok(made.push(instance)?),
         None => Ok(()),
     }
 }

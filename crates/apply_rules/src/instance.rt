@@ -1,34 +1,77 @@
-// The items of elements that are kept.
+// The instances of elements that are kept, and their items.
 ghost use Rattle.std.specs.Prelude.{◌≡◌, ◌++◌, IfOk, OnOk, map};
 ghost use Rattle.eval_work.specs.Works.{state_of, plain_item, plain_pair, plain_rule, Gives};
 ghost use Rattle.commit_meaning.specs.Names.{target_names};
 ghost use Rattle.commit_meaning.specs.Rules.{instance as instance_of, named_instance as named_by, prefix, place_by};
-ghost use Rattle.apply_rules.specs.Plain.{plain_target, plain_kept};
+ghost use Rattle.apply_rules.specs.Keys.{AreKeys};
+ghost use Rattle.apply_rules.specs.Plain.{item_at, plain_instance, plain_kept, plain_target};
 
-use crate::Target;
 use crate::presets::presets;
 use crate::subject::named_trees;
 use crate::target::{subject_of, target_no};
+use crate::{PresetKeys, Target};
 use dsl_value::Value;
 use eval_work::{Item, Rule, Stop, Work, is_good_name, named_fault};
 use site_base::{DiagKind, ItemNo, OutOfMemory, Place, Text, Tree};
 use std::alloc::Global;
 
-/// The item of an element of this number and key, in which the names of the target and those of the `for`, with these trees, are
+/// An item that a rule makes at a target, before it has copies of what it takes from both.
+#[derive(Drop)]
+pub struct Instance<'a> {
+    pub(crate) number: ItemNo,
+    pub(crate) rule: &'a Rule,
+    pub(crate) target: Target<'a>,
+    pub(crate) name: Text,
+    /// The names of the `for`, with their trees.
+    pub(crate) own: Vec<(Text, Tree)>,
+}
+
+impl<'a> Instance<'a> {
+    /// The number of the rule, of the target and of the element.
+    pub fn number(&self) -> ItemNo
+        ensures { result ≡ (plain_instance self.now).number }
+    {
+        self.number
+    }
+
+    /// Where the rule stands.
+    pub fn place(&self) -> Place
+        ensures { result ≡ (plain_instance self.now).place }
+    {
+        self.rule.place
+    }
+
+    /// The item, with copies of the target's trees. It shares the rule's body, and its presets share these keys.
+    pub fn into_item(self, alloc: Global, keys: &PresetKeys) -> Result<Item, OutOfMemory>
+        requires { AreKeys keys.now }
+        ensures { IfOk result (λ i. plain_item i ≡ plain_instance self.entry) }
+    {
+        let Instance {
+            number,
+            rule,
+            target,
+            name,
+            own,
+        } = self;
+        whole_item(alloc, keys, number, rule, &target, name, own)
+    }
+}
+
+/// The instance for an element of this number and key, in which the names of the target and those of the `for`, with these trees, are
 /// bound. Its name, the rule's and then the key, may be none that an object may have.
-pub(crate) fn named_instance(
+pub(crate) fn named_instance<'a>(
     work: &Work,
-    rule: &Rule,
-    target: &Target,
+    rule: &'a Rule,
+    target: &Target<'a>,
     number: u32,
     key: &Text,
     own: Vec<(Text, Tree)>,
-) -> Result<Option<Item>, Stop>
+) -> Result<Option<Instance<'a>>, Stop>
     ensures { Gives plain_kept result (state_of work.now) (named_by (plain_rule rule.now) (plain_target target.now) number (prefix (plain_rule rule.now).name ++ key.now) (target_names (plain_target target.now) ++ map plain_pair own.items) (state_of work.now)) }
 {
     let name = instance_name(work.alloc, rule, key)?;
     if is_good_name(&name) {
-        Ok(Some(instance(work.alloc, rule, target, number, name, own)?))
+        Ok(Some(of_element(rule, target, number, name, own)))
     } else {
         Err(named_fault(work.alloc, name_place(rule), DiagKind::BadName, &name))
     }
@@ -42,7 +85,9 @@ fn instance_name(alloc: Global, rule: &Rule, key: &Text) -> Result<Text, OutOfMe
         Some((prefix, _)) => prefix.clone()?,
         None => Text::new(alloc),
     };
-    name.push_str(key.as_str())?;
+    if !key.is_empty() {
+        name.push_str(key.as_str())?;
+    }
     Ok(name)
 }
 
@@ -59,27 +104,48 @@ fn name_place(rule: &Rule) -> Place
     }
 }
 
-/// The item of this number and name. It shares the rule's body.
-fn instance(
-    alloc: Global,
-    rule: &Rule,
-    target: &Target,
+/// The instance of this number and name.
+fn of_element<'a>(
+    rule: &'a Rule,
+    target: &Target<'a>,
     number: u32,
     name: Text,
-    mut own: Vec<(Text, Tree)>,
-) -> Result<Item, OutOfMemory>
-    ensures { IfOk result (λ i. plain_item i ≡ instance_of (plain_rule rule.now) (plain_target target.now) number name (target_names (plain_target target.now) ++ map plain_pair own.items)) }
+    own: Vec<(Text, Tree)>,
+) -> Instance<'a>
+    ensures { plain_instance result ≡ instance_of (plain_rule rule.now) (plain_target target.now) number name (target_names (plain_target target.now) ++ map plain_pair own.items) }
 {
-    let mut names = named_trees(alloc, &subject_of(target))?;
-    names.append(&mut own)?;
-    Ok(Item {
+    Instance {
         number: ItemNo {
             item: rule.number.item,
             target: target_no(target),
             key: number,
         },
+        rule,
+        target: *target,
+        name,
+        own,
+    }
+}
+
+/// The item of a rule at a target, with this number and name.
+fn whole_item(
+    alloc: Global,
+    keys: &PresetKeys,
+    number: ItemNo,
+    rule: &Rule,
+    target: &Target,
+    name: Text,
+    mut own: Vec<(Text, Tree)>,
+) -> Result<Item, OutOfMemory>
+    requires { AreKeys keys.now }
+    ensures { IfOk result (λ i. plain_item i ≡ item_at number (plain_rule rule.now) (plain_target target.now) name (map plain_pair own.items)) }
+{
+    let mut names = named_trees(alloc, &subject_of(target))?;
+    names.append(&mut own)?;
+    Ok(Item {
+        number,
         kind: rule.kind.clone()?,
-        presets: presets(alloc, &rule.kind, &name, target)?,
+        presets: presets(alloc, keys, &rule.kind, &name, target)?,
         name,
         place: rule.place,
         names,

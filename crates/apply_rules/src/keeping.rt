@@ -9,27 +9,27 @@ ghost use Rattle.item_start.specs.Ready.{IsReady};
 ghost use Rattle.apply_rules.specs.Judging.{judged_element, in_rule_with};
 ghost use Rattle.apply_rules.specs.Plain.{plain_target, plain_element, plain_kept};
 
-use crate::Target;
 use crate::conditions::{is_kept, judge};
 use crate::elements::Element;
 use crate::instance::named_instance;
 use crate::subject::bind_subject;
 use crate::target::subject_of;
+use crate::{Instance, Target};
 use dsl_value::Value;
-use eval_work::{Item, Rule, Stop, Work, WorldView};
+use eval_work::{Rule, Stop, Work, WorldView};
 use item_start::{bind_trees, enter_frame, trees_at};
 use site_base::{Text, Tree};
 
-/// The item of an element of a `for`, if it is kept. What the `for` binds goes through its trees before the conditions are
+/// The instance for an element of a `for`, if it is kept. What the `for` binds goes through its trees before the conditions are
 /// evaluated, over new copies of all that is bound.
-pub(crate) fn element_item(
+pub(crate) fn element_item<'a>(
     view: &WorldView,
-    rule: &Rule,
-    target: &Target,
+    rule: &'a Rule,
+    target: &Target<'a>,
     number: u32,
     element: &Element,
     work: &mut Work,
-) -> Result<Option<Item>, Stop>
+) -> Result<Option<Instance<'a>>, Stop>
     requires ready { IsReady view.now work.old }
     requires captured { PairsNamed work.old.store rule.now.captured.items }
     requires bound { PairsNamed work.old.store element.now.bound.items }
@@ -60,16 +60,16 @@ fn enter_with(
     enter_frame(work, Value::Null, &rule.captured, &bound)
 }
 
-/// The item of an element, if its conditions keep it. The work is in the frame of the rule's expressions.
-pub(crate) fn judged_item(
+/// The instance for an element, if its conditions keep it. The work is in the frame of the rule's expressions.
+pub(crate) fn judged_item<'a>(
     view: &WorldView,
-    rule: &Rule,
-    target: &Target,
+    rule: &'a Rule,
+    target: &Target<'a>,
     number: u32,
     key: &Text,
     own: Vec<(Text, Tree)>,
     work: &mut Work,
-) -> Result<Option<Item>, Stop>
+) -> Result<Option<Instance<'a>>, Stop>
     requires { IsReady view.now work.old }
     ensures gives { Gives plain_kept result (state_of work.new) (judged_element (view_of view.now) (plain_rule rule.now) (plain_target target.now) number key.now (target_names (plain_target target.now) ++ map plain_pair own.items) (state_of work.old)) }
     ensures ready { OnOk result (IsReady view.now work.new) }

@@ -1,10 +1,23 @@
 // The names in objects' statements.
-ghost use Rattle.std.specs.Prelude.{◌≡◌, ◌<◌, [], length, MatchOption};
+ghost use Rattle.std.specs.Prelude.{◌≡◌, ◌<◌, [], length, IfOk, MatchOption};
 ghost use Rattle.commit_meaning.specs.Names.{behind_last};
+
+use site_base::{OutOfMemory, Text};
+use std::alloc::Global;
+
+/// The name in the statement of an object with this full name. It shares the bytes of a full name without a `!`.
+pub(crate) fn own_text(alloc: Global, full: &Text) -> Result<Text, OutOfMemory>
+    ensures { IfOk result (λ t. t ≡ behind_last [] full.now) }
+{
+    match behind_mark(full.as_str()) {
+        Some(behind) => Text::copy_of(alloc, own_name(behind)),
+        None => Ok(full.clone()?),
+    }
+}
 
 /// What stands behind the last `!` of a full name, all of it where there is none. A name in a statement holds no `!`, so this is
 /// the name in the object's statement.
-pub(crate) fn own_name(full: &str) -> &str
+fn own_name(full: &str) -> &str
     ensures { result.now ≡ behind_last [] full.now }
 {
     let mut rest = full;

@@ -1,13 +1,13 @@
 // What a rule comes to at a target.
+use crate::Instance;
 use eval_meaning::Read;
-use eval_work::Item;
 use site_base::Diag;
 
 /// What a rule comes to at a target, over a view.
 #[derive(Drop)]
-pub enum RuleAnswer {
-    /// An item for each element that is kept, in their order.
-    Items(Vec<Item>),
+pub enum RuleAnswer<'a> {
+    /// An instance for each element that is kept, in their order.
+    Instances(Vec<Instance<'a>>),
     /// The first fault.
     Diag(Diag),
     /// The first read that the view doesn't decide.

@@ -14,7 +14,7 @@ use eval_work::{Locals, Rule, Stop, WorldView};
 use site_base::{Diag, ItemNo, OutOfMemory};
 use std::alloc::Global;
 
-/// What a rule comes to at a target over a view: an item for each element that it keeps, or its first fault, or the first read that the
+/// What a rule comes to at a target over a view: an instance for each element that it keeps, or its first fault, or the first read that the
 /// view doesn't decide (Icinga 2 documentation, Language Reference, Apply and Apply For).
 ///
 /// Without a `for` there is one element, of number 0; the elements of a `for` are numbered from 1, those that aren't kept too. An element is kept
@@ -23,19 +23,19 @@ use std::alloc::Global;
 /// prepared. The locals of its frame take the memory of the spare ones, so that one pair after another takes no new memory where
 /// nothing is kept.
 #[tactic(auto, unfolding(commit_meaning::specs::Rules::instances))]
-pub fn instances(
+pub fn instances<'a>(
     alloc: Global,
     view: &WorldView,
-    rule: &Rule,
-    target: &PreparedTarget,
+    rule: &'a Rule,
+    target: &PreparedTarget<'a>,
     spare: &mut Locals,
-) -> Result<RuleAnswer, OutOfMemory>
+) -> Result<RuleAnswer<'a>, OutOfMemory>
     requires { IsApplicable view.now rule.now target.now }
     ensures answer { IfOk result (λ a. rule_answer a ≡ instances_of (view_of view.now) (plain_rule rule.now) (plain_target target.now.target)) }
     ensures stays { (world : View) → IsPart (view_of view.now) world → IfOk result (λ a. Stays (rule_answer a) (instances_of world (plain_rule rule.now) (plain_target target.now.target))) }
 {
     match run_rule(alloc, view, rule, target, spare) {
-        Ok(items) => Ok(RuleAnswer::Items(items)),
+        Ok(made) => Ok(RuleAnswer::Instances(made)),
         Err(Stop::Fault { place, kind, text }) => {
             let number = pair_number(rule, &target.target);
             Ok(RuleAnswer::Diag(Diag {

@@ -1,5 +1,6 @@
 pub mod ViewLaws
 pub mod TargetLaws
+pub mod ApplyLaws
 pub mod NoGroups
 pub mod JoinLaws
 pub mod TellLaws

@@ -16,7 +16,8 @@ use Rattle.commit_meaning.specs.Groups.{grown}
 use Rattle.commit_meaning.specs.Items.{item_answer}
 use Rattle.commit_meaning.specs.Orders.{by_number}
 use Rattle.commit_meaning.specs.Waves.{diag_number, group_made, limited, most_items, view_before, wave_answers, wave_diags, wave_items, wave_world}
-use Rattle.wave_order.specs.WaveItems.{plain_wave_item}
+use Rattle.wave_order.specs.WaveItems.{plain_pending, plain_wave_item}
+use Rattle.wave_order.specs.declared.pending.Pending.{Pending}
 use Rattle.wave_order.specs.declared.wave_item.WaveItem.{WaveItem}
 use Rattle.commit_waves.specs.Captured.{AreNamed}
 use Rattle.commit_waves.specs.Members.{members_at}
@@ -35,31 +36,31 @@ anyhow (Err e) P h = tt
 -- ---- the run
 
 module _ (p : LoadParts) (l : IsLoad p) (os : List Object) (old : List WaveItem) (w : ℕ) (named : AreNamed p.store (map plain_wave_item old)) (v : WorldView)
-    (ev : view_of v ≡ view_before (plain_parts p) (plain_world os old)) (es : v.store.now ≡ p.store) (items : List WaveItem)
-    (ei : map plain_wave_item items ≡ wave_items (plain_parts p) (over os) w) where
+    (ev : view_of v ≡ view_before (plain_parts p) (plain_world os old)) (es : v.store.now ≡ p.store) (items : List Pending)
+    (ei : map plain_pending items ≡ wave_items (plain_parts p) (over os) w) where
   -- what its items captured
-  pub items_named : AreNamed v.store.now (map plain_wave_item items)
-  items_named = subst (λ c. AreNamed c (map plain_wave_item items)) (sym es) (subst (AreNamed p.store) (sym ei) (wave_named p l (over os) w))
+  pub items_named : AreNamed v.store.now (map plain_pending items)
+  items_named = subst (λ c. AreNamed c (map plain_pending items)) (sym es) (subst (AreNamed p.store) (sym ei) (wave_named p l (over os) w))
 
-  items_here : map plain_wave_item items ≡ wave_items (plain_parts p) (plain_world os old) w
+  items_here : map plain_pending items ≡ wave_items (plain_parts p) (plain_world os old) w
   items_here = ei ∙ items_stay (plain_parts p) os (map plain_wave_item old) w
 
   -- the one item that is too many
-  pub limit_told : (x : WaveItem) → most_items < length items → x ≡ get_or items most_items x
-      → limited (Some (plain_wave_item x)) [] ≡ wave_diags (plain_parts p) (plain_world os old) w
+  pub limit_told : (x : Pending) → most_items < length items → x ≡ get_or items most_items x
+      → limited (Some (plain_pending x)) [] ≡ wave_diags (plain_parts p) (plain_world os old) w
   limit_told x more at =
-      too_many (plain_parts p) (plain_world os old) w (map plain_wave_item items) (plain_wave_item x) [] items_here
-      (slice_get-map plain_wave_item items most_items ∙ ap (option_map plain_wave_item) (slice_get-get_or items most_items x more ∙ ap Some (sym at)))
+      too_many (plain_parts p) (plain_world os old) w (map plain_pending items) (plain_pending x) [] items_here
+      (slice_get-map plain_pending items most_items ∙ ap (option_map plain_pending) (slice_get-get_or items most_items x more ∙ ap Some (sym at)))
 
-  module _ (made : List Object) (em : map object_view made ≡ flat_map (λ i. made_in (item_answer (view_of v) i)) (map plain_wave_item items)) (more : List WaveItem)
-      (eg : map plain_wave_item more ≡ filter (group_made (view_of v)) (map plain_wave_item items)) (new : List WaveItem) (en : map plain_wave_item new ≡ map plain_wave_item old ++ map plain_wave_item more) where
-    is_made : IsMade (plain_parts p) (plain_world os old) w (view_of v) (map plain_wave_item items) (map plain_wave_item new) (map object_view made)
+  module _ (made : List Object) (em : map object_view made ≡ flat_map (λ i. made_in (item_answer (view_of v) i)) (map plain_pending items)) (more : List WaveItem)
+      (eg : map plain_wave_item more ≡ filter (group_made (view_of v)) (map plain_pending items)) (new : List WaveItem) (en : map plain_wave_item new ≡ map plain_wave_item old ++ map plain_wave_item more) where
+    is_made : IsMade (plain_parts p) (plain_world os old) w (view_of v) (map plain_pending items) (map plain_wave_item new) (map object_view made)
     is_made = record { items = items_here; groups = en ∙ ap (λ xs. map plain_wave_item old ++ xs) eg; objects = em }
 
     -- what the groups captured then
     pub still_named : AreNamed p.store (map plain_wave_item new)
     still_named =
-        subst (AreNamed p.store) (sym (groups_are (plain_parts p) (plain_world os old) w (view_of v) ev (map plain_wave_item items) (map plain_wave_item new) (map object_view made) is_made))
+        subst (AreNamed p.store) (sym (groups_are (plain_parts p) (plain_world os old) w (view_of v) ev (map plain_pending items) (map plain_wave_item new) (map object_view made) is_made))
         (groups_named p l (plain_world os old) w named)
 
     pub groups_known : AreNamed v.store.now (map plain_wave_item new)
@@ -69,14 +70,14 @@ module _ (p : LoadParts) (l : IsLoad p) (os : List Object) (old : List WaveItem)
     pub world_then : (joined ps : List Object) → map object_view joined ≡ map (λ o. grown o (members_at (view_of v) (map plain_wave_item new) o)) (map object_view made) → ps ≡ os ++ joined
         → plain_world ps new ≡ wave_world (plain_parts p) (plain_world os old) w
     world_then joined ps ej ep =
-        world_is (plain_parts p) (plain_world os old) w (view_of v) ev (map plain_wave_item items) (map plain_wave_item new) (map object_view made) is_made (map object_view ps) (map object_view joined)
+        world_is (plain_parts p) (plain_world os old) w (view_of v) ev (map plain_pending items) (map plain_wave_item new) (map object_view made) is_made (map object_view ps) (map object_view joined)
         (ap (map object_view) ep ∙ map-append object_view os joined) ej
 
     -- what is told of it
     pub wave_told : (rules both all : List Diag) → length items ≤ most_items → rules ≡ flat_map diags_in (wave_answers (plain_parts p) (over os) w)
-        → both ≡ rules ++ flat_map (λ i. diags_in (item_answer (view_of v) i)) (map plain_wave_item items)
+        → both ≡ rules ++ flat_map (λ i. diags_in (item_answer (view_of v) i)) (map plain_pending items)
         → all ≡ both ++ flat_map (λ o. diags_in (members_at (view_of v) (map plain_wave_item new) o)) (map object_view made)
         → by_number diag_number all ≡ wave_diags (plain_parts p) (plain_world os old) w
     wave_told rules both all few er eb ea =
-        diags_are (plain_parts p) (plain_world os old) w (view_of v) ev (map plain_wave_item items) (map plain_wave_item new) (map object_view made) is_made rules both all
-        (subst (λ n. n ≤ most_items) (sym (length-map items plain_wave_item)) few) er eb ea
+        diags_are (plain_parts p) (plain_world os old) w (view_of v) ev (map plain_pending items) (map plain_wave_item new) (map object_view made) is_made rules both all
+        (subst (λ n. n ≤ most_items) (sym (length-map items plain_pending)) few) er eb ea

@@ -1,6 +1,6 @@
 pub mod Plain
 pub mod Captured
 pub mod Globals
-pub mod Prepared
+pub mod Applying
 pub mod Steps
 pub mod Members

@@ -31,13 +31,15 @@ const WAVES: u8 = 6;
 /// before its own. The diagnostics of the first wave that has any are the answer, by number, and nothing of a later one is made;
 /// then come those of all objects together, as `last_phases` (site_phases) says. A wave of more than 1,000,000 items has an
 /// `ItemLimit` at the first that is one too many, and no other.
-pub fn commit_one(alloc: Global, loaded: &Loaded) -> Result<Answer, OutOfMemory>
-    requires { IsLoad loaded.now.parts }
+///
+/// What was loaded goes before the site is made of the objects, so that both don't take memory at once.
+pub fn commit_one(alloc: Global, loaded: Loaded) -> Result<Answer, OutOfMemory>
+    requires { IsLoad loaded.parts }
     // Whether the zone's file is one is what its reader says.
-    ensures value { (bad : Bool) → Decides bad (AreBadBytes (settings_of (globals_of loaded.now.parts.store.cells loaded.now.zone)).zone)
-        → IfOk result (λ a. answer_view a ≡ commit (λ os. phases loaded.now.files (globals_of loaded.now.parts.store.cells loaded.now.zone) os bad)
-        (site_made loaded.now.files (globals_of loaded.now.parts.store.cells loaded.now.zone)) (plain_parts loaded.now.parts)) }
-    ensures files { IfOk result (FilesStay loaded.now.files) }
+    ensures value { (bad : Bool) → Decides bad (AreBadBytes (settings_of (globals_of loaded.parts.store.cells loaded.zone)).zone)
+        → IfOk result (λ a. answer_view a ≡ commit (λ os. phases loaded.files (globals_of loaded.parts.store.cells loaded.zone) os bad)
+        (site_made loaded.files (globals_of loaded.parts.store.cells loaded.zone)) (plain_parts loaded.parts)) }
+    ensures files { IfOk result (FilesStay loaded.files) }
     // A run may begin with every site that is given.
     ensures ready { IfOk result (λ a. IfSite a IsReady) }
 {
@@ -45,7 +47,7 @@ pub fn commit_one(alloc: Global, loaded: &Loaded) -> Result<Answer, OutOfMemory>
     let mut objects = Committed::new(alloc);
     let list = run_waves(alloc, &loaded.parts, &known, &mut objects)?;
     if !list.is_empty() {
-        let files = loaded.files.clone()?;
+        let files = loaded.files;
         return Ok(Answer::Diags { files, list });
     }
     finish(alloc, loaded, objects.into_vec())
@@ -78,19 +80,26 @@ fn run_waves(
 }
 
 /// The last phases over all objects.
-fn finish(alloc: Global, loaded: &Loaded, objects: Vec<Object>) -> Result<Answer, OutOfMemory>
-    requires { IsLoad loaded.now.parts }
-    ensures value { (bad : Bool) → Decides bad (AreBadBytes (settings_of (globals_of loaded.now.parts.store.cells loaded.now.zone)).zone)
-        → IfOk result (λ a. answer_view a ≡ last_part loaded.now.files (globals_of loaded.now.parts.store.cells loaded.now.zone) (map object_view objects.items) bad) }
-    ensures files { IfOk result (FilesStay loaded.now.files) }
+fn finish(alloc: Global, loaded: Loaded, objects: Vec<Object>) -> Result<Answer, OutOfMemory>
+    requires { IsLoad loaded.parts }
+    ensures value { (bad : Bool) → Decides bad (AreBadBytes (settings_of (globals_of loaded.parts.store.cells loaded.zone)).zone)
+        → IfOk result (λ a. answer_view a ≡ last_part loaded.files (globals_of loaded.parts.store.cells loaded.zone) (map object_view objects.items) bad) }
+    ensures files { IfOk result (FilesStay loaded.files) }
     ensures ready { IfOk result (λ a. IfSite a IsReady) }
 {
     // Each object stands in a file of the load, so this gives up nowhere.
     if !are_placed(&loaded.files, &objects) {
         return Err(OutOfMemory);
     }
-    let globals = site_globals(alloc, loaded)?;
-    last_phases(alloc, loaded.files.clone()?, Row::from(objects), globals)
+    let globals = site_globals(alloc, &loaded)?;
+    last_phases(alloc, files_of(loaded), Row::from(objects), globals)
+}
+
+/// The names of the files of a load, of which the rest goes.
+fn files_of(loaded: Loaded) -> Texts
+    ensures { result ≡ loaded.files }
+{
+    loaded.files
 }
 
 /// Whether each object stands in one of these files.

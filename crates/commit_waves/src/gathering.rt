@@ -1,49 +1,48 @@
 // The items of a wave.
-ghost use Rattle.std.specs.Prelude.{◌≡◌, ◌++◌, List, [], false, IfOk, OnOk, map};
+ghost use Rattle.std.specs.Prelude.{◌≡◌, ◌++◌, List, IfOk, OnOk, map};
 ghost use Rattle.std.specs.List.{filter, flat_map};
 ghost use Rattle.site_model.specs.PlainSite.{object_view};
-ghost use Rattle.site_model.specs.declared.object.Object.{Object};
-ghost use Rattle.eval_work.specs.Kept.{PairsNamed, RulesNamed};
-ghost use Rattle.eval_work.specs.Works.{view_of, plain_item, plain_rule};
-ghost use Rattle.apply_rules.specs.Plain.{rule_answer};
+ghost use Rattle.eval_work.specs.Kept.{RulesNamed};
+ghost use Rattle.eval_work.specs.Works.{view_of, plain_rule};
+ghost use Rattle.apply_rules.specs.Plain.{plain_instance};
 ghost use Rattle.item_start.specs.Ready.{IsLawfulView};
 ghost use Rattle.dsl_load.specs.Loads.{plain_parts};
 ghost use Rattle.commit_meaning.specs.Answers.{all_made, diags_in};
-ghost use Rattle.commit_meaning.specs.Rules.{instances as instances_of};
 ghost use Rattle.commit_meaning.specs.Waves.{is_in_wave as in_wave, wave_items, wave_answers};
 ghost use Rattle.commit_meaning.specs.Worlds.{world_view};
-ghost use Rattle.wave_order.specs.WaveItems.{plain_wave_item};
-ghost use Rattle.commit_waves.specs.Prepared.{plain_targets, ArePrepared, AreTargets};
+ghost use Rattle.wave_order.specs.WaveItems.{plain_pending};
+ghost use Rattle.commit_waves.specs.Applying.{faults_by, made_by};
 ghost use Rattle.commit_waves.specs.Steps.{over, answers_at};
 
-use crate::targets::{TargetLists, targets};
-use apply_rules::{PreparedTarget, RuleAnswer, instances};
+use crate::applying::{Applied, apply_to_all, unapplied};
+use crate::making::add_diags;
+use apply_rules::Instance;
 use dsl_load::LoadParts;
-use eval_work::{Committed, Item, Locals, Rule, WorldView};
+use eval_work::{Committed, Rule, WorldView};
 use site_base::{Diags, OutOfMemory, Row};
 use std::alloc::Global;
-use wave_order::{WaveItem, add_registered, is_in_wave, items_by_number};
+use wave_order::{Pending, add_registered, items_by_number};
 
-/// The items of a wave, and what is wrong with its rules.
+/// The items of a wave before their turn, and what is wrong with its rules.
 #[derive(Drop)]
-pub(crate) struct Gathered<'a> {
-    pub(crate) items: Vec<WaveItem<'a>>,
+pub(crate) struct Gathered<'p, 'a> {
+    pub(crate) items: Vec<Pending<'p, 'a>>,
     pub(crate) faults: Diags,
 }
 
 /// Gathers the items of a wave by their numbers: those that the load registered, and those that the rules of the wave make at
 /// what stands before it.
-pub(crate) fn gather<'a>(
+pub(crate) fn gather<'p: 'a, 'a>(
     alloc: Global,
     view: &WorldView,
-    parts: &'a LoadParts,
-    objects: &Committed,
+    parts: &'p LoadParts,
+    objects: &'a Committed,
     wave: u8,
-) -> Result<Gathered<'a>, OutOfMemory>
+) -> Result<Gathered<'p, 'a>, OutOfMemory>
     requires lawful { IsLawfulView view.now }
     requires captured { RulesNamed view.now.store.now parts.now.rules.items }
     requires view { view_of view.now ≡ world_view (plain_parts parts.now) (map object_view objects.now) }
-    ensures items { IfOk result (λ g. map plain_wave_item g.items.items ≡ wave_items (plain_parts parts.now) (over objects.now) wave) }
+    ensures items { IfOk result (λ g. map plain_pending g.items.items ≡ wave_items (plain_parts parts.now) (over objects.now) wave) }
     ensures faults { IfOk result (λ g. g.faults ≡ flat_map diags_in (wave_answers (plain_parts parts.now) (over objects.now) wave)) }
 {
     let mut items = Vec::new(alloc);
@@ -59,109 +58,48 @@ pub(crate) fn gather<'a>(
     })
 }
 
-/// Whether a wave has rules.
-fn has_rules(rules: &[Rule], wave: u8) -> bool
-    ensures { result ≡ false → filter (λ r. in_wave wave r.kind) (map plain_rule rules.now) ≡ [] }
-{
-    for rule in rules {
-        if is_in_wave(wave, rule.kind.as_str()) {
-            return true;
-        }
-    }
-    false
-}
-
-/// Adds what the rules of a wave make, each at all its targets, which are prepared once for all of them.
-fn add_instances(
+/// Adds what the rules of a wave make, each at all its targets.
+fn add_instances<'p, 'a>(
     alloc: Global,
     view: &WorldView,
-    rules: &[Rule],
-    objects: &Committed,
+    rules: &'a [Rule],
+    objects: &'a Committed,
     wave: u8,
-    out: &mut Gathered,
+    out: &mut Gathered<'p, 'a>,
 ) -> Result<(), OutOfMemory>
     requires lawful { IsLawfulView view.now }
     requires captured { RulesNamed view.now.store.now rules.now }
-    ensures items { OnOk result (map plain_wave_item out.new.items.items ≡ map plain_wave_item out.old.items.items ++ flat_map all_made (flat_map (answers_at (view_of view.now) objects.now) (filter (λ r. in_wave wave r.kind) (map plain_rule rules.now)))) }
+    ensures items { OnOk result (map plain_pending out.new.items.items ≡ map plain_pending out.old.items.items ++ flat_map all_made (flat_map (answers_at (view_of view.now) objects.now) (filter (λ r. in_wave wave r.kind) (map plain_rule rules.now)))) }
     ensures faults { OnOk result (out.new.faults ≡ out.old.faults ++ flat_map diags_in (flat_map (answers_at (view_of view.now) objects.now) (filter (λ r. in_wave wave r.kind) (map plain_rule rules.now)))) }
 {
-    if !has_rules(rules, wave) {
-        return Ok(());
-    }
-    let among = TargetLists::new(alloc, view.store, objects)?;
-    let mut spare = Locals::new(alloc);
-    for rule in rules {
-        if is_in_wave(wave, rule.kind.as_str()) {
-            add_rule(alloc, view, rule, objects, &among, &mut spare, out)?;
-        }
+    let of_wave = unapplied(alloc, rules, wave)?;
+    let applied = apply_to_all(alloc, view, objects, of_wave)?;
+    add_applied(applied, out)
+}
+
+/// Adds what rules have made, one rule after another.
+fn add_applied<'p, 'a>(
+    rules: Vec<Applied<'a>>,
+    out: &mut Gathered<'p, 'a>,
+) -> Result<(), OutOfMemory>
+    ensures items { OnOk result (map plain_pending out.new.items.items ≡ map plain_pending out.old.items.items ++ flat_map made_by rules.entry.items) }
+    ensures faults { OnOk result (out.new.faults ≡ out.old.faults ++ flat_map faults_by rules.entry.items) }
+{
+    for applied in rules {
+        add_made(applied.made, &mut out.items)?;
+        add_diags(&mut out.faults, applied.faults)?;
     }
     Ok(())
 }
 
-/// Adds what a rule makes at all its targets.
-fn add_rule(
-    alloc: Global,
-    view: &WorldView,
-    rule: &Rule,
-    objects: &Committed,
-    among: &TargetLists,
-    spare: &mut Locals,
-    out: &mut Gathered,
+fn add_made<'p, 'a>(
+    made: Vec<Instance<'a>>,
+    out: &mut Vec<Pending<'p, 'a>>,
 ) -> Result<(), OutOfMemory>
-    requires lawful { IsLawfulView view.now }
-    requires captured { PairsNamed view.now.store.now rule.now.captured.items }
-    requires among { AreTargets view.now.store.now objects.now among.now }
-    ensures items { OnOk result (map plain_wave_item out.new.items.items ≡ map plain_wave_item out.old.items.items ++ flat_map all_made (answers_at (view_of view.now) objects.now (plain_rule rule.now))) }
-    ensures faults { OnOk result (out.new.faults ≡ out.old.faults ++ flat_map diags_in (answers_at (view_of view.now) objects.now (plain_rule rule.now))) }
+    ensures { OnOk result (map plain_pending out.new.items ≡ map plain_pending out.old.items ++ map plain_instance made.entry.items) }
 {
-    match among.of(rule.target.as_str()) {
-        Some(prepared) => add_at(alloc, view, rule, prepared, spare, out),
-        None => {
-            let prepared = targets(alloc, view.store, rule.target.as_str(), objects)?;
-            add_at(alloc, view, rule, &prepared, spare, out)
-        }
-    }
-}
-
-/// Adds what a rule makes at these targets.
-fn add_at(
-    alloc: Global,
-    view: &WorldView,
-    rule: &Rule,
-    targets: &[PreparedTarget],
-    spare: &mut Locals,
-    out: &mut Gathered,
-) -> Result<(), OutOfMemory>
-    requires lawful { IsLawfulView view.now }
-    requires captured { PairsNamed view.now.store.now rule.now.captured.items }
-    requires prepared { ArePrepared view.now.store.now targets.now }
-    ensures items { OnOk result (map plain_wave_item out.new.items.items ≡ map plain_wave_item out.old.items.items ++ flat_map all_made (map (instances_of (view_of view.now) (plain_rule rule.now)) (plain_targets targets.now))) }
-    ensures faults { OnOk result (out.new.faults ≡ out.old.faults ++ flat_map diags_in (map (instances_of (view_of view.now) (plain_rule rule.now)) (plain_targets targets.now))) }
-{
-    for target in targets {
-        let answer = instances(alloc, view, rule, target, spare)?;
-        add_answer(answer, out)?;
-    }
-    Ok(())
-}
-
-/// Adds what a rule came to at a target. Over a world nothing is blocked.
-fn add_answer(answer: RuleAnswer, out: &mut Gathered) -> Result<(), OutOfMemory>
-    ensures items { OnOk result (map plain_wave_item out.new.items.items ≡ map plain_wave_item out.old.items.items ++ all_made (rule_answer answer)) }
-    ensures faults { OnOk result (out.new.faults ≡ out.old.faults ++ diags_in (rule_answer answer)) }
-{
-    match answer {
-        RuleAnswer::Items(items) => add_made(items, &mut out.items),
-        RuleAnswer::Diag(diag) => out.faults.push(diag),
-        RuleAnswer::Blocked(_) => Ok(()),
-    }
-}
-
-fn add_made(items: Vec<Item>, out: &mut Vec<WaveItem>) -> Result<(), OutOfMemory>
-    ensures { OnOk result (map plain_wave_item out.new.items ≡ map plain_wave_item out.old.items ++ map plain_item items.items) }
-{
-    for item in items {
-        out.push(WaveItem::Made(item))?;
+    for instance in made {
+        out.push(Pending::Made(instance))?;
     }
     Ok(())
 }

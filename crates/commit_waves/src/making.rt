@@ -2,24 +2,27 @@
 ghost use Rattle.std.specs.Prelude.{◌≡◌, ◌++◌, [], IfOk, OnOk, map};
 ghost use Rattle.std.specs.List.{filter, flat_map};
 ghost use Rattle.site_model.specs.PlainSite.{object_view};
+ghost use Rattle.eval_work.specs.Kept.{PairsNamed};
 ghost use Rattle.eval_work.specs.Works.{view_of};
 ghost use Rattle.item_start.specs.Ready.{IsLawfulView};
+ghost use Rattle.apply_rules.specs.Keys.{AreKeys};
 ghost use Rattle.commit_meaning.specs.Answers.{made_in, diags_in};
 ghost use Rattle.commit_meaning.specs.Items.{item_answer};
 ghost use Rattle.commit_meaning.specs.Waves.{group_made, is_group as group_type};
 ghost use Rattle.object_types.specs.Names.{type_named};
-ghost use Rattle.wave_order.specs.WaveItems.{plain_wave_item};
+ghost use Rattle.wave_order.specs.WaveItems.{plain_pending, plain_wave_item};
 ghost use Rattle.item_body.specs.Plain.{plain_answer};
 ghost use Rattle.commit_waves.specs.Captured.{AreNamed};
 ghost use Rattle.commit_waves.specs.Steps.{groups_by};
 
+use apply_rules::PresetKeys;
 use eval_work::WorldView;
 use item_body::{ItemAnswer, run_item};
 use object_types::ObjectType;
 use site_base::{Diags, OutOfMemory, Row};
 use site_model::Object;
 use std::alloc::Global;
-use wave_order::WaveItem;
+use wave_order::{Pending, WaveItem};
 
 /// What items have come to: their objects, the items of which groups were made, and what is wrong.
 #[derive(Drop)]
@@ -29,28 +32,48 @@ pub(crate) struct Objects<'a> {
     pub(crate) faults: Diags,
 }
 
-/// Makes the objects of items, one after another.
-pub(crate) fn make_objects<'a>(
+/// Makes the objects of items, one after another. What a rule makes becomes an item when its turn comes.
+pub(crate) fn make_objects<'p, 'a>(
     alloc: Global,
     view: &WorldView,
-    items: Vec<WaveItem<'a>>,
-) -> Result<Objects<'a>, OutOfMemory>
+    items: Vec<Pending<'p, 'a>>,
+) -> Result<Objects<'p>, OutOfMemory>
     requires lawful { IsLawfulView view.now }
-    requires named { AreNamed view.now.store.now (map plain_wave_item items.items) }
-    ensures objects { IfOk result (λ o. map object_view o.objects.items ≡ flat_map (λ i. made_in (item_answer (view_of view.now) i)) (map plain_wave_item items.entry.items)) }
-    ensures groups { IfOk result (λ o. map plain_wave_item o.groups.items ≡ filter (group_made (view_of view.now)) (map plain_wave_item items.entry.items)) }
-    ensures faults { IfOk result (λ o. o.faults ≡ flat_map (λ i. diags_in (item_answer (view_of view.now) i)) (map plain_wave_item items.entry.items)) }
+    requires named { AreNamed view.now.store.now (map plain_pending items.items) }
+    ensures objects { IfOk result (λ o. map object_view o.objects.items ≡ flat_map (λ i. made_in (item_answer (view_of view.now) i)) (map plain_pending items.entry.items)) }
+    ensures groups { IfOk result (λ o. map plain_wave_item o.groups.items ≡ filter (group_made (view_of view.now)) (map plain_pending items.entry.items)) }
+    ensures faults { IfOk result (λ o. o.faults ≡ flat_map (λ i. diags_in (item_answer (view_of view.now) i)) (map plain_pending items.entry.items)) }
 {
     let mut made = Objects {
         objects: Vec::new(alloc),
         groups: Vec::new(alloc),
         faults: Row::new(alloc),
     };
-    for item in items {
-        let answer = run_item(alloc, view, item.item())?;
-        add_answer(item, answer, &mut made)?;
+    let keys = PresetKeys::new(alloc)?;
+    for pending in items {
+        make(alloc, view, &keys, pending, &mut made)?;
     }
     Ok(made)
+}
+
+/// Adds what an item comes to, which goes then unless it is a group's.
+fn make<'p, 'a>(
+    alloc: Global,
+    view: &WorldView,
+    keys: &PresetKeys,
+    pending: Pending<'p, 'a>,
+    out: &mut Objects<'p>,
+) -> Result<(), OutOfMemory>
+    requires lawful { IsLawfulView view.now }
+    requires keys { AreKeys keys.now }
+    requires named { PairsNamed view.now.store.now (plain_pending pending).captured }
+    ensures objects { OnOk result (map object_view out.new.objects.items ≡ map object_view out.old.objects.items ++ made_in (item_answer (view_of view.now) (plain_pending pending.entry))) }
+    ensures groups { OnOk result (map plain_wave_item out.new.groups.items ≡ map plain_wave_item out.old.groups.items ++ groups_by (plain_pending pending.entry) (item_answer (view_of view.now) (plain_pending pending.entry))) }
+    ensures faults { OnOk result (out.new.faults ≡ out.old.faults ++ diags_in (item_answer (view_of view.now) (plain_pending pending.entry))) }
+{
+    let whole = pending.into_item(alloc, keys)?;
+    let answer = run_item(alloc, view, whole.item())?;
+    add_answer(whole, answer, out)
 }
 
 /// Adds what an item came to. Over a world nothing is blocked.

@@ -3,11 +3,11 @@ ghost use Rattle.std.specs.Prelude.{◌≡◌, [], Some, IfOk, map};
 ghost use Rattle.object_types.specs.Names.{all_types, type_name};
 ghost use Rattle.dsl_load.specs.Loads.{IsLoad, plain_parts};
 ghost use Rattle.commit_meaning.specs.Waves.{limited, wave_world, wave_diags};
-ghost use Rattle.wave_order.specs.WaveItems.{plain_wave_item};
+ghost use Rattle.wave_order.specs.WaveItems.{plain_pending, plain_wave_item};
 ghost use Rattle.commit_waves.specs.Captured.{AreNamed};
 ghost use Rattle.commit_waves.specs.Plain.{plain_world};
 
-use crate::gathering::gather;
+use crate::gathering::{Gathered, gather};
 use crate::joining::join_groups;
 use crate::making::{add_diags, make_objects};
 use crate::world::{add_groups, add_objects, view_before};
@@ -15,7 +15,7 @@ use dsl_load::LoadParts;
 use eval_work::{Committed, Known};
 use site_base::{Diag, DiagKind, Diags, OutOfMemory, Row, Text};
 use std::alloc::Global;
-use wave_order::{WaveItem, diags_by_number};
+use wave_order::{Pending, WaveItem, diags_by_number};
 
 /// A wave has so many items at most.
 const MOST_ITEMS: usize = 1_000_000;
@@ -39,13 +39,12 @@ pub(crate) fn run_wave<'a>(
     ensures named { IfOk result (λ ds. ds ≡ [] → AreNamed parts.now.store (map plain_wave_item groups.new.items)) }
 {
     let view = view_before(parts, objects, known);
-    let gathered = gather(alloc, &view, parts, objects, wave)?;
-    if gathered.items.len() > MOST_ITEMS {
-        return too_many(alloc, &gathered.items[MOST_ITEMS]);
+    let Gathered { items, mut faults } = gather(alloc, &view, parts, objects, wave)?;
+    if items.len() > MOST_ITEMS {
+        return too_many(alloc, &items[MOST_ITEMS]);
     }
-    let made = make_objects(alloc, &view, gathered.items)?;
+    let made = make_objects(alloc, &view, items)?;
     add_groups(groups, made.groups)?;
-    let mut faults = gathered.faults;
     add_diags(&mut faults, made.faults)?;
     let joined = join_groups(alloc, &view, groups, made.objects, &mut faults)?;
     add_objects(objects, joined)?;
@@ -53,14 +52,13 @@ pub(crate) fn run_wave<'a>(
 }
 
 /// The fault of the first item that is one too many.
-fn too_many(alloc: Global, item: &WaveItem) -> Result<Diags, OutOfMemory>
-    ensures { IfOk result (λ ds. ds ≡ limited (Some (plain_wave_item item.now)) []) }
+fn too_many(alloc: Global, item: &Pending) -> Result<Diags, OutOfMemory>
+    ensures { IfOk result (λ ds. ds ≡ limited (Some (plain_pending item.now)) []) }
 {
-    let item = item.item();
     let mut list = Row::new(alloc);
     list.push(Diag {
-        number: item.number,
-        place: item.place,
+        number: item.number(),
+        place: item.place(),
         kind: DiagKind::ItemLimit,
         text: Text::new(alloc),
     })?;

@@ -2,7 +2,7 @@
 ghost use Rattle.item_start.specs.Ready.{IsLawfulView};
 
 use crate::shown::{begin_answer, push_fault, push_item};
-use apply_rules::{PreparedTarget, RuleAnswer, Target, instances};
+use apply_rules::{PreparedTarget, PresetKeys, RuleAnswer, Target, instances};
 use case_loads::{NoAnswer, Scene, are_named, push_read};
 use eval_work::{Locals, Rule, WorldView};
 use item_start::text_of;
@@ -75,7 +75,7 @@ fn push_rule(
     let prepared = PreparedTarget::new(alloc, view.store, target)?;
     let mut spare = Locals::new(alloc);
     let answer = instances(alloc, view, rule, &prepared, &mut spare)?;
-    push_answer(alloc, out, scene, &answer, with_names)?;
+    push_answer(alloc, out, scene, answer, with_names)?;
     Ok(())
 }
 
@@ -83,22 +83,24 @@ fn push_answer(
     alloc: Global,
     out: &mut Text,
     scene: &Scene,
-    answer: &RuleAnswer,
+    answer: RuleAnswer,
     with_names: bool,
 ) -> Result<(), OutOfMemory> {
     match answer {
-        RuleAnswer::Items(items) => {
-            for item in items {
+        RuleAnswer::Instances(made) => {
+            let keys = PresetKeys::new(alloc)?;
+            for instance in made {
                 begin_answer(out)?;
-                push_item(alloc, out, item, with_names)?;
+                let item = instance.into_item(alloc, &keys)?;
+                push_item(alloc, out, &item, with_names)?;
             }
             Ok(())
         }
-        RuleAnswer::Diag(fault) => push_fault(alloc, out, fault, &scene.sources.names),
+        RuleAnswer::Diag(fault) => push_fault(alloc, out, &fault, &scene.sources.names),
         RuleAnswer::Blocked(read) => {
             begin_answer(out)?;
             out.push_str("blocked on ")?;
-            push_read(out, read)
+            push_read(out, &read)
         }
     }
 }

@@ -36,7 +36,7 @@ pub fn config_answer<F: Files>(
     ensures unfailing { F.calm files.old → result ≢ Err LoadFault.Failed }
 {
     match load(alloc, files, root)? {
-        LoadAnswer::Loaded(loaded) => Ok(commit_one(alloc, &loaded)?),
+        LoadAnswer::Loaded(loaded) => Ok(commit_one(alloc, loaded)?),
         LoadAnswer::Diags { files, list } => Ok(Answer::Diags { files, list }),
     }
 }

@@ -3,20 +3,20 @@ ghost use Rattle.std.specs.Prelude.{◌≡◌, ◌++◌, OnOk, map};
 ghost use Rattle.std.specs.List.{filter};
 ghost use Rattle.eval_work.specs.Works.{plain_item};
 ghost use Rattle.commit_meaning.specs.Waves.{is_in_wave as in_wave};
-ghost use Rattle.wave_order.specs.WaveItems.{kept, plain_wave_item};
+ghost use Rattle.wave_order.specs.WaveItems.{kept, plain_pending};
 
-use crate::WaveItem;
+use crate::Pending;
 use eval_work::Item;
 use object_types::ObjectType;
 use site_base::OutOfMemory;
 
 /// Adds the items of a wave, from 1, to 6, in their order.
-pub fn add_registered<'a>(
-    out: &mut Vec<WaveItem<'a>>,
-    items: &'a [Item],
+pub fn add_registered<'p, 'a>(
+    out: &mut Vec<Pending<'p, 'a>>,
+    items: &'p [Item],
     wave: u8,
 ) -> Result<(), OutOfMemory>
-    ensures { OnOk result (map plain_wave_item out.new.items ≡ map plain_wave_item out.old.items ++ filter (λ i. in_wave wave i.kind) (map plain_item items.now)) }
+    ensures { OnOk result (map plain_pending out.new.items ≡ map plain_pending out.old.items ++ filter (λ i. in_wave wave i.kind) (map plain_item items.now)) }
 {
     for item in items {
         add_one(out, item, wave)?;
@@ -24,11 +24,15 @@ pub fn add_registered<'a>(
     Ok(())
 }
 
-fn add_one<'a>(out: &mut Vec<WaveItem<'a>>, item: &'a Item, wave: u8) -> Result<(), OutOfMemory>
-    ensures { OnOk result (map plain_wave_item out.new.items ≡ map plain_wave_item out.old.items ++ kept (in_wave wave item.now.kind) (plain_item item.now)) }
+fn add_one<'p, 'a>(
+    out: &mut Vec<Pending<'p, 'a>>,
+    item: &'p Item,
+    wave: u8,
+) -> Result<(), OutOfMemory>
+    ensures { OnOk result (map plain_pending out.new.items ≡ map plain_pending out.old.items ++ kept (in_wave wave item.now.kind) (plain_item item.now)) }
 {
     if is_in_wave(wave, item.kind.as_str()) {
-        out.push(WaveItem::Registered(item))?;
+        out.push(Pending::Registered(item))?;
     }
     Ok(())
 }

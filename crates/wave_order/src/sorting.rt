@@ -2,14 +2,16 @@
 ghost use Rattle.std.specs.Prelude.{◌≡◌, IfOk, map};
 ghost use Rattle.commit_meaning.specs.Orders.{by_number};
 ghost use Rattle.commit_meaning.specs.Waves.{diag_number, item_number};
-ghost use Rattle.wave_order.specs.WaveItems.{plain_wave_item};
+ghost use Rattle.wave_order.specs.WaveItems.{plain_pending};
 
-use crate::WaveItem;
+use crate::Pending;
 use site_base::{Diags, OutOfMemory, Row};
 
 /// Items by their numbers; those of one number keep their order.
-pub fn items_by_number<'a>(items: Vec<WaveItem<'a>>) -> Result<Vec<WaveItem<'a>>, OutOfMemory>
-    ensures { IfOk result (λ sorted. map plain_wave_item sorted.items ≡ by_number item_number (map plain_wave_item items.entry.items)) }
+pub fn items_by_number<'p, 'a>(
+    items: Vec<Pending<'p, 'a>>,
+) -> Result<Vec<Pending<'p, 'a>>, OutOfMemory>
+    ensures { IfOk result (λ sorted. map plain_pending sorted.items ≡ by_number item_number (map plain_pending items.entry.items)) }
 {
     let mut sorted = items;
     sorted.sort_by_key(|item| item.number())?;

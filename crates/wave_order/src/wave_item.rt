@@ -4,9 +4,8 @@ ghost use Rattle.eval_work.specs.Works.{plain_item};
 ghost use Rattle.wave_order.specs.WaveItems.{plain_wave_item};
 
 use eval_work::Item;
-use site_base::ItemNo;
 
-/// An item of a wave: one that the load registered, or one that a rule made.
+/// An item of a wave whose turn has come: one that the load registered, or one that a rule made.
 #[derive(Drop)]
 pub enum WaveItem<'a> {
     Registered(&'a Item),
@@ -20,15 +19,6 @@ impl<'a> WaveItem<'a> {
         match self {
             WaveItem::Registered(item) => item,
             WaveItem::Made(item) => item,
-        }
-    }
-
-    pub fn number(&self) -> ItemNo
-        ensures { result ≡ (plain_wave_item self.now).number }
-    {
-        match self {
-            WaveItem::Registered(item) => item.number,
-            WaveItem::Made(item) => item.number,
         }
     }
 }

@@ -2,7 +2,7 @@ use Rattle.std.proofs.Common.{◌≡◌, [], ◌++◌, List, Option, map, sym, a
 use Rattle.eval_meaning.specs.Registered.{PlainItem}
 use Rattle.eval_meaning.specs.States.{gives, ◌>>=◌}
 use Rattle.eval_work.specs.Works.{state_of, view_of, plain_pair, plain_rule, Gives}
-use Rattle.eval_work.specs.declared.item.Item.{Item}
+use Rattle.apply_rules.specs.declared.instance.Instance.{Instance}
 use Rattle.commit_meaning.specs.Names.{target_names}
 use Rattle.commit_meaning.specs.Rules.{element_judged, element_run}
 use Rattle.commit_meaning.specs.Starts.{trees_at}
@@ -25,4 +25,4 @@ returns-clause-gives c =
     let run : element_run v r t k e s ≡ judged_element v r t k e.key (target_names t ++ us) (state_of c.enter_with.new.work) =
     ap (λ o. o >>= λ own s1. element_judged v r t k e (target_names t ++ own) s1) trees
     ∙ (element_is v r t k e (target_names t ++ us) s ∙ ap (judged_element v r t k e.key (target_names t ++ us)) (sym frame)) in
-    subst (Gives {X = Option Item} {Y = List PlainItem} plain_kept c.judged_item.result (state_of c.judged_item.new.work)) (sym run) c.judged_item.ensures.gives
+    subst (Gives {X = Option Instance} {Y = List PlainItem} plain_kept c.judged_item.result (state_of c.judged_item.new.work)) (sym run) c.judged_item.ensures.gives

@@ -1,6 +1,5 @@
-use Rattle.std.proofs.Common.{◌≡◌, List, [], ◌==◌, length, map, false, IfOk, sym, ap, ◌∙◌, subst}
+use Rattle.std.proofs.Common.{◌≡◌, List, [], ◌==◌, length, map, false, IfOk, refl, sym, ap, ◌∙◌, subst}
 use Rattle.std.proofs.lemmas.Bool.{false≢true}
-use Rattle.std.specs.List.{each_same}
 use Rattle.site_base.specs.declared.diag.Diag.{Diag}
 use Rattle.site_model.specs.PlainSite.{object_view}
 use Rattle.dsl_load.specs.Loads.{plain_parts}
@@ -15,16 +14,16 @@ something ds some none = absurd (false≢true (sym some ∙ ap (λ xs. length xs
 
 pub returns-then-not-is_empty-clause-value : goal.returns-then-not-is_empty-clause-value
 returns-then-not-is_empty-clause-value c = λ bad decided.
-    let l = c.args.loaded.now in
+    let l = c.args.loaded in
     refused_in_waves (λ os. phases l.files (globals_of l.parts.store.cells l.zone) os bad) (site_made l.files (globals_of l.parts.store.cells l.zone)) (plain_parts l.parts) c.in_ok-list.list c.in_ok-list.ensures.diags
     (something c.in_ok-list.list (sym c.is_empty.ensures ∙ c.if-not-is_empty.true))
 
 pub returns-then-not-is_empty-clause-files : goal.returns-then-not-is_empty-clause-files
-returns-then-not-is_empty-clause-files c = each_same c.args.loaded.now.files c.in_ok-files.files c.in_ok-files.ensures.cases
+returns-then-not-is_empty-clause-files c = refl
 
 pub returns-clause-value : goal.returns-clause-value
 returns-clause-value c = λ bad decided.
-    let l = c.args.loaded.now in
+    let l = c.args.loaded in
     let g = globals_of l.parts.store.cells l.zone in
     let none = nothing c.in_ok-list.list (sym c.is_empty.ensures ∙ c.if-not-is_empty.false) in
     let same = ap (λ os. last_part l.files g (map object_view os) bad) c.into_vec.ensures ∙ ap (λ os. last_part l.files g os bad) (c.in_ok-list.ensures.objects none)

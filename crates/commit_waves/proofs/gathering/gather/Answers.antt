@@ -1,14 +1,14 @@
 use Rattle.std.proofs.Common.{map, ap}
 use Rattle.dsl_load.specs.Loads.{plain_parts}
 use Rattle.eval_work.specs.Works.{view_of, plain_item, plain_rule}
-use Rattle.wave_order.specs.WaveItems.{plain_wave_item}
+use Rattle.wave_order.specs.WaveItems.{plain_pending}
 use Rattle.commit_waves.proofs.WaveLaws.{faults_from, items_from}
 use Rattle.commit_waves.proofs.gathering.gather.Goals as goal
 
 pub returns-clause-items : goal.returns-clause-items
 returns-clause-items c =
     items_from (plain_parts c.args.parts.now) (view_of c.args.view.now) c.args.objects.now c.args.wave c.requires.view _ _ _ _ (map plain_item c.deref.result.now) (map plain_rule c.deref-2.result.now)
-    (ap (map plain_wave_item) c.new-items.ensures.items) (ap (map plain_item) c.deref.ensures.value) (ap (map plain_rule) c.deref-2.ensures.value)
+    (ap (map plain_pending) c.new-items.ensures.items) (ap (map plain_item) c.deref.ensures.value) (ap (map plain_rule) c.deref-2.ensures.value)
     c.in_ok-add_registered.ensures c.in_ok-add_instances.ensures.items c.in_ok-items_by_number.ensures
 
 pub returns-clause-faults : goal.returns-clause-faults

@@ -7,16 +7,16 @@ use Rattle.eval_work.specs.Works.{view_of}
 use Rattle.commit_meaning.specs.Answers.{made_in, diags_in}
 use Rattle.commit_meaning.specs.Items.{item_answer}
 use Rattle.commit_meaning.specs.Waves.{group_made}
-use Rattle.wave_order.specs.WaveItems.{plain_wave_item}
+use Rattle.wave_order.specs.WaveItems.{plain_pending, plain_wave_item}
 use Rattle.commit_waves.specs.Captured.{AreNamed}
 use Rattle.commit_waves.proofs.making.make_objects.Given as goal
 
-abbrev pub invariant-loop-item : goal.invariant-loop-item
-invariant-loop-item l =
-    (map object_view l.made.objects.items ++ flat_map (λ i. made_in (item_answer (view_of l.view) i)) (map plain_wave_item (into_iter_items l.item-iterator))
-    ≡ flat_map (λ i. made_in (item_answer (view_of l.view) i)) (map plain_wave_item l.fn.items.items))
-    × ((map plain_wave_item l.made.groups.items ++ filter (group_made (view_of l.view)) (map plain_wave_item (into_iter_items l.item-iterator))
-    ≡ filter (group_made (view_of l.view)) (map plain_wave_item l.fn.items.items))
-    × ((l.made.faults ++ flat_map (λ i. diags_in (item_answer (view_of l.view) i)) (map plain_wave_item (into_iter_items l.item-iterator))
-    ≡ flat_map (λ i. diags_in (item_answer (view_of l.view) i)) (map plain_wave_item l.fn.items.items))
-    × AreNamed l.view.store.now (map plain_wave_item (into_iter_items l.item-iterator))))
+abbrev pub invariant-loop-pending : goal.invariant-loop-pending
+invariant-loop-pending l =
+    (map object_view l.made.objects.items ++ flat_map (λ i. made_in (item_answer (view_of l.view) i)) (map plain_pending (into_iter_items l.pending-iterator))
+    ≡ flat_map (λ i. made_in (item_answer (view_of l.view) i)) (map plain_pending l.fn.items.items))
+    × ((map plain_wave_item l.made.groups.items ++ filter (group_made (view_of l.view)) (map plain_pending (into_iter_items l.pending-iterator))
+    ≡ filter (group_made (view_of l.view)) (map plain_pending l.fn.items.items))
+    × ((l.made.faults ++ flat_map (λ i. diags_in (item_answer (view_of l.view) i)) (map plain_pending (into_iter_items l.pending-iterator))
+    ≡ flat_map (λ i. diags_in (item_answer (view_of l.view) i)) (map plain_pending l.fn.items.items))
+    × AreNamed l.view.store.now (map plain_pending (into_iter_items l.pending-iterator))))

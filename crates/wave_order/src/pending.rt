@@ -1,0 +1,50 @@
+// The items of a wave before their turn.
+ghost use Rattle.std.specs.Prelude.{◌≡◌, IfOk};
+ghost use Rattle.apply_rules.specs.Keys.{AreKeys};
+ghost use Rattle.wave_order.specs.WaveItems.{plain_pending, plain_wave_item};
+
+use crate::WaveItem;
+use apply_rules::{Instance, PresetKeys};
+use eval_work::Item;
+use site_base::{ItemNo, OutOfMemory, Place};
+use std::alloc::Global;
+
+/// An item of a wave before its turn: one that the load registered, or what a rule makes at a target, which has no copies of trees yet.
+#[derive(Drop)]
+pub enum Pending<'p, 'a> {
+    Registered(&'p Item),
+    Made(Instance<'a>),
+}
+
+impl<'p, 'a> Pending<'p, 'a> {
+    /// The number by which the items of a wave stand.
+    pub fn number(&self) -> ItemNo
+        ensures { result ≡ (plain_pending self.now).number }
+    {
+        match self {
+            Pending::Registered(item) => item.number,
+            Pending::Made(instance) => instance.number(),
+        }
+    }
+
+    /// Where the statement of its object or its rule stands.
+    pub fn place(&self) -> Place
+        ensures { result ≡ (plain_pending self.now).place }
+    {
+        match self {
+            Pending::Registered(item) => item.place,
+            Pending::Made(instance) => instance.place(),
+        }
+    }
+
+    /// The item itself.
+    pub fn into_item(self, alloc: Global, keys: &PresetKeys) -> Result<WaveItem<'p>, OutOfMemory>
+        requires { AreKeys keys.now }
+        ensures { IfOk result (λ w. plain_wave_item w ≡ plain_pending self.entry) }
+    {
+        match self {
+            Pending::Registered(item) => Ok(WaveItem::Registered(item)),
+            Pending::Made(instance) => Ok(WaveItem::Made(instance.into_item(alloc, keys)?)),
+        }
+    }
+}
