@@ -39,7 +39,7 @@ pub(crate) fn push_outcome(alloc: Global, out: &mut Text, case: Case) -> Result<
 }
 
 /// Adds a status as its number and name.
-fn push_status(out: &mut Text, status: Status) -> Result<(), OutOfMemory> {
+pub(crate) fn push_status(out: &mut Text, status: Status) -> Result<(), OutOfMemory> {
     out.push_decimal(u64::from(status.number()))?;
     out.push(' ')?;
     out.push_str(status.name())
