@@ -6,16 +6,15 @@
 #![tactic(auto)]
 
 mod case;
-mod live;
 mod named;
 mod outcome;
 
 use crate::case::Case;
-use crate::live::push_live;
 use crate::named::Named;
-use crate::outcome::{push_outcome, push_statuses};
+use crate::outcome::{push_live, push_outcome, push_statuses};
 use site_base::{OutOfMemory, Text};
 use std::io::{BufRead, BufReader};
+use std::thread::Threads;
 
 fn main(rt: HostRuntime) -> anyhow::Result<()> {
     // The whole table is read first: over the real world standard input has then ended.
@@ -25,20 +24,25 @@ fn main(rt: HostRuntime) -> anyhow::Result<()> {
     }
     let mut named = Named::new(rt.alloc());
     for line in lines.as_slice() {
-        let told = told(&rt, &mut named, line.as_str())?;
+        let told = told(&rt, rt.clone()?, &mut named, line.as_str())?;
         println!(rt; "{}", told.as_str())?;
     }
     Ok(())
 }
 
 /// The line, with what the program gives if it is a row.
-fn told(rt: &HostRuntime, named: &mut Named, line: &str) -> Result<Text, OutOfMemory> {
+fn told<T: Threads + Drop>(
+    rt: &HostRuntime,
+    threads: T,
+    named: &mut Named,
+    line: &str,
+) -> Result<Text, OutOfMemory> {
     let alloc = rt.alloc();
     let mut out = Text::copy_of(alloc, line)?;
     if let Some(row) = line.strip_prefix("run") {
         push_outcome(alloc, &mut out, Case::read(alloc, named, row)?)?;
     } else if let Some(row) = line.strip_prefix("live ") {
-        push_live(rt, &mut out, Case::read(alloc, named, row)?)?;
+        push_live(rt, threads, &mut out, Case::read(alloc, named, row)?)?;
     } else if let Some(definition) = line.strip_prefix("text ") {
         named.define(alloc, definition)?;
     } else if let Some(more) = line.strip_prefix("| ") {

@@ -1,45 +1,79 @@
 // What the program gives.
 use crate::case::Case;
-use site_base::{OutOfMemory, Text, quote};
-use site_edge::{MemFiles, MemSink, MemWorld, Order};
+use live_world::LiveWorld;
+use site_base::{Blob, OutOfMemory, Row, Text, quote};
+use site_edge::{MemFiles, MemSink, MemWorld, Order, World};
 use site_program::{Status, run_one};
 use site_text::{ScriptError, read_script};
 use std::alloc::Global;
 use std::str;
+use std::thread::Threads;
 
 /// Runs the program as a case says, and adds the status and, each on a line of its own, the lines of the output and the orders that
 /// were started.
 pub(crate) fn push_outcome(alloc: Global, out: &mut Text, case: Case) -> Result<(), OutOfMemory> {
-    let Case {
-        words,
-        files,
-        reads,
-        puts,
-        turns,
-        world,
-    } = case;
-    out.push_str("  →  ")?;
-    let script = match read_script(alloc, world.as_slice()) {
+    let script = match read_script(alloc, case.world.as_slice()) {
         Ok(script) => script,
-        Err(ScriptError::BadScript { .. }) => return out.push_str("no such world"),
+        Err(ScriptError::BadScript { .. }) => return out.push_str("  →  no such world"),
         Err(ScriptError::OutOfMemory) => return Err(OutOfMemory),
     };
+    let mut world = MemWorld::new(alloc, script, case.turns);
+    push_answer(
+        alloc,
+        out,
+        &case.words,
+        case.files,
+        case.reads,
+        case.puts,
+        &mut world,
+    )?;
+    push_started(alloc, out, world.started())
+}
+
+/// Runs the program as a case says, but over the clock, standard input and check programs, and adds the status and the lines.
+pub(crate) fn push_live<T: Threads + Drop>(
+    rt: &HostRuntime,
+    threads: T,
+    out: &mut Text,
+    case: Case,
+) -> Result<(), OutOfMemory> {
+    let mut world = LiveWorld::new(rt.clone()?, threads)?;
+    push_answer(
+        rt.alloc(),
+        out,
+        &case.words,
+        case.files,
+        case.reads,
+        case.puts,
+        &mut world,
+    )
+}
+
+/// Runs the program over files and a sink in memory, where these calls fail, and a world.
+fn push_answer<W: World>(
+    alloc: Global,
+    out: &mut Text,
+    words: &[Text],
+    files: Row<(Text, Blob)>,
+    reads: Row<u64>,
+    puts: Row<u64>,
+    world: &mut W,
+) -> Result<(), OutOfMemory> {
+    out.push_str("  →  ")?;
     let mut files = MemFiles::new(alloc, files, reads);
-    let mut world = MemWorld::new(alloc, script, turns);
     let mut sink = MemSink::new(alloc, puts);
-    match run_one(alloc, &words, &mut files, &mut world, &mut sink) {
+    match run_one(alloc, words, &mut files, world, &mut sink) {
         Some(status) => push_status(out, status)?,
         None => out.push_str("nothing")?,
     }
     match str::from_utf8(sink.written()) {
-        Ok(text) => push_lines(out, text)?,
-        Err(_) => out.push_str("\n  no text")?,
+        Ok(text) => push_lines(out, text),
+        Err(_) => out.push_str("\n  no text"),
     }
-    push_started(alloc, out, world.started())
 }
 
 /// Adds a status as its number and name.
-pub(crate) fn push_status(out: &mut Text, status: Status) -> Result<(), OutOfMemory> {
+fn push_status(out: &mut Text, status: Status) -> Result<(), OutOfMemory> {
     out.push_decimal(u64::from(status.number()))?;
     out.push(' ')?;
     out.push_str(status.name())
