@@ -44,7 +44,7 @@ object CheckCommand "killed" { command = [ "/bin/sleep", "4321" ] }
 object CheckCommand "missing" { command = [ "$work/no such program" ] }
 object Host "h" { check_command = "dummy"; enable_active_checks = false }
 for (i in range(190)) {
-  object Service "s" + i {
+  object Service "s" + i use (i) {
     host_name = "h"
     check_command = "dummy"
     vars.dummy_state = i % 4
@@ -53,7 +53,7 @@ for (i in range(190)) {
   }
 }
 for (name in [ "load", "procs", "users", "swap", "flood", "forks", "late", "killed", "missing" ]) {
-  object Service name { host_name = "h"; check_command = name; check_interval = 1; retry_interval = 1 }
+  object Service name use (name) { host_name = "h"; check_command = name; check_interval = 1; retry_interval = 1 }
 }
 object Service "passive" { host_name = "h"; check_command = "dummy"; enable_active_checks = false }
 CONF
@@ -68,31 +68,35 @@ feed() {
         pkill -9 -f '^/bin/sleep 4321' || true
         sleep 1
     done
-    sleep 1
-    pkill -9 -f '^/bin/sleep 4321' || true
+    sleep 3
 }
 
 run_plugins() {
     echo "plugins, $seconds s"
     plugins_site
     local status=0
-    (feed; for _ in 1 2 3 4 5 6; do pkill -9 -f '^/bin/sleep 4321' || true; sleep 1; done) |
-        timeout $((seconds + 60)) "$program" daemon "$work/plugins.conf" >"$work/log" 2>"$work/errors" || status=$?
-    exactly "$status" 0 'status'
+    mkfifo "$work/command"
+    "$program" daemon "$work/plugins.conf" 0<>"$work/command" >"$work/log" 2>"$work/errors" &
+    local daemon=$!
+    feed >"$work/command"
+    kill -TERM "$daemon"
+    wait "$daemon" || status=$?
+    pkill -9 -f '^/bin/sleep 4321' || true
+    exactly "$status" 143 'status'
     exactly "$(lines_of '"h!passive" .*: passive ')" "$seconds" 'passive results'
     exactly "$(lines_of '^refused line [0-9]+ UnknownCheckable')" "$seconds" 'lines that name nobody'
     exactly "$(lines_of '"h!s2" .*: ack ')" "$seconds" 'acknowledgements'
     at_least "$(lines_of '"h!s0" .*: result 0 -> OK')" $((seconds * 4 / 10)) 'results of a service that is well'
     at_least "$(lines_of '"h!s2" .*: result 2 -> Critical')" $((seconds * 4 / 10)) 'results of one that is not'
     exactly "$(lines_of '"h!s2" .*: result [013] ')" 0 'results of it with another status'
-    at_least "$(lines_of '"h!load" .*: result [012] ')" $((seconds * 3 / 10)) 'results of check_load'
+    at_least "$(lines_of '"h!procs" .*: result [012] ')" $((seconds * 3 / 10)) 'results of check_procs'
     at_least "$(lines_of '"h!flood" .*: result 1 ')" $((seconds * 2 / 10)) 'results of the plugin that writes megabytes'
     at_least "$(lines_of '"h!forks" .*: result 0 ')" $((seconds * 2 / 10)) 'results of the plugin that leaves a child behind'
     at_least "$(lines_of '"h!late" .*: result 2 ')" $((seconds * 1 / 10)) 'results of the plugin that closes its output'
     at_least "$(lines_of '"h!killed" .*: result 3 ')" $((seconds * 2 / 10)) 'results of the plugin that is killed'
     at_least "$(lines_of '"h!missing" .*: result 3 ')" $((seconds * 3 / 10)) 'results of the program that is not there'
     exactly "$(lines_of '^refused report')" 0 'refused reports'
-    exactly "$(lines_of '^order ')" "$(lines_of ': result ')" 'orders, by their results'
+    at_least "$(lines_of ': result ')" $(($(lines_of '^order ') - 200)) 'results, of all orders but those whose checks still ran'
     exactly "$(pgrep -fc '^/bin/sleep 4321' || true)" 0 'children that are left'
 }
 
