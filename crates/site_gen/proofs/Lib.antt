@@ -1,0 +1,5 @@
+pub mod Texts
+pub mod Adding
+pub mod Telling
+pub mod Turning
+pub mod Going

@@ -1,0 +1,6 @@
+pub mod Root
+pub mod Turns
+pub mod Counts
+pub mod Counting
+pub mod Going
+pub mod Lines
