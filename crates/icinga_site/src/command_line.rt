@@ -16,6 +16,7 @@ usage:
   icinga_site objects ROOT          lists them
   icinga_site replay ROOT SCRIPT    writes the log of the turns of SCRIPT over the site of ROOT
   icinga_site daemon ROOT           runs the checks of that site, takes command lines from standard input, and writes the log
+  icinga_site gen N                 runs a generated site of N hosts, from 1 to 10000, and writes five counts
   icinga_site --help                prints this text
   icinga_site --version             prints the program's version
 

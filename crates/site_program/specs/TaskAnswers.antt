@@ -1,23 +1,27 @@
 -- What a run writes for a task over files and the turns of the world.
-use Rattle.std.specs.Prelude.{ℕ, ◌≡◌, ◌⊎◌, Bool, true, false, List, Option, Some, None, IfSome}
+use Rattle.std.specs.Prelude.{ℕ, ◌≡◌, ◌⊎◌, Bool, true, false, List, [], ◌∷◌, codes, length, Option, Some, None, IfSome}
 use Rattle.std.specs.Bool.{Decides}
 use Rattle.commit_meaning.specs.Commits as commits
 use Rattle.commit_meaning.specs.Commits.{Committed}
 use Rattle.run_text.specs.declared.style.Style.{Style}
 use Rattle.site_edge.specs.Told.{find_file}
 use Rattle.site_edge.specs.declared.turn.Turn.{Turn}
+use Rattle.site_gen.specs.Counts.{AreCounts}
+use Rattle.site_gen.specs.Lines.{count_lines}
+use Rattle.site_gen.specs.Root.{root_text}
+use Rattle.site_gen.specs.declared.counts.Counts.{Counts}
 use Rattle.site_load.specs.Configs.{IsBadZone, config_outcome, names_of}
 use Rattle.site_load.specs.Loads.{load_outcome}
 use Rattle.site_model.specs.PlainSite.{PlainSite}
 use Rattle.site_program.specs.Runs.{replied}
-use Rattle.site_replies.specs.Replies.{bad_script, config_reply, diagnoses, no_script}
+use Rattle.site_replies.specs.Replies.{bad_script, config_reply, diagnoses, listed, no_script}
 use Rattle.site_replies.specs.declared.replies.Shown.{Shown}
 use Rattle.site_replies.specs.declared.replies.Shown.TheVariants as shown
 use Rattle.site_run.specs.Ends.{Outside}
 use Rattle.site_run.specs.Logs.{AnswersWorld, IsLog, Went, Whole}
 use Rattle.site_run.specs.declared.status.Status.{Status}
 use Rattle.site_text.specs.Scripts.{Answer, Has, told, bad_line}
-use Rattle.site_words.specs.Tasks.{Task, check, daemon, objects, replay}
+use Rattle.site_words.specs.Tasks.{Task, check, daemon, generate, objects, replay}
 
 abbrev pub Files : Type 0
 Files = List (List ℕ × List ℕ)
@@ -56,21 +60,41 @@ abbrev pub AnswersBytes : Style → List ℕ → PlainSite → Option (List ℕ)
 AnswersBytes style script s None w = w ≡ replied (no_script script)
 AnswersBytes style script s (Some bytes) w = (a : Answer) × Has bytes a × AnswersScript style script s a w
 
+-- Generated sites.
+
+-- how many objects a site lists, and what is counted of its run over so many hosts
+pub record IsCounted (hosts : ℕ) (s : PlainSite) (w : Whole) : Type 0 where
+  pub counts : Counts
+  pub are : AreCounts hosts s counts
+  pub is : w ≡ replied (record { lines = count_lines (length (listed s.objects)) counts; diagnosed = false })
+
+-- the name of the one file of a generated site
+abbrev pub root_name : List ℕ
+root_name = codes "gen"
+
+abbrev pub files_of : ℕ → Files
+files_of hosts = (root_name, root_text hosts) ∷ []
+
+abbrev pub AnswersGenerated : ℕ → Whole → Type 0
+AnswersGenerated hosts w = AnswersSite (files_of hosts) root_name (IsCounted hosts) w
+
 -- Tasks.
 
-abbrev pub AnswersTask : Task → Files → Option (List Turn) → Whole → Type 0
-AnswersTask (check root) files turns w = AnswersShown files shown.Count root w
-AnswersTask (objects root) files turns w = AnswersShown files shown.Listing root w
-AnswersTask (replay style root script) files turns w = AnswersSite files root (λ s. AnswersBytes style script s (find_file script files)) w
-AnswersTask (daemon style root) files turns w = AnswersSite files root (AnswersWorld style most_turns turns) w
-
--- what answers to a task where the files are told, and else anything
+-- what answers to a task. Where it is over files and they aren't told, anything does.
 abbrev pub Answers : Task → Option Files → Option (List Turn) → Whole → Type 0
-Answers task files turns w = IfSome files (λ all. AnswersTask task all turns w)
+Answers (check root) files turns w = IfSome files (λ all. AnswersShown all shown.Count root w)
+Answers (objects root) files turns w = IfSome files (λ all. AnswersShown all shown.Listing root w)
+Answers (replay style root script) files turns w = IfSome files (λ all. AnswersSite all root (λ s. AnswersBytes style script s (find_file script all)) w)
+Answers (daemon style root) files turns w = IfSome files (λ all. AnswersSite all root (AnswersWorld style most_turns turns) w)
+Answers (generate hosts) files turns w = AnswersGenerated hosts w
 
 abbrev pub is_daemon : Task → Bool
 is_daemon (daemon style root) = true
 is_daemon task = false
+
+abbrev pub is_generate : Task → Bool
+is_generate (generate hosts) = true
+is_generate task = false
 
 -- How far a daemon came: nowhere near the world, or over the site of its root.
 

@@ -1,13 +1,14 @@
 // The whole run, with one worker.
-ghost use Rattle.std.specs.Prelude.{◌≡◌, ◌≢◌, ◌↔◌, Bool, false, None, Some, IsSome, IfSome};
+ghost use Rattle.std.specs.Prelude.{◌≡◌, ◌≢◌, ◌↔◌, Bool, false, true, None, Some, IsSome, IfSome};
 ghost use Rattle.site_edge.specs.Told.{Rose};
 ghost use Rattle.site_words.specs.Tasks.{task_of as task_in, task_view};
 ghost use Rattle.site_run.specs.Logs.{EndsRun};
 ghost use Rattle.site_run.specs.Ends.{outside};
-ghost use Rattle.site_program.specs.TaskAnswers.{Answers, Came, is_daemon};
+ghost use Rattle.site_program.specs.TaskAnswers.{Answers, Came, is_daemon, is_generate};
 
 use crate::config::show_objects;
 use crate::daemon::watch;
+use crate::generate::generate;
 use crate::replay::replay;
 use site_base::Text;
 use site_edge::{Files, Sink, World};
@@ -18,8 +19,8 @@ use std::alloc::Global;
 
 /// Does what the words of a command line ask for, with one worker, and waits for nobody but the world.
 ///
-/// It answers `None` exactly for words that ask for several workers; no words do so yet. `world` is touched by `daemon` alone, and after
-/// `Usage` nothing is.
+/// It answers `None` exactly for words that ask for several workers; no words do so yet. `world` is touched by `daemon` alone, `files` by
+/// all words but `gen`, and after `Usage` nothing is.
 pub fn run_one<F: Files, W: World, S: Sink>(
     alloc: Global,
     words: &[Text],
@@ -41,6 +42,7 @@ pub fn run_one<F: Files, W: World, S: Sink>(
 
     ensures told { F.told files.new ≡ F.told files.old }
     ensures untouched { IfSome (task_in words.now) (λ task. is_daemon task ≡ false → world.new ≡ world.old) }
+    ensures unread { IfSome (task_in words.now) (λ task. is_generate task ≡ true → files.new ≡ files.old) }
     ensures read_fault { result ≡ Some Status.ReadFault → Rose (F.faults files.old) (F.faults files.new) }
     ensures write_fault { result ≡ Some Status.WriteFault → Rose (S.faults out.old) (S.faults out.new) }
     ensures world_fault { result ≡ Some Status.WorldFault → Rose (W.faults world.old) (W.faults world.new) }
@@ -68,6 +70,7 @@ fn run_task<F: Files, W: World, S: Sink>(
     ensures came { Came result (task_view task.entry) (F.told files.old) (outside (W.turns world.old) (W.started world.old) (S.written out.old)) (outside (W.turns world.new) (W.started world.new) (S.written out.new)) }
     ensures told { F.told files.new ≡ F.told files.old }
     ensures untouched { is_daemon (task_view task.entry) ≡ false → world.new ≡ world.old }
+    ensures unread { is_generate (task_view task.entry) ≡ true → files.new ≡ files.old }
     ensures read_fault { result ≡ Status.ReadFault → Rose (F.faults files.old) (F.faults files.new) }
     ensures write_fault { result ≡ Status.WriteFault → Rose (S.faults out.old) (S.faults out.new) }
     ensures world_fault { result ≡ Status.WorldFault → Rose (W.faults world.old) (W.faults world.new) }
@@ -85,5 +88,6 @@ fn run_task<F: Files, W: World, S: Sink>(
             script,
         } => replay(alloc, style, root, script, files, out),
         Task::Daemon { style, root } => watch(alloc, style, root, files, world, out),
+        Task::Generate { hosts } => generate(alloc, hosts, out),
     }
 }

@@ -3,4 +3,4 @@
 
 mod replies;
 
-pub use replies::{Reply, Shown, bad_script, diagnoses, no_script, reply_to_config};
+pub use replies::{Reply, Shown, bad_script, count_listed, diagnoses, no_script, reply_to_config};

@@ -92,7 +92,8 @@ fn count_line(alloc: Global, objects: &[Object]) -> Result<Text, OutOfMemory>
     Ok(line)
 }
 
-fn count_listed(objects: &[Object]) -> u64
+/// How many objects are listed.
+pub fn count_listed(objects: &[Object]) -> u64
     ensures { result ≡ length (listed (map object_view objects.now)) }
 {
     let mut count = 0;

@@ -1,12 +1,14 @@
 -- What the program is asked to do.
-use Rattle.std.specs.Prelude.{ℕ, ◌==◌, ◌&&◌, not, Bool, false, List, [], ◌∷◌, Option, Some, None, if◌then◌else◌, codes}
+use Rattle.std.specs.Prelude.{ℕ, ◌==◌, ◌&&◌, nat_le, not, Bool, false, List, [], ◌∷◌, Option, Some, None, if◌then◌else◌, option_map, codes}
 use Rattle.std.specs.Str.{bytes_eq}
 use Rattle.run_text.specs.declared.style.Style.{Style}
 use Rattle.run_text.specs.declared.style.Style.TheVariants as style
+use Rattle.site_text.specs.ScriptReading.{Read, bad, got}
+use Rattle.site_text.specs.Wholes.{whole_at}
 use Rattle.site_words.specs.declared.words.Task as declared
-use Rattle.site_words.specs.declared.words.Task.TheVariants.{Check, Daemon, Objects, Replay}
+use Rattle.site_words.specs.declared.words.Task.TheVariants.{Check, Daemon, Generate, Objects, Replay}
 
--- what words ask for, by the names of files
+-- what words ask for, by the names of files or the number of hosts
 pub data Task : Type 0 where
   -- of a root
   check : List ℕ → Task
@@ -15,12 +17,15 @@ pub data Task : Type 0 where
   replay : Style → List ℕ → List ℕ → Task
   -- in a version of the log, of a root
   daemon : Style → List ℕ → Task
+  -- of a generated site of so many hosts
+  generate : ℕ → Task
 
 abbrev pub task_view : declared.Task → Task
 task_view (Check root) = check root.now
 task_view (Objects root) = objects root.now
 task_view (Replay style root script) = replay style root.now script.now
 task_view (Daemon style root) = daemon style root.now
+task_view (Generate hosts) = generate hosts
 
 -- a file's name: it isn't empty and doesn't begin with `-`
 abbrev pub is_file_word : List ℕ → Bool
@@ -43,6 +48,19 @@ replay_task version w root script =
 abbrev pub daemon_task : Style → List ℕ → List ℕ → Option Task
 daemon_task version w root = if bytes_eq w (codes "daemon") && is_file_word root then Some (daemon version root) else None
 
+-- a number of hosts: from 1 to 10,000, and nothing stands behind its digits
+abbrev pub few_hosts : Read ℕ → Option ℕ
+few_hosts (got n []) = if nat_le 1 n && nat_le n 10000 then Some n else None
+few_hosts (got n (b ∷ bs)) = None
+few_hosts bad = None
+
+abbrev pub hosts_in : List ℕ → Option ℕ
+hosts_in w = few_hosts (whole_at w)
+
+-- `gen N`
+abbrev pub generate_task : List ℕ → Option Task
+generate_task w = option_map generate (hosts_in w)
+
 abbrev pub is_log_option : List ℕ → Bool
 is_log_option w = bytes_eq w (codes "--log")
 
@@ -60,7 +78,10 @@ logged version ws =
     else None
 
 abbrev pub two_words : List ℕ → List ℕ → Option Task
-two_words w x = if bytes_eq w (codes "daemon") then daemon_task style.One w x else plain_task w x
+two_words w x =
+    if bytes_eq w (codes "daemon") then daemon_task style.One w x
+    else if bytes_eq w (codes "gen") then generate_task x
+    else plain_task w x
 
 -- words that don't begin with an option; it may stand behind them
 abbrev pub command_task : List (List ℕ) → Option Task

@@ -1,11 +1,15 @@
 // What the words of a command line ask for.
 ghost use Rattle.std.specs.Prelude.{◌≡◌, ◌&&◌, option_map};
-ghost use Rattle.site_words.specs.Tasks.{command_task, daemon_task as task_of_daemon, is_file_word as names_file, is_log_option as is_option, logged as logged_by, logged_task as task_logged, plain_task as task_plain, replay_task as task_of_replay, task_of as task_in, task_view, two_words as task_of_two};
+ghost use Rattle.site_words.specs.Tasks.{command_task, daemon_task as task_of_daemon, generate_task as task_of_generate, hosts_in, is_file_word as names_file, is_log_option as is_option, logged as logged_by, logged_task as task_logged, plain_task as task_plain, replay_task as task_of_replay, task_of as task_in, task_view, two_words as task_of_two};
 
 use run_text::Style;
 use site_base::Text;
+use site_text::read_whole;
 
-/// What the words of a command line ask for. Each names files: a root, and a script.
+/// How many hosts a generated site has at most.
+const MOST_HOSTS: u64 = 10_000;
+
+/// What the words of a command line ask for. Each but `gen` names files: a root, and a script.
 #[derive(Clone, Copy, Debug)]
 pub enum Task<'a> {
     /// `check ROOT`: how many objects the files from the root on make.
@@ -26,6 +30,10 @@ pub enum Task<'a> {
     Daemon {
         style: Style,
         root: &'a str,
+    },
+    /// `gen N`: what is counted of the run of a generated site of so many hosts.
+    Generate {
+        hosts: u32,
     },
 }
 
@@ -78,10 +86,28 @@ fn logged_task(style: Style, words: &[Text]) -> Option<Task<'_>>
 fn two_words<'a>(word: &'a Text, named: &'a Text) -> Option<Task<'a>>
     ensures { option_map task_view result ≡ task_of_two word.now named.now }
 {
-    if word.as_str() == "daemon" {
-        daemon_task(Style::One, word, named)
-    } else {
-        plain_task(word, named)
+    match word.as_str() {
+        "daemon" => daemon_task(Style::One, word, named),
+        "gen" => generate_task(named),
+        _ => plain_task(word, named),
+    }
+}
+
+/// What is asked of a generated site of the number of hosts that a word tells.
+fn generate_task(number: &Text) -> Option<Task<'_>>
+    ensures { option_map task_view result ≡ task_of_generate number.now }
+{
+    let hosts = hosts_of(number)?;
+    Some(Task::Generate { hosts })
+}
+
+/// The number of hosts that a word tells: from 1 to 10,000, in decimal digits without a leading zero.
+fn hosts_of(number: &Text) -> Option<u32>
+    ensures { result ≡ hosts_in number.now }
+{
+    match read_whole(number.as_bytes()) {
+        Some((hosts, [])) if 1 <= hosts && hosts <= MOST_HOSTS => Some(hosts as u32),
+        _ => None,
     }
 }
 
