@@ -3,7 +3,7 @@
 _icinga_site() {
     local word=${COMP_WORDS[COMP_CWORD]}
     case $COMP_CWORD in
-    1) mapfile -t COMPREPLY < <(compgen -W "check objects replay daemon --log --help --version" -- "$word") ;;
+    1) mapfile -t COMPREPLY < <(compgen -W "check objects replay daemon gen --log --help --version" -- "$word") ;;
     2)
         case ${COMP_WORDS[1]} in
         check | objects | replay | daemon) mapfile -t COMPREPLY < <(compgen -f -- "$word") ;;
