@@ -12,14 +12,14 @@ before=
 for hosts in 1250 2500 5000 10000; do
     /usr/bin/time -f '%U %S %M' -o "$work/time" taskset -c 0 "$program" gen "$hosts" >"$work/counts"
     read -r user system memory <"$work/time"
-    awk -v hosts="$hosts" -v user="$user" -v system="$system" -v memory="$memory" -v before="$before" '
+    awk -v hosts="$hosts" -v user="$user" -v kernel="$system" -v memory="$memory" -v before="$before" '
         { of[$1] = $2 }
         END {
-            printf "%d hosts: %d objects, %d entries, %.2f s, %.0f bytes a host", hosts, of["objects"], of["entries"], user + system, memory * 1024 / hosts
-            if (before != "") printf ", %.2f times as long", (user + system) / before
+            printf "%d hosts: %d objects, %d entries, %.2f s, %.0f bytes a host", hosts, of["objects"], of["entries"], user + kernel, memory * 1024 / hosts
+            if (before != "") printf ", %.2f times as long", (user + kernel) / before
             print ""
         }' "$work/counts"
-    before=$(awk -v user="$user" -v system="$system" 'BEGIN { print user + system }')
+    before=$(awk -v user="$user" -v kernel="$system" 'BEGIN { print user + kernel }')
 done
 
 "$program" gen 1000 >"$work/counts"
