@@ -12,21 +12,21 @@ use std::thread::Threads;
 /// Runs the program as a case says, and adds the status and, each on a line of its own, the lines of the output and the orders that
 /// were started.
 pub(crate) fn push_outcome(alloc: Global, out: &mut Text, case: Case) -> Result<(), OutOfMemory> {
-    let script = match read_script(alloc, case.world.as_slice()) {
+    let Case {
+        words,
+        files,
+        reads,
+        puts,
+        turns,
+        world,
+    } = case;
+    let script = match read_script(alloc, world.as_slice()) {
         Ok(script) => script,
         Err(ScriptError::BadScript { .. }) => return out.push_str("  →  no such world"),
         Err(ScriptError::OutOfMemory) => return Err(OutOfMemory),
     };
-    let mut world = MemWorld::new(alloc, script, case.turns);
-    push_answer(
-        alloc,
-        out,
-        &case.words,
-        case.files,
-        case.reads,
-        case.puts,
-        &mut world,
-    )?;
+    let mut world = MemWorld::new(alloc, script, turns);
+    push_answer(alloc, out, &words, files, reads, puts, &mut world)?;
     push_started(alloc, out, world.started())
 }
 
@@ -37,16 +37,16 @@ pub(crate) fn push_live<T: Threads + Drop>(
     out: &mut Text,
     case: Case,
 ) -> Result<(), OutOfMemory> {
+    let Case {
+        words,
+        files,
+        reads,
+        puts,
+        turns: _,
+        world: _,
+    } = case;
     let mut world = LiveWorld::new(rt.clone()?, threads)?;
-    push_answer(
-        rt.alloc(),
-        out,
-        &case.words,
-        case.files,
-        case.reads,
-        case.puts,
-        &mut world,
-    )
+    push_answer(rt.alloc(), out, &words, files, reads, puts, &mut world)
 }
 
 /// Runs the program over files and a sink in memory, where these calls fail, and a world.
