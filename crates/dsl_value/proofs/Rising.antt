@@ -1,5 +1,6 @@
 -- Pairs that are put in one after another.
-use Rattle.std.proofs.Common.{◌≡◌, ℕ, Bool, true, false, cond, ◌&&◌, T, Option, Some, None, List, [], ◌∷◌, ◌++◌, length, refl, sym, ap, subst, ◌∙◌}
+use Rattle.std.proofs.Common.{◌≡◌, ℕ, suc, Bool, true, false, cond, ◌&&◌, T, Option, Some, None, List, [], ◌∷◌, ◌++◌, length, get_or, ◌+◌, refl, sym, ap, subst, ◌∙◌, arith}
+use Rattle.std.specs.List.{AllAdjacentBelow}
 use Rattle.std.specs.Ordering.{match_ordering, ordering_reverse, is_lt, eq_by_cmp}
 use Rattle.std.specs.FinMap.Entries as entries
 use Rattle.std.specs.declared.cmp.Ordering.{Ordering}
@@ -50,6 +51,26 @@ put_behind es (p ∷ ps) h =
 -- pairs whose keys rise stay as they are
 pub dict_of_sorted : (ps : Pairs) → T (is_sorted ps) → dict_of ps [] ≡ ps
 dict_of_sorted ps h = put_behind [] ps h
+
+below_less : (x y : List ℕ) (es : Pairs) → key_cmp x y ≡ Less → T (entries.below_all key_cmp y es) → T (entries.below_all key_cmp x es)
+below_less x y [] p h = tt
+below_less x y (e ∷ es) p h = both _ _ (subst (λ o. T (is_lt o)) (sym (nat_list_cmp_total.trans x y e.0 p (less _ (first _ _ h)))) tt) (below_less x y es p (second _ _ h))
+
+one_more : (m : ℕ) → m + 1 ≡ suc m
+one_more m = omega arith
+
+one_on : (p q : List ℕ × Value) (ps : Pairs) (k : ℕ) (d : List ℕ × Value) → true ≡ is_lt (key_cmp (get_or (p ∷ q ∷ ps) (k + 1) d).0 (get_or (p ∷ q ∷ ps) (k + 1 + 1) d).0)
+    → true ≡ is_lt (key_cmp (get_or (q ∷ ps) k d).0 (get_or (q ∷ ps) (k + 1) d).0)
+one_on p q ps k d h = subst (λ b. b) (λ j. true ≡ is_lt (key_cmp (get_or (p ∷ q ∷ ps) (one_more k j) d).0 (get_or (p ∷ q ∷ ps) (one_more (k + 1) j) d).0)) h
+
+-- pairs of which each key is above the one before it are sorted
+pub risen : (ps : Pairs) → AllAdjacentBelow (λ p q. true ≡ is_lt (key_cmp p.0 q.0)) ps (length ps) → T (is_sorted ps)
+risen [] h = tt
+risen (p ∷ []) h = tt
+risen (p ∷ q ∷ ps) h =
+    let rest = risen (q ∷ ps) (λ k d inside. one_on p q ps k d (h (k + 1) d (omega (arith, inside)))) in
+    let here = subst (λ b. T b) (h 0 q (omega arith)) tt in
+    both _ _ (both _ _ here (below_less p.0 q.0 ps (less _ here) (first _ _ rest))) rest
 
 case_last : (l : Option Value) (b : Bool) (v : Value) (o : Option Value) → or_found l (cond b (Some v) o) ≡ or_found (or_found l (cond b (Some v) None)) o
 case_last (Some w) b v o = refl

@@ -1,5 +1,5 @@
 // Pairs of a key and a value, sorted by the keys' bytes.
-ghost use Rattle.std.specs.Prelude.{◌≡◌, IfOk, IfErr, OnOk, OnErr, IfSome, IfNone, T, Some, None, []};
+ghost use Rattle.std.specs.Prelude.{◌≡◌, IfOk, IfErr, OnOk, OnErr, IfSome, IfNone, IsTrue, T, Some, None, []};
 ghost use Rattle.dsl_value.specs.Pairs.{Pairs, find, is_sorted, put, without, IsAt, IsGapFor, dict_of};
 
 use crate::Value;
@@ -60,13 +60,23 @@ pub(crate) fn remove_pair(pairs: &mut Vec<(Text, Value)>, key: &str)
     }
 }
 
-/// Sorts pairs by their keys. Of equal keys the last has its value kept.
+/// Whether each key is above the one before it.
+fn rises(pairs: &[(Text, Value)]) -> bool
+    ensures { IsTrue result → T (is_sorted pairs.now) }
+{
+    pairs.is_sorted_by(|one, next| one.0.as_str() < next.0.as_str())
+}
+
+/// Sorts pairs by their keys. Of equal keys the last has its value kept. Pairs that rise, as most do, stay as they are.
 pub(crate) fn sorted_pairs(
     alloc: Global,
     pairs: Vec<(Text, Value)>,
 ) -> Result<Vec<(Text, Value)>, OutOfMemory>
     ensures { IfOk result (λ v. v.items ≡ dict_of pairs.items []) }
 {
+    if rises(&pairs) {
+        return Ok(pairs);
+    }
     let mut by_key = BTreeMap::new(alloc);
     for (key, value) in pairs {
         by_key.insert(key, value)?;
