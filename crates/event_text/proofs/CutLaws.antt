@@ -1,10 +1,12 @@
 -- A text is cut at the first mark, both ways.
-use Rattle.std.proofs.Common.{◌≡◌, ℕ, suc, ◌+◌, ◌<◌, ◌≤◌, Bool, true, false, cond, List, [], ◌∷◌, ◌++◌, length, take, drop, refl, sym, ap, ap₂, ◌∙◌, subst, arith, inl, inr, MatchOption, Option, Some, None}
+use Rattle.std.proofs.Common.{◌≡◌, ℕ, suc, ◌+◌, ◌<◌, ◌≤◌, ◌==◌, not, Bool, true, false, cond, List, [], ◌∷◌, ◌++◌, length, take, drop, refl, sym, ap, ap₂, ◌∙◌, subst, arith, inl, inr, MatchOption, Option, Some, None}
 use Rattle.std.proofs.Math.Seq.{take-append_seam, drop-append_seam}
 use Rattle.std.proofs.lemmas.Bool.{cases_lt}
+use Rattle.std.proofs.lemmas.Bool.Decides.{nat_tests}
 use Rattle.std.proofs.lemmas.List.{take-append-drop, length-append}
 use Rattle.std.proofs.lemmas.Slice.Eq.{bytes_eq-Decides}
 use Rattle.std.proofs.lemmas.Str.Pattern.{split_text_parts}
+use Rattle.std.specs.List.{after_first, before_first, position_or_len}
 use Rattle.std.specs.Str.{bytes_eq}
 use Rattle.std.specs.Str.Pattern.{FindsText}
 use denote.Ref.{Bor}
@@ -110,3 +112,54 @@ split_is mark text (Some x) some h = cut_complete mark text x.0.now x.1.now some
   whole = split_text_parts mark text (Some x) h;
   first = λ f c e. elim (cases_lt (length f) h.0) [ inl lt ↦ absurd (h.2.0 (length f) lt c (at_length mark text f c e)) | inr le ↦ omega (arith, h.6) ];
 })
+
+-- a mark of one byte
+abbrev at_byte : ℕ → List ℕ → ℕ
+at_byte c text = position_or_len (λ b. b == c) text
+
+byte_is : (b c : ℕ) (t : Bool) → (b == c) ≡ t → (bs : List ℕ) → bytes_eq (c ∷ []) (take (length (c ∷ [])) (b ∷ bs)) ≡ t
+byte_is b c true e bs =
+    let same : b ≡ c = grind (arith, nat_tests, e) in
+    (bytes_eq-Decides (c ∷ []) (b ∷ [])).1 (ap (λ x. x ∷ []) (sym same))
+byte_is b c false e bs = by (bytes_eq (c ∷ []) (b ∷ [])) refl
+  where
+    by : (t : Bool) → bytes_eq (c ∷ []) (b ∷ []) ≡ t → bytes_eq (c ∷ []) (b ∷ []) ≡ false
+    by false h = h
+    by true h =
+        let same : c ∷ [] ≡ b ∷ [] = (bytes_eq-Decides (c ∷ []) (b ∷ [])).0 h in
+        let other : b ≡ c = cc in
+        absurd (grind (arith, nat_tests, e, other))
+
+pub byte_uncut : (c : ℕ) (text : List ℕ) → at_byte c text ≡ length text → cut_at (c ∷ []) text ≡ uncut
+byte_uncut c [] e = refl
+byte_uncut c (b ∷ bs) e = by (λ h. byte_uncut c bs h) (b == c) refl e
+  where
+    by : (at_byte c bs ≡ length bs → cut_at (c ∷ []) bs ≡ uncut) → (t : Bool) → (b == c) ≡ t → cond (not t) (1 + at_byte c bs) 0 ≡ length (b ∷ bs) → cut_at (c ∷ []) (b ∷ bs) ≡ uncut
+    by again true h e = absurd (omega (arith, e))
+    by again false h e =
+        ap (λ t. cond t (cut [] bs) (with_first b (cut_at (c ∷ []) bs))) (byte_is b c false h bs)
+        ∙ ap (with_first b) (again (omega (arith, e)))
+
+pub byte_cut : (c : ℕ) (text : List ℕ) → at_byte c text < length text → cut_at (c ∷ []) text ≡ cut (before_first (λ b. b == c) text) (after_first (λ b. b == c) text)
+byte_cut c [] e = absurd (omega (arith, e))
+byte_cut c (b ∷ bs) e = by (λ h. byte_cut c bs h) (b == c) refl e
+  where
+    Cuts : ℕ → Type 0
+    Cuts n = cut_at (c ∷ []) (b ∷ bs) ≡ cut (take n (b ∷ bs)) (drop (n + 1) (b ∷ bs))
+
+    by : (at_byte c bs < length bs → cut_at (c ∷ []) bs ≡ cut (before_first (λ x. x == c) bs) (after_first (λ x. x == c) bs)) → (t : Bool) → (b == c) ≡ t
+        → cond (not t) (1 + at_byte c bs) 0 < length (b ∷ bs) → Cuts (cond (not t) (1 + at_byte c bs) 0)
+    by again true h e = ap (λ t. cond t (cut [] bs) (with_first b (cut_at (c ∷ []) bs))) (byte_is b c true h bs)
+    by again false h e =
+        let next : suc (at_byte c bs) ≡ 1 + at_byte c bs = omega arith in
+        let behind : suc (at_byte c bs + 1) ≡ suc (at_byte c bs) + 1 = omega arith in
+        subst Cuts next
+        (ap (λ t. cond t (cut [] bs) (with_first b (cut_at (c ∷ []) bs))) (byte_is b c false h bs)
+        ∙ ap (with_first b) (again (omega (arith, e)))
+        ∙ ap (λ n. cut (b ∷ take (at_byte c bs) bs) (drop n (b ∷ bs))) behind)
+
+pub byte_split : (c : ℕ) (text : List ℕ) (r : Option (Bor (List ℕ) × Bor (List ℕ)))
+    → MatchOption r (position_or_len (λ b. b == c) text ≡ length text) (λ x. (x.0.now ≡ before_first (λ b. b == c) text) × (x.1.now ≡ after_first (λ b. b == c) text) × (position_or_len (λ b. b == c) text < length text))
+    → MatchOption r (cut_at (c ∷ []) text ≡ uncut) (λ x. cut_at (c ∷ []) text ≡ cut x.0.now x.1.now)
+byte_split c text None h = byte_uncut c text h
+byte_split c text (Some x) h = byte_cut c text h.2 ∙ ap₂ cut (sym h.0) (sym h.1)

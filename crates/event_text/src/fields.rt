@@ -4,7 +4,7 @@ ghost use Rattle.event_text.specs.Fields.{field as field_at, fields_in, last_fie
 ghost use Rattle.event_text.specs.Lent.{fields_view, text_view, texts_view};
 
 use crate::Command;
-use crate::cutting::cut;
+use crate::cutting::cut_field;
 use site_base::OutOfMemory;
 use std::alloc::Global;
 
@@ -22,7 +22,7 @@ pub(crate) fn split<'a>(
     let mut rest = text;
     let mut left = count;
     while left > 1 {
-        let Some((front, behind)) = cut(rest, ";") else {
+        let Some((front, behind)) = cut_field(rest) else {
             return Ok(None);
         };
         fields.push(front)?;
@@ -41,7 +41,7 @@ pub(crate) fn split<'a>(
 fn is_last(text: &str, ends_in_text: bool) -> bool
     ensures { result ≡ is_some (last_field ends_in_text text.now) }
 {
-    ends_in_text || cut(text, ";").is_none()
+    ends_in_text || cut_field(text).is_none()
 }
 
 /// The field at a place, or the empty text where there is none.

@@ -1,5 +1,5 @@
 // Which checkables lines name.
-ghost use Rattle.std.specs.Prelude.{◌≡◌, IfOk};
+ghost use Rattle.std.specs.Prelude.{◌≡◌, IfOk, string_bytes};
 ghost use Rattle.std.specs.List.{slice_get};
 ghost use Rattle.site_model.specs.PlainSite.{site_view};
 ghost use Rattle.site_model.specs.Names.{place_of};
@@ -7,7 +7,7 @@ ghost use Rattle.event_text.specs.Lent.{text_view};
 ghost use Rattle.event_text.specs.Reading.{looked_up};
 ghost use Rattle.event_text.specs.Checkables.{full_name, service_at, host_named, service_named, is_host as host_test, is_service_of as service_test, takes_passive as passive_test};
 
-use site_base::{OutOfMemory, Text};
+use site_base::OutOfMemory;
 use site_model::Site;
 use std::alloc::Global;
 
@@ -65,10 +65,12 @@ fn find_service_of(site: &Site, host: u32, name: &str) -> Option<u32>
 }
 
 /// The full name of a service.
-fn service_name(alloc: Global, host: &str, service: &str) -> Result<Text, OutOfMemory>
-    ensures { IfOk result (λ name. name ≡ full_name host.now service.now) }
+fn service_name(alloc: Global, host: &str, service: &str) -> Result<String, OutOfMemory>
+    ensures { IfOk result (λ name. string_bytes name ≡ full_name host.now service.now) }
 {
-    let mut name = Text::copy_of(alloc, host)?;
+    let room = host.len().saturating_add(service.len()).saturating_add(1);
+    let mut name = String::with_capacity(alloc, room)?;
+    name.push_str(host)?;
     name.push('!')?;
     name.push_str(service)?;
     Ok(name)

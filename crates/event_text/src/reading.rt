@@ -9,7 +9,7 @@ ghost use Rattle.event_text.specs.Lines.{Answer, Has};
 ghost use Rattle.event_text.specs.Numbers.{AreWithin};
 ghost use Rattle.event_text.specs.Reading.{Gives, IsError, Tells, line_read, text_read, command_read, named_read, bare_read, fields_read, place_read, judged_read};
 
-use crate::cutting::cut;
+use crate::cutting::{cut, cut_field};
 use crate::events::{event_of, has_span, is_open_to};
 use crate::fields::{field, service_in, split};
 use crate::kind::Kind;
@@ -81,7 +81,7 @@ fn read_text(alloc: Global, line: &str, site: &Site) -> Result<(u32, Event), Lin
 fn read_command(alloc: Global, command: &str, site: &Site) -> Result<(u32, Event), LineError>
     ensures { Gives result (command_read (site_view site.now) command.now) }
 {
-    match cut(command, ";") {
+    match cut_field(command) {
         Some((name, fields)) => read_named(alloc, name, fields, site),
         None => Err(bare_error(command)),
     }
