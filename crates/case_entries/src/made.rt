@@ -5,11 +5,13 @@ ghost use Rattle.site_model.specs.PlainSite.{site_view};
 use checkable_core::is_entry_of;
 use site_base::{OutOfMemory, Text};
 use site_model::{Entry, Site};
-use site_text::push_entry;
+use site_text::{Line, push_entry};
+use std::alloc::Global;
 
 /// Adds the line of an entry that a checkable made, without what ends it; `none of the site` where it names what isn't the site's.
 #[tactic(auto, using(crate::proofs::Printable::printable))]
 pub fn push_made(
+    alloc: Global,
     out: &mut Text,
     site: &Site,
     checkable: u32,
@@ -18,7 +20,9 @@ pub fn push_made(
     requires { checkable < length (site_view site.now).checkables }
 {
     if is_entry_of(site, entry) {
-        push_entry(out, entry, checkable, site)
+        let mut line = Line::new(alloc)?;
+        push_entry(&mut line, entry, checkable, site)?;
+        out.push_str(line.as_str())
     } else {
         out.push_str("none of the site")
     }

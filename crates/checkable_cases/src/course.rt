@@ -173,7 +173,7 @@ impl<'a> Course<'a> {
     /// Adds the entry that the last step made, and what else the checkable shows.
     pub(crate) fn push_answer(&self, out: &mut Text) -> Result<(), OutOfMemory> {
         match &self.made {
-            Some(entry) => push_made(out, self.site, self.checkable, entry)?,
+            Some(entry) => push_made(self.alloc, out, self.site, self.checkable, entry)?,
             None => out.push('-')?,
         }
         push_shown(out, &self.book)

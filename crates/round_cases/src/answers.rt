@@ -3,9 +3,11 @@ use case_entries::push_made;
 use site_base::{OutOfMemory, Text};
 use site_model::Site;
 use site_posts::{Segment, Segments};
+use std::alloc::Global;
 
 /// Adds the entries of a round, by checkable and then by number; `-` where there is none.
 pub(crate) fn push_segments(
+    alloc: Global,
     out: &mut Text,
     site: &Site,
     segments: &Segments,
@@ -17,13 +19,18 @@ pub(crate) fn push_segments(
         if place > 0 {
             out.push_str(" / ")?;
         }
-        push_segment(out, site, segment)?;
+        push_segment(alloc, out, site, segment)?;
     }
     Ok(())
 }
 
 /// Adds the entries of one checkable.
-fn push_segment(out: &mut Text, site: &Site, segment: &Segment) -> Result<(), OutOfMemory> {
+fn push_segment(
+    alloc: Global,
+    out: &mut Text,
+    site: &Site,
+    segment: &Segment,
+) -> Result<(), OutOfMemory> {
     if segment.checkable as usize >= site.checkables.len() {
         return out.push_str("none of the site");
     }
@@ -31,7 +38,7 @@ fn push_segment(out: &mut Text, site: &Site, segment: &Segment) -> Result<(), Ou
         if place > 0 {
             out.push_str(" / ")?;
         }
-        push_made(out, site, segment.checkable, entry)?;
+        push_made(alloc, out, site, segment.checkable, entry)?;
     }
     Ok(())
 }

@@ -66,7 +66,7 @@ fn push_rounds(
         moment = round.moment;
         last = round_one(alloc, site, graph, &zone, &mut books, moment, round.acts)?;
     }
-    push_segments(out, site, &last)
+    push_segments(alloc, out, site, &last)
 }
 
 /// The round of these words, which are `MOMENT ACT, ACT ..`; `None` where they are none.

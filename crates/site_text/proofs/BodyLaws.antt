@@ -1,8 +1,9 @@
 -- Texts between quotes, both ways.
-use Rattle.std.proofs.Common.{◌≡◌, ℕ, zero, suc, ◌<◌, ◌≤◌, ◌==◌, Bool, true, false, cond, List, [], ◌∷◌, ◌++◌, length, get_or, refl, sym, ap, ◌∙◌, append_assoc, arith}
+use Rattle.std.proofs.Common.{◌≡◌, ℕ, zero, suc, ◌<◌, ◌≤◌, ◌==◌, Bool, true, false, cond, List, [], ◌∷◌, ◌++◌, length, take, drop, get_or, ◌+◌, refl, sym, ap, ◌∙◌, subst, append_assoc, arith}
 use Rattle.std.proofs.lemmas.Bool.Decides.{nat_tests}
-use Rattle.std.specs.List.{flat_map}
+use Rattle.std.specs.List.{flat_map, prefix_len}
 use Rattle.site_base.specs.Quoted.{escaped, quoted}
+use Rattle.site_text.specs.Lines.{stands_as_it_is}
 use Rattle.site_text.specs.ScriptReading.{Read, got, bad, unit_at, with_front, body_step, body_within, body_of, quoted_at}
 use Rattle.site_text.proofs.UnitLaws.{unit_sound, unit_complete, unit_shorter, FirstOf, first_of}
 
@@ -109,3 +110,35 @@ quoted_sound (b ∷ bs) text rest e = by (b == 34) refl e
 pub quoted_complete : (text rest : List ℕ) → quoted_at (quoted text ++ rest) ≡ got text rest
 unfolding quoted_at
 quoted_complete text rest = ap quoted_at (quoted_front text rest) ∙ body_complete text rest
+
+-- bytes in front that stand for themselves
+unit_as_it_is : (b : ℕ) (bs : List ℕ) → stands_as_it_is b ≡ true → unit_at (b ∷ bs) ≡ got b bs
+unfolding unit_at
+unit_as_it_is b bs e = grind (arith, nat_tests)
+
+no_quote : (b : ℕ) → stands_as_it_is b ≡ true → (b == 34) ≡ false
+no_quote b e = grind (arith, nat_tests)
+
+no_front : (r : Read (List ℕ)) → with_front [] r ≡ r
+no_front bad = refl
+no_front (got text rest) = refl
+
+pub reads_front : (bs : List ℕ) → with_front (take (prefix_len stands_as_it_is bs) bs) (body_of (drop (prefix_len stands_as_it_is bs) bs)) ≡ body_of bs
+reads_front [] = refl
+reads_front (b ∷ bs) = by (reads_front bs) (stands_as_it_is b) refl
+  where
+    more : ℕ
+    more = prefix_len stands_as_it_is bs
+
+    Reads : ℕ → Type 0
+    Reads n = with_front (take n (b ∷ bs)) (body_of (drop n (b ∷ bs))) ≡ body_of (b ∷ bs)
+
+    next : suc more ≡ 1 + more
+    next = omega arith
+
+    by : with_front (take more bs) (body_of (drop more bs)) ≡ body_of bs → (t : Bool) → stands_as_it_is b ≡ t → Reads (cond t (1 + more) 0)
+    by again true e =
+        subst Reads next
+        (sym (fronts (b ∷ []) (take more bs) (body_of (drop more bs)))
+        ∙ (ap (with_front (b ∷ [])) again ∙ sym (body_more b bs bs b (no_quote b e) (unit_as_it_is b bs e))))
+    by again false e = no_front (body_of (b ∷ bs))

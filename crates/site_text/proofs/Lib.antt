@@ -1,6 +1,7 @@
 pub mod BodyLaws
 pub mod CheckableNames
 pub mod DecimalLaws
+pub mod Lines
 pub mod Parts
 pub mod ScriptLaws
 pub mod ScriptLineLaws

@@ -3,14 +3,15 @@ ghost use Rattle.std.specs.Prelude.{◌≡◌, ◌<◌, ◌++◌, false, length,
 ghost use Rattle.site_model.specs.PlainSite.{site_view};
 ghost use Rattle.site_text.specs.Entries.{decision_text, list_text, note_text, outcome_text, parts_text, users_text, IsDecisionOf, IsOutcomeOf};
 
+use crate::line::Line;
 use crate::site_names::{push_checkable, push_depend, push_notification, push_user};
-use site_base::{OutOfMemory, Text};
+use site_base::OutOfMemory;
 use site_model::{Decision, NoteKind, Outcome, Site};
 
 /// Adds what was decided, or a dash where nothing was.
 #[tactic(auto, using(crate::proofs::Parts::joined))]
 pub fn push_decisions(
-    out: &mut Text,
+    out: &mut Line,
     decisions: &[Decision],
     site: &Site,
 ) -> Result<(), OutOfMemory>
@@ -25,7 +26,7 @@ pub fn push_decisions(
 }
 
 fn push_each_decision(
-    out: &mut Text,
+    out: &mut Line,
     decisions: &[Decision],
     site: &Site,
 ) -> Result<(), OutOfMemory>
@@ -41,7 +42,7 @@ fn push_each_decision(
     Ok(())
 }
 
-fn push_decision(out: &mut Text, decision: &Decision, site: &Site) -> Result<(), OutOfMemory>
+fn push_decision(out: &mut Line, decision: &Decision, site: &Site) -> Result<(), OutOfMemory>
     requires { IsDecisionOf (site_view site.now) decision.now }
     ensures { OnOk result (out.new ≡ out.old ++ decision_text (site_view site.now) decision.now) }
 {
@@ -69,7 +70,7 @@ pub fn kind_name(kind: NoteKind) -> &'static str
     }
 }
 
-fn push_outcome(out: &mut Text, outcome: &Outcome, site: &Site) -> Result<(), OutOfMemory>
+fn push_outcome(out: &mut Line, outcome: &Outcome, site: &Site) -> Result<(), OutOfMemory>
     requires { IsOutcomeOf (site_view site.now) outcome.now }
     ensures { OnOk result (out.new ≡ out.old ++ outcome_text (site_view site.now) outcome.now) }
 {
@@ -104,7 +105,7 @@ fn push_outcome(out: &mut Text, outcome: &Outcome, site: &Site) -> Result<(), Ou
 }
 
 /// Adds a blank and the name of each receiver.
-fn push_users(out: &mut Text, users: &[u32], site: &Site) -> Result<(), OutOfMemory>
+fn push_users(out: &mut Line, users: &[u32], site: &Site) -> Result<(), OutOfMemory>
     requires { All (λ u. u < length site.now.users) users.now }
     ensures { OnOk result (out.new ≡ out.old ++ users_text (site_view site.now) users.now) }
 {

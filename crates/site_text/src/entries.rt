@@ -5,6 +5,7 @@ ghost use Rattle.site_text.specs.Entries.{effect_text, entry_line, head_text, li
 
 use crate::decisions::push_decisions;
 use crate::events::push_event;
+use crate::line::Line;
 use crate::site_names::push_checkable;
 use site_base::{OutOfMemory, Text};
 use site_model::{Entry, Sight, Site, State};
@@ -22,15 +23,15 @@ pub fn print_entry(
     requires { IsPrintable (site_view site.now) checkable entry.now }
     ensures { IfOk result (λ t. t ≡ entry_line (site_view site.now) checkable entry.now) }
 {
-    let mut out = Text::new(alloc);
+    let mut out = Line::new(alloc)?;
     push_entry(&mut out, entry, checkable, site)?;
     out.push('\n')?;
-    Ok(out)
+    out.into_text()
 }
 
 /// Adds the line of an entry without its newline, as [`print_entry`] prints it.
 pub fn push_entry(
-    out: &mut Text,
+    out: &mut Line,
     entry: &Entry,
     checkable: u32,
     site: &Site,
@@ -45,7 +46,7 @@ pub fn push_entry(
 
 /// Adds the checkable's name, and which entry of its history this is.
 #[tactic(auto, unfolding(crate::specs::Entries::start_text))]
-fn push_start(out: &mut Text, entry: &Entry, checkable: u32, site: &Site) -> Result<(), OutOfMemory>
+fn push_start(out: &mut Line, entry: &Entry, checkable: u32, site: &Site) -> Result<(), OutOfMemory>
     requires { checkable < length site.now.checkables }
     ensures { OnOk result (out.new ≡ out.old ++ start_text (site_view site.now) checkable entry.now) }
 {
@@ -57,7 +58,7 @@ fn push_start(out: &mut Text, entry: &Entry, checkable: u32, site: &Site) -> Res
 
 /// Adds the event and the state after it.
 #[tactic(auto, unfolding(crate::specs::Entries::effect_text))]
-fn push_effect(out: &mut Text, entry: &Entry) -> Result<(), OutOfMemory>
+fn push_effect(out: &mut Line, entry: &Entry) -> Result<(), OutOfMemory>
     ensures { OnOk result (out.new ≡ out.old ++ effect_text entry.now) }
 {
     push_event(out, &entry.event)?;
@@ -68,7 +69,7 @@ fn push_effect(out: &mut Text, entry: &Entry) -> Result<(), OutOfMemory>
 
 /// Adds what was seen and what was decided.
 #[tactic(auto, unfolding(crate::specs::Entries::lists_text))]
-fn push_lists(out: &mut Text, entry: &Entry, site: &Site) -> Result<(), OutOfMemory>
+fn push_lists(out: &mut Line, entry: &Entry, site: &Site) -> Result<(), OutOfMemory>
     requires seen { All (λ sight. sight.checkable < length site.now.checkables) entry.now.sights }
     requires decided { All (IsDecisionOf (site_view site.now)) entry.now.decisions }
     ensures { OnOk result (out.new ≡ out.old ++ lists_text (site_view site.now) entry.now) }
@@ -79,7 +80,7 @@ fn push_lists(out: &mut Text, entry: &Entry, site: &Site) -> Result<(), OutOfMem
     push_decisions(out, entry.decisions.as_slice(), site)
 }
 
-fn push_head(out: &mut Text, number: u64, caller: u32, moment: u64) -> Result<(), OutOfMemory>
+fn push_head(out: &mut Line, number: u64, caller: u32, moment: u64) -> Result<(), OutOfMemory>
     ensures { OnOk result (out.new ≡ out.old ++ head_text number caller moment) }
 {
     out.push_decimal(number)?;
@@ -96,7 +97,7 @@ fn void_mark(taken: bool) -> &'static str
     if taken { "" } else { " void" }
 }
 
-fn push_status(out: &mut Text, state: State, hard: bool, attempt: u32) -> Result<(), OutOfMemory>
+fn push_status(out: &mut Line, state: State, hard: bool, attempt: u32) -> Result<(), OutOfMemory>
     ensures { OnOk result (out.new ≡ out.old ++ status_text state hard attempt) }
 {
     out.push_str(state_name(state))?;
@@ -120,7 +121,7 @@ pub fn state_name(state: State) -> &'static str
 
 /// Adds what was seen, or a dash where nothing was.
 #[tactic(auto, using(crate::proofs::Parts::joined))]
-fn push_sights(out: &mut Text, sights: &[Sight], site: &Site) -> Result<(), OutOfMemory>
+fn push_sights(out: &mut Line, sights: &[Sight], site: &Site) -> Result<(), OutOfMemory>
     requires { All (λ sight. sight.checkable < length site.now.checkables) sights.now }
     ensures { OnOk result (out.new ≡ out.old ++ list_text (map (sight_text (site_view site.now)) sights.now)) }
 {
@@ -131,7 +132,7 @@ fn push_sights(out: &mut Text, sights: &[Sight], site: &Site) -> Result<(), OutO
     }
 }
 
-fn push_each_sight(out: &mut Text, sights: &[Sight], site: &Site) -> Result<(), OutOfMemory>
+fn push_each_sight(out: &mut Line, sights: &[Sight], site: &Site) -> Result<(), OutOfMemory>
     requires { All (λ sight. sight.checkable < length site.now.checkables) sights.now }
     ensures { OnOk result (out.new ≡ out.old ++ parts_text false (map (sight_text (site_view site.now)) sights.now)) }
 {
@@ -144,7 +145,7 @@ fn push_each_sight(out: &mut Text, sights: &[Sight], site: &Site) -> Result<(), 
     Ok(())
 }
 
-fn push_sight(out: &mut Text, sight: &Sight, site: &Site) -> Result<(), OutOfMemory>
+fn push_sight(out: &mut Line, sight: &Sight, site: &Site) -> Result<(), OutOfMemory>
     requires { sight.now.checkable < length site.now.checkables }
     ensures { OnOk result (out.new ≡ out.old ++ sight_text (site_view site.now) sight.now) }
 {

@@ -3,11 +3,12 @@ ghost use Rattle.std.specs.Prelude.{◌≡◌, ◌++◌, OnOk};
 ghost use Rattle.std.specs.Fmt.{decimal};
 ghost use Rattle.site_text.specs.Entries.{event_text, length_text, on_text};
 
-use site_base::{OutOfMemory, Text};
+use crate::line::Line;
+use site_base::OutOfMemory;
 use site_model::Event;
 
 /// Adds an event.
-pub fn push_event(out: &mut Text, event: &Event) -> Result<(), OutOfMemory>
+pub fn push_event(out: &mut Line, event: &Event) -> Result<(), OutOfMemory>
     ensures { OnOk result (out.new ≡ out.old ++ event_text event.now) }
 {
     match event {
@@ -46,21 +47,21 @@ pub fn push_event(out: &mut Text, event: &Event) -> Result<(), OutOfMemory>
     }
 }
 
-fn push_numbered(out: &mut Text, word: &str, number: u64) -> Result<(), OutOfMemory>
+fn push_numbered(out: &mut Line, word: &str, number: u64) -> Result<(), OutOfMemory>
     ensures { OnOk result (out.new ≡ out.old ++ (word.now ++ decimal number)) }
 {
     out.push_str(word)?;
     out.push_decimal(number)
 }
 
-fn push_acknowledgement(out: &mut Text, sticky: bool, notify: bool) -> Result<(), OutOfMemory>
+fn push_acknowledgement(out: &mut Line, sticky: bool, notify: bool) -> Result<(), OutOfMemory>
     ensures { OnOk result (out.new ≡ out.old ++ event_text (Event.Ack sticky notify)) }
 {
     out.push_str(if sticky { "ack sticky" } else { "ack normal" })?;
     out.push_str(if notify { " notify" } else { " quiet" })
 }
 
-fn push_length(out: &mut Text, fixed: bool, duration: u64) -> Result<(), OutOfMemory>
+fn push_length(out: &mut Line, fixed: bool, duration: u64) -> Result<(), OutOfMemory>
     ensures { OnOk result (out.new ≡ out.old ++ length_text fixed duration) }
 {
     if fixed {
@@ -70,7 +71,7 @@ fn push_length(out: &mut Text, fixed: bool, duration: u64) -> Result<(), OutOfMe
     }
 }
 
-fn push_switch(out: &mut Text, word: &str, on: bool) -> Result<(), OutOfMemory>
+fn push_switch(out: &mut Line, word: &str, on: bool) -> Result<(), OutOfMemory>
     ensures { OnOk result (out.new ≡ out.old ++ (word.now ++ on_text on)) }
 {
     out.push_str(word)?;

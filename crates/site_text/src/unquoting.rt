@@ -1,7 +1,10 @@
 // Reading quoted texts.
 ghost use Rattle.std.specs.Prelude.{◌≡◌, ◌<◌, ◌≤◌, Some, None, length, IfOk, IfSome, MatchOption};
+ghost use Rattle.std.specs.List.{prefix_len};
+ghost use Rattle.site_text.specs.Lines.{stands_as_it_is};
 ghost use Rattle.site_text.specs.ScriptReading.{got, bad, byte_at, quoted_at, body_of, unit_at, escape_at, is_plain as plain_test, octal_byte as octal_value, is_octal as octal_test, is_written_in_octal as written_in_octal};
 
+use crate::line::stands;
 use site_base::{Blob, OutOfMemory};
 use std::alloc::Global;
 
@@ -22,8 +25,9 @@ fn read_body(alloc: Global, bytes: &[u8]) -> Result<Option<(Blob, &[u8])>, OutOf
     ensures value { IfOk result (λ r. MatchOption r (body_of bytes.now ≡ bad) (λ x. body_of bytes.now ≡ got x.0 x.1.now)) }
     ensures shorter { IfOk result (λ r. IfSome r (λ x. length x.1.now ≤ length bytes.now)) }
 {
-    let mut text = Vec::new(alloc);
-    let mut rest = bytes;
+    let (front, behind) = bytes.split_at(front_len(bytes));
+    let mut text = Vec::from_slice(alloc, front)?;
+    let mut rest = behind;
     while let [first, more @ ..] = rest {
         if *first == b'"' {
             return Ok(Some((Blob::from(text), more)));
@@ -35,6 +39,14 @@ fn read_body(alloc: Global, bytes: &[u8]) -> Result<Option<(Blob, &[u8])>, OutOf
         rest = behind;
     }
     Ok(None)
+}
+
+/// How many bytes in front stand for themselves between quotes.
+fn front_len(bytes: &[u8]) -> usize
+    ensures value { result ≡ prefix_len stands_as_it_is bytes.now }
+    ensures within { result ≤ length bytes.now }
+{
+    bytes.iter().take_while(|byte| stands(**byte)).count()
 }
 
 /// What stands behind this byte, where it stands first.

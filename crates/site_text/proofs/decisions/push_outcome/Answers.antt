@@ -10,4 +10,4 @@ returns-in_ok-push_str-in-Dependency c =
     let Q : List ℕ → Type 0 = λ t. OnOk c.push_depend.result (c.push_depend.new.out ≡ t) in
     let name : List ℕ = name_text (depend_names (site_view c.args.site.now)) c.in-Dependency.depend in
     subst P (sym c.in-Dependency.is)
-    (subst Q (ap (λ t. t ++ name) c.in_ok-push_str-in-Dependency.ensures.ok ∙ append_assoc c.args.out.now (codes "Dependency ") name) c.push_depend.ensures)
+    (subst Q (ap (λ t. t ++ name) c.in_ok-push_str-in-Dependency.ensures ∙ append_assoc c.args.out.now (codes "Dependency ") name) c.push_depend.ensures)

@@ -7,7 +7,7 @@ use Rattle.site_text.proofs.site_names.push_checkable.Goals as goal
 
 pub returns : goal.returns
 returns c =
-    let P : List ℕ → Type 0 = λ n. OnOk c.push_quoted.result (c.push_quoted.new.out ≡ c.args.out.now ++ quoted n) in
+    let P : List ℕ → Type 0 = λ n. OnOk c.push_quoted.result (c.push_quoted.new.self ≡ c.args.out.now ++ quoted n) in
     let spec : CheckSpec = c.index-as_slice-checkable.result in
     let here : spec ≡ get_or c.args.site.now.checkables c.args.checkable spec =
     subst (λ (cs : List CheckSpec). spec ≡ get_or cs c.args.checkable spec) c.as_slice.ensures c.index-as_slice-checkable.is in

@@ -1,7 +1,13 @@
 use Rattle.std.proofs.Common.{◌≡◌, sym, subst, arith}
 use Rattle.site_text.specs.ScriptReading.{with_front, body_of}
-use Rattle.site_text.proofs.BodyLaws.{reads_next}
+use Rattle.site_text.proofs.BodyLaws.{reads_front, reads_next}
 use Rattle.site_text.proofs.unquoting.read_body.Goals as goal
+
+pub loop-rest-init : goal.loop-rest-init
+loop-rest-init c = record {
+  within = omega (arith, c.split_at.ensures.back_len);
+  reads = rw (c.in_ok-text.ensures.items, c.split_at.ensures.front, c.split_at.ensures.back, c.front_len.ensures.value) (reads_front c.args.bytes.now);
+}
 
 pub loop-rest-preserved : goal.loop-rest-preserved
 loop-rest-preserved c = record {
