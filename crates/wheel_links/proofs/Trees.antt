@@ -9,7 +9,7 @@ use Rattle.std.proofs.Math.Pow.{pow_mono}
 use Rattle.std.proofs.lemmas.Option.{none-some, same_Some}
 use Rattle.wheel_links.specs.Due.{IsNextDue, IsNoneDue}
 use Rattle.wheel_links.specs.Members.{Members, empty, moment_of}
-use Rattle.wheel_links.specs.Tree.{IsTree, FitsBut, lesser, node_of}
+use Rattle.wheel_links.specs.Tree.{IsTree, Fits, FitsBut, lesser, node_of}
 use Rattle.wheel_links.proofs.Members.{length-empty, member_within}
 
 pub node-inner : (inner : List (Option ℕ)) (ms : Members) (n : ℕ) → n < length inner → node_of inner ms n ≡ slice_index_or inner n None
@@ -200,6 +200,14 @@ fits-node inner ms p v some low fits is n some_n low_n ne =
           (node-set_other inner ms p v n other) left right
           (fits n some_n (omega arith) other)
     ]
+
+-- where that node has what it is to have already, all inner nodes fit
+pub fits-all : (inner : List (Option ℕ)) (ms : Members) (p : ℕ) → p < length inner → FitsBut p inner ms
+    → slice_index_or inner p None ≡ lesser (node_of inner ms (2 * p)) (node_of inner ms (2 * p + 1)) → FitsBut 0 inner ms
+fits-all inner ms p low fits is n some_n low_n ne = elim (cases_eq n p) [
+  | inl e ↦ subst (λ k. Fits inner ms k) (sym e) (node-inner inner ms p low ∙ is)
+  | inr other ↦ fits n some_n low_n other
+]
 
 none_each : (k i : ℕ) → moment_of (empty k) i ≡ None
 none_each k i = elim (cases_lt i k) [

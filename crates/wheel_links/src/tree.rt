@@ -123,7 +123,7 @@ fn moment_at(inner: &[Option<Moment>], moments: &[Option<Moment>], node: usize) 
     }
 }
 
-/// Rewrites the nodes above a leaf, from the lowest up to the root.
+/// Rewrites the nodes above a leaf, from the lowest up, until one has the moment already that it is to have.
 fn rewrite_above(inner: &mut [Option<Moment>], moments: &[Option<Moment>], leaf: usize)
     requires few { length inner.old ≤ 2 ^ 32 }
     requires some { 0 < leaf }
@@ -137,7 +137,11 @@ fn rewrite_above(inner: &mut [Option<Moment>], moments: &[Option<Moment>], leaf:
         node /= 2;
         let left = moment_at(inner, moments, 2 * node);
         let right = moment_at(inner, moments, 2 * node + 1);
-        inner[node] = lesser(left, right);
+        let least = lesser(left, right);
+        if inner[node] == least {
+            return;
+        }
+        inner[node] = least;
     }
 }
 
