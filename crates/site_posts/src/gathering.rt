@@ -26,9 +26,9 @@ pub(crate) fn gather(
     if let Some(entries) = gathered.get_mut(&checkable) {
         return entries.push(entry);
     }
-    let mut entries = Row::new(alloc);
+    let mut entries = Vec::with_capacity(alloc, 1)?;
     entries.push(entry)?;
-    gathered.insert(checkable, entries)?;
+    gathered.insert(checkable, Row::from(entries))?;
     Ok(())
 }
 

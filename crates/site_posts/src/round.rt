@@ -63,9 +63,10 @@ pub fn round_one(
         moment,
     };
     let mut gathered: Gathered = BTreeMap::new(alloc);
+    let mut sights = Vec::new(alloc);
     for act in list {
         let checkable = act.checkable;
-        let sights = setting.sights(books, checkable)?;
+        setting.look(books, checkable, &mut sights)?;
         let entry = setting.take(books, act, &sights)?;
         gather(alloc, &mut gathered, checkable, entry)?;
     }

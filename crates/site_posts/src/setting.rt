@@ -1,5 +1,5 @@
 // What stays the same through a round, and one act of it.
-ghost use Rattle.std.specs.Prelude.{◌≡◌, ◌<◌, ℕ, length, IfOk, OnErr};
+ghost use Rattle.std.specs.Prelude.{◌≡◌, ◌<◌, ℕ, length, IfOk, OnOk, OnErr};
 ghost use Rattle.site_model.specs.PlainSite.{site_view};
 ghost use Rattle.run_meaning.specs.Alone.{with_entry};
 ghost use Rattle.run_meaning.specs.Turns.{Command, Feed};
@@ -42,12 +42,30 @@ impl<'a> Setting<'a> {
         requires checkable { checkable < length (site_view self.now.site.now).checkables }
         ensures { IfOk result (λ sights. sights.items ≡ shown (site_view self.now.site.now) (histories_of books.now) checkable) }
     {
+        let mut sights = Vec::new(self.alloc);
+        self.look(books, checkable, &mut sights)?;
+        Ok(sights)
+    }
+
+    /// Has these be what the ancestors of a checkable show now, as [`Setting::sights`] gives it.
+    pub(crate) fn look(
+        &self,
+        books: &[Checkable],
+        checkable: u32,
+        sights: &mut Vec<(u32, View)>,
+    ) -> Result<(), OutOfMemory>
+        requires graph { IsGraphOf (site_view self.now.site.now) self.now.graph.now }
+        requires books { AreBooks (site_view self.now.site.now) self.now.moment books.now }
+        requires checkable { checkable < length (site_view self.now.site.now).checkables }
+        ensures { OnOk result (sights.new.items ≡ shown (site_view self.now.site.now) (histories_of books.now) checkable) }
+    {
         let ancestors = self.graph.ancestors(checkable);
-        let mut sights = Vec::with_capacity(self.alloc, ancestors.len())?;
+        sights.clear();
+        sights.reserve_exact(ancestors.len())?;
         for ancestor in ancestors {
             sights.push((*ancestor, books[*ancestor as usize].view()))?;
         }
-        Ok(sights)
+        Ok(())
     }
 
     /// Takes an act by these sights of the ancestors of its checkable, and gives the entry that it makes.

@@ -49,16 +49,16 @@ loop-act-preserved c =
       );
     }
 
-pub sights-requires-clause-checkable : goal.sights-requires-clause-checkable
-sights-requires-clause-checkable c = on_site_first (site_view c.args.site.now) (asked_of c.in-Some.act) _ _ (ap (map asked_of) c.in-Some.ensures.steps.0) c.loop-act.invariant.acts
+pub look-requires-clause-checkable : goal.look-requires-clause-checkable
+look-requires-clause-checkable c = on_site_first (site_view c.args.site.now) (asked_of c.in-Some.act) _ _ (ap (map asked_of) c.in-Some.ensures.steps.0) c.loop-act.invariant.acts
 
 pub take-requires-clause-checkable : goal.take-requires-clause-checkable
 take-requires-clause-checkable c = on_site_first (site_view c.args.site.now) (asked_of c.in-Some.act) _ _ (ap (map asked_of) c.in-Some.ensures.steps.0) c.loop-act.invariant.acts
 
 -- Where it stops.
 
-pub returns-in_err-sights-clause-partly : goal.returns-in_err-sights-clause-partly
-returns-in_err-sights-clause-partly c = λ command feed.
+pub returns-in_err-look-clause-partly : goal.returns-in_err-look-clause-partly
+returns-in_err-look-clause-partly c = λ command feed.
     let so_far = c.loop-act.invariant.so_far in
     let done = so_far.2 command feed in
     on_any_err _

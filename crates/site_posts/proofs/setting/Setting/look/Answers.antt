@@ -3,7 +3,7 @@ use Rattle.std.proofs.Common.{◌<◌, length, get_or}
 use Rattle.std.proofs.lemmas.Option.{slice_get-get_or}
 use Rattle.site_model.specs.PlainSite.{site_view}
 use Rattle.site_posts.proofs.Taking.{ancestor_within, book_within, shown_more}
-use Rattle.site_posts.proofs.setting.Setting.sights.Goals as goal
+use Rattle.site_posts.proofs.setting.Setting.look.Goals as goal
 
 pub bounds-books-ancestor : goal.bounds-books-ancestor
 bounds-books-ancestor c =
