@@ -1,5 +1,6 @@
 -- Whether a checkable is held back, by its book and by what its ancestors show.
-use Rattle.std.proofs.Common.{◌≡◌, ◌<◌, ◌&&◌, ◌||◌, not, ℕ, List, length, Bool, true, false, Option, Some, slice_get, get_or, arith, refl, sym, ap, ◌∙◌}
+use Rattle.std.proofs.Common.{◌≡◌, ◌<◌, ◌==◌, ◌&&◌, ◌||◌, not, ℕ, zero, suc, List, [], ◌∷◌, length, Bool, true, false, Option, Some, slice_get, get_or, arith, refl, sym, ap, ◌∙◌}
+use Rattle.std.proofs.lemmas.Bool.Decides.{nat_tests}
 use Rattle.jiff_tz.specs.declared.tzif.Tzif.{Tzif}
 use Rattle.checkable_core.specs.Contents.{Contents, check_at}
 use Rattle.checkable_core.proofs.Listed.{length_map, spec_is}
@@ -7,7 +8,7 @@ use Rattle.depend_graph.specs.Graph.{HasOrder}
 use Rattle.depend_graph.specs.Outlooks.{holds_in, outlook_of}
 use Rattle.depend_graph.specs.declared.purpose.Purpose.{Purpose}
 use Rattle.depend_graph.proofs.Ancestors.{ancestor_in}
-use Rattle.run_meaning.specs.Reachability.{is_held, period_holds, reach_of}
+use Rattle.run_meaning.specs.Reachability.{depend_or, first_back, is_held, period_holds, reach_in, reach_of, reachable}
 use Rattle.run_meaning.specs.Schedule.{is_off, view_of_index}
 use Rattle.run_meaning.specs.Turns.{Histories, of_index}
 use Rattle.run_meaning.specs.View.{view_of}
@@ -37,6 +38,10 @@ rest_so : (x y z : Bool) → (x && y) ≡ true → z ≡ (not x || (not y || z))
 rest_so true true z h = refl
 rest_so true false z h = absurd cc
 rest_so false y z h = absurd cc
+
+no_items : {X : Type 0} (xs : List X) → (length xs == 0) ≡ true → xs ≡ []
+no_items [] h = refl
+no_items (x ∷ xs) h = absurd (grind (arith, nat_tests))
 
 -- the specification of a checkable, by its place
 pub spec_at : (site : Site) (cs : List CheckSpec) (k : ℕ) (spec : CheckSpec) → cs ≡ site.checkables → k < length (site_view site).checkables → spec ≡ get_or cs k spec → check_view spec ≡ check_at (site_view site) k
@@ -72,5 +77,17 @@ module _ (s : PlainSite) (zone : Option Tzif) (moment : ℕ) (h : Histories) (k 
       → held ≡ is_held (reach_of (outlook_of s zone Purpose.Checks moment (shown s h k)) k) → held ≡ off
   off_by_reach on held w c w_is c_is is test order so =
       so ∙ ap is_held (reach_is s h zone moment k order within (λ q above. ancestor_in s k q above))
+      ∙ rest_so v.checks_on holds (is_held (reach_of (outlook_now s zone moment h) k)) (sym (on_is on w c w_is c_is is) ∙ test)
+      ∙ sym off_is
+
+  -- no check is held back where there are no dependencies
+  none_back : s.depends ≡ [] → (steps : ℕ) → reach_in (outlook_now s zone moment h) steps k ≡ reachable
+  none_back none zero = refl
+  none_back none (suc steps) =
+      ap (λ ds. depend_or (first_back (outlook_now s zone moment h) (λ p. is_held (reach_in (outlook_now s zone moment h) steps p)) k 0 ds) reachable) none
+
+  pub off_without : (on : Bool) (w : View) (c : PlainCheck) → w ≡ v → c ≡ check_at s k → on ≡ (w.checks_on && period_holds (holds_in s zone) c.period moment) → on ≡ true → (length s.depends == 0) ≡ true → false ≡ off
+  off_without on w c w_is c_is is test none =
+      sym (ap is_held (none_back (no_items s.depends none) (length s.checkables)))
       ∙ rest_so v.checks_on holds (is_held (reach_of (outlook_now s zone moment h) k)) (sym (on_is on w c w_is c_is is) ∙ test)
       ∙ sym off_is

@@ -60,6 +60,9 @@ fn is_held(setting: &Setting<'_>, books: &[Checkable], checkable: u32) -> Result
     if !is_on(setting, spec, &view) {
         return Ok(true);
     }
+    if setting.site.depends.is_empty() {
+        return Ok(false);
+    }
     let sights = setting.sights(books, checkable)?;
     let reach = setting.graph.reach(
         setting.site,

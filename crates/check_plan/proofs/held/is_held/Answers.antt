@@ -1,5 +1,5 @@
 -- What holds a checkable back is what the definition says.
-use Rattle.std.proofs.Common.{map, ap, ◌∙◌, arith}
+use Rattle.std.proofs.Common.{map, sym, ap, ◌∙◌, arith}
 use Rattle.depend_graph.specs.Outlooks.{outlook_of}
 use Rattle.depend_graph.specs.declared.purpose.Purpose.{Purpose}
 use Rattle.run_meaning.specs.Reachability.{is_held, reach_of}
@@ -7,7 +7,7 @@ use Rattle.site_model.specs.PlainSite.{check_view, site_view}
 use Rattle.site_posts.specs.Books.{histories_of}
 use Rattle.site_posts.proofs.Showing.{shown_names}
 use Rattle.site_posts.proofs.Taking.{book_within}
-use Rattle.check_plan.proofs.Holding.{book_view, off_at_once, off_by_reach, spec_at}
+use Rattle.check_plan.proofs.Holding.{book_view, off_at_once, off_by_reach, off_without, spec_at}
 use Rattle.check_plan.proofs.held.is_held.Goals as goal
 
 pub returns-then-not-is_on : goal.returns-then-not-is_on
@@ -22,6 +22,20 @@ returns-then-not-is_on c =
     let view = c.view-view.ensures ∙ book_view s c.args.setting.now.moment books k book c.requires.books (book_within s c.args.setting.now.moment books c.requires.books k book (omega (arith, many, inside)) c.index-books-checkable.is) in
     let spec = spec_at site c.as_slice.result.now k c.index-as_slice-checkable.result c.as_slice.ensures inside c.index-as_slice-checkable.is in
     off_at_once s c.args.setting.now.zone.now c.args.setting.now.moment (histories_of books) k inside c.is_on.result c.view-view.result (check_view c.index-as_slice-checkable.result) view spec c.is_on.ensures c.if-not-is_on.true
+
+pub returns-then-is_empty : goal.returns-then-is_empty
+returns-then-is_empty c =
+    let site = c.args.setting.now.site.now in
+    let s = site_view site in
+    let k = c.args.checkable in
+    let books = c.args.books.now in
+    let many = c.requires.books.whole in
+    let inside = c.requires.checkable in
+    let book = c.index-books-checkable.result in
+    let view = c.view-view.ensures ∙ book_view s c.args.setting.now.moment books k book c.requires.books (book_within s c.args.setting.now.moment books c.requires.books k book (omega (arith, many, inside)) c.index-books-checkable.is) in
+    let spec = spec_at site c.as_slice.result.now k c.index-as_slice-checkable.result c.as_slice.ensures inside c.index-as_slice-checkable.is in
+    off_without s c.args.setting.now.zone.now c.args.setting.now.moment (histories_of books) k inside c.is_on.result c.view-view.result (check_view c.index-as_slice-checkable.result) view spec c.is_on.ensures c.if-not-is_on.false
+    (sym c.is_empty.ensures ∙ c.if-is_empty.true)
 
 pub reach-requires-clause-sights : goal.reach-requires-clause-sights
 reach-requires-clause-sights c =
