@@ -1,5 +1,5 @@
 -- The conditions of a body, one after another.
-use Rattle.std.proofs.Common.{◌≡◌, Bool, refl, sym}
+use Rattle.std.proofs.Common.{◌≡◌, Bool, true, false, refl, sym}
 use Rattle.std.specs.Prelude.{◌||◌}
 use Rattle.dsl_syntax.specs.Syntax.{Expression, Statement, statement, assign, ignore, Statements, no_statements, more_statements}
 use Rattle.eval_meaning.specs.States.{State, Outcome, gives, faults, blocked, ◌>>=◌}
@@ -8,6 +8,7 @@ use Rattle.eval_meaning.specs.Flow.{truth_with}
 use Rattle.eval_meaning.specs.Evaluation.{evaluated}
 use Rattle.eval_meaning.specs.Load.{most_open}
 use Rattle.commit_meaning.specs.Conditions.{Verdict, judged}
+use Rattle.apply_rules.specs.Taking.{has_conditions}
 
 -- one evaluation after another, and a third
 binds_bind : {A B C : Type 0} (o : Outcome A) (f : A → State → Outcome B) (g : B → State → Outcome C) → ((o >>= f) >>= g) ≡ (o >>= λ a s. (f a s >>= g))
@@ -24,3 +25,10 @@ judged_more view (statement l (ignore e)) xs v s =
     let o : Outcome Bool = truth_with (evaluated view most_open) e s in
     sym (binds_bind o (λ t s1. gives (record v { ignored = v.ignored || t }) s1) (λ w t. judged view xs w t))
 judged_more view x xs v s = refl
+
+-- without conditions nothing is evaluated
+pub judged_none : (view : View) (xs : Statements) (v : Verdict) (s : State) → has_conditions xs ≡ false → judged view xs v s ≡ gives v s
+judged_none view no_statements v s h = refl
+judged_none view (more_statements (statement l (assign e)) xs) v s h = let e : true ≡ false = h in absurd cc
+judged_none view (more_statements (statement l (ignore e)) xs) v s h = let e : true ≡ false = h in absurd cc
+judged_none view (more_statements x xs) v s h = judged_none view xs v s h

@@ -8,6 +8,7 @@ ghost use Rattle.eval_meaning.specs.Load.{most_open};
 ghost use Rattle.eval_work.specs.Works.{state_of, view_of, Gives};
 ghost use Rattle.commit_meaning.specs.Conditions.{no_verdict, judged as judged_by, is_kept as kept_by};
 ghost use Rattle.item_start.specs.Ready.{IsReady};
+ghost use Rattle.apply_rules.specs.Taking.{has_conditions as conditions_in};
 ghost use Rattle.apply_rules.specs.Plain.{plain_verdict};
 
 use crate::prepared::evaluate;
@@ -32,6 +33,25 @@ fn is_kept_by(body: &[Stmt], verdict: Verdict) -> bool
     ensures { result ≡ kept_by (stmts_view body.now) (plain_verdict verdict) }
 {
     (verdict.assigned || !has_assign(body)) && !verdict.ignored
+}
+
+/// Whether a body has conditions at all.
+pub(crate) fn has_conditions(body: &Block) -> bool
+    ensures { result ≡ conditions_in (block_view body.now) }
+{
+    has_conditions_in(&body.statements)
+}
+
+fn has_conditions_in(body: &[Stmt]) -> bool
+    ensures { result ≡ conditions_in (stmts_view body.now) }
+{
+    for statement in body {
+        match &statement.kind {
+            StmtKind::Assign { .. } | StmtKind::Ignore { .. } => return true,
+            _ => {}
+        }
+    }
+    false
 }
 
 /// Evaluates all conditions of a body, one after another. Other statements are passed over.

@@ -14,7 +14,7 @@ ghost use Rattle.apply_rules.specs.Preparations.{IsPrepared};
 ghost use Rattle.apply_rules.specs.ReadsLeft.{GivesReads};
 ghost use Rattle.apply_rules.specs.Seen.{names_of};
 
-use crate::conditions::{Verdict, judge};
+use crate::conditions::{Verdict, has_conditions, judge};
 use crate::prepared::{Prepared, begin_expressions, prepare};
 use crate::subject::Subject;
 use eval_meaning::Read;
@@ -65,7 +65,8 @@ pub(crate) fn take(
     Ok(taken)
 }
 
-/// Notes what a group comes to. A fault is told under the object's number; a read that isn't decided ends all.
+/// Notes what a group comes to. One without conditions takes nothing. A fault is told under the object's number; a read that isn't decided
+/// ends all.
 fn take_one(
     alloc: Global,
     view: &WorldView,
@@ -81,6 +82,9 @@ fn take_one(
     requires prepared { IsPrepared view.now.store.now prepared.now }
     ensures { Gives (λ _. plain_taken taken.new) result (fresh (plain_store view.now.store.now) rule_task reads.new.items) (caught (view_of view.now) number (plain_item group.now) (plain_taken taken.old) (group_run (view_of view.now) (names_of prepared.now.subject) (plain_item group.now) (fresh (plain_store view.now.store.now) rule_task reads.old.items))) }
 {
+    if !has_conditions(&group.body) {
+        return Ok(());
+    }
     match judge_group(alloc, view, prepared, group, reads, spare) {
         Ok(verdict) => Ok(add_name(group, verdict, taken)?),
         Err(Stop::Fault { place, kind, text }) => {

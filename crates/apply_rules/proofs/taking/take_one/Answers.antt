@@ -1,16 +1,30 @@
-use Rattle.std.proofs.Common.{Err, sym, ap, ◌∙◌, subst}
+use Rattle.std.proofs.Common.{◌≡◌, false, Err, sym, ap, ◌∙◌, subst}
+use Rattle.dsl_syntax.specs.SyntaxView.{block_view}
 use Rattle.dsl_value.specs.PlainStores.{plain_store}
 use Rattle.eval_meaning.specs.States.{gives, rule}
 use Rattle.eval_work.specs.Works.{view_of, plain_item}
 use Rattle.commit_meaning.specs.Conditions as plain
+use Rattle.commit_meaning.specs.Conditions.{no_verdict}
 use Rattle.commit_meaning.specs.Groups.{caught, group_run}
 use Rattle.commit_meaning.specs.Starts.{fresh}
 use Rattle.apply_rules.specs.Plain.{plain_taken, plain_verdict}
 use Rattle.apply_rules.specs.ReadsLeft.{GivesReads}
+use Rattle.apply_rules.specs.Judging.{in_rule_with}
 use Rattle.apply_rules.specs.Seen.{names_of}
+use Rattle.apply_rules.specs.Taking.{has_conditions}
 use Rattle.apply_rules.specs.declared.conditions.Verdict.{Verdict}
-use Rattle.apply_rules.proofs.Grouping.{name_caught}
+use Rattle.apply_rules.proofs.Grouping.{group_is, name_caught}
+use Rattle.apply_rules.proofs.Judged.{judged_none}
 use Rattle.apply_rules.proofs.taking.take_one.Goals as goal
+
+pub returns-then-not-has_conditions : goal.returns-then-not-has_conditions
+returns-then-not-has_conditions c =
+    let v = view_of c.args.view.now in
+    let g = plain_item c.args.group.now in
+    let s0 = fresh (plain_store c.args.view.now.store.now) rule c.args.reads.now.items in
+    let ns = names_of c.args.prepared.now.subject in
+    let none : has_conditions g.body ≡ false = ap (λ b. has_conditions (block_view b)) (sym c.deref.ensures) ∙ (sym c.has_conditions.ensures ∙ c.if-not-has_conditions.true) in
+    ap (caught v c.args.number g (plain_taken c.args.taken.now)) (group_is v ns g s0 ∙ judged_none v g.body no_verdict (in_rule_with g.captured ns s0) none)
 
 pub returns-in_ok-add_name-in-Ok : goal.returns-in_ok-add_name-in-Ok
 returns-in_ok-add_name-in-Ok c =
