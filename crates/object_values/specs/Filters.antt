@@ -1,5 +1,5 @@
 -- Filters of states and of kinds of notifications: the sets that arrays of names stand for.
-use Rattle.std.specs.Prelude.{ℕ, ◌||◌, Bool, true, false, List, [], ◌∷◌, Option, Some, None, option_map, codes}
+use Rattle.std.specs.Prelude.{ℕ, ◌||◌, Bool, true, false, List, Option, Some, None, option_map, codes}
 use Rattle.std.specs.Str.{bytes_eq}
 use Rattle.site_base.specs.Data.{Data, null, boolean, number, string, list, dict, Items, no_items, item}
 use Rattle.site_model.specs.declared.kind_set.KindSet.{KindSet}
@@ -12,7 +12,7 @@ use Rattle.object_types.specs.declared.attribute.Attribute.{Attribute}
 use Rattle.object_types.specs.declared.object_type.ObjectType.{ObjectType}
 use Rattle.object_types.specs.declared.value_kind.Unset.{Unset}
 use Rattle.object_types.specs.declared.value_kind.Unset.TheVariants as unset
-use Rattle.object_values.specs.Attributes.{set_value, unset_of}
+use Rattle.object_values.specs.Attributes.{unset_of}
 use Rattle.object_values.specs.Values.{items_at}
 
 -- how a configuration names a state

@@ -1,9 +1,9 @@
 -- The values of attributes, as a site has them. Each is that of a lawful object; where an object isn't lawful it is
 -- whatever is simplest.
-use Rattle.std.specs.Prelude.{ℕ, ℤ, pos, negsuc, ◌*◌, ◌/◌, nat_le, Bool, true, false, List, [], Option, Some, None, Result, Ok, Err, unwrap_or, option_and_then, if◌then◌else◌}
+use Rattle.std.specs.Prelude.{ℕ, ℤ, pos, negsuc, ◌*◌, ◌/◌, nat_le, Bool, false, List, [], Option, Some, None, Result, Ok, Err, unwrap_or, option_and_then, if◌then◌else◌}
 use Rattle.std.specs.List.{cons_option}
 use Rattle.std.specs.Borrow.{Bor}
-use Rattle.site_base.specs.Data.{Data, null, boolean, number, string, list, dict, Items, no_items, item, Pairs}
+use Rattle.site_base.specs.Data.{Data, null, boolean, number, string, list, dict, Items, no_items, item}
 use Rattle.site_base.specs.Numbers.{seconds_of}
 use Rattle.site_base.specs.View.{items_view}
 use Rattle.site_base.specs.declared.day_span.DaySpan.{DaySpan}

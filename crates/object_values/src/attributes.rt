@@ -1,6 +1,8 @@
 // What an object sets under an attribute, and what holds where it doesn't.
 ghost use Rattle.std.specs.Prelude.{◌≡◌};
 ghost use Rattle.site_base.specs.View.{view, pairs_view};
+ghost use Rattle.object_types.specs.Names.{attribute_name};
+ghost use Rattle.object_types.specs.Schema.{row_named, row_among as first_row};
 ghost use Rattle.object_values.specs.Attributes.{set_value, set_among as set_in, unset_of, value_under as value_in, if_set as set_if, value_view};
 
 use object_types::{Attribute, ObjectType, SchemaRow, Unset, ValueKind};
@@ -20,11 +22,9 @@ impl<'a> Attributes<'a> {
         ensures { value_view result ≡ set_value self.now.kind attribute (view self.now.tree.now) }
     {
         match self.tree {
-            Tree::Dict(pairs) => set_among(
-                self.kind.row(attribute.name()),
-                attribute.name(),
-                pairs,
-            ),
+            Tree::Dict(pairs) => {
+                set_among(row_of(self.kind, attribute), attribute.name(), pairs)
+            }
             _ => None,
         }
     }
@@ -34,11 +34,34 @@ impl<'a> Attributes<'a> {
     pub(crate) fn unset(&self, attribute: Attribute) -> Unset
         ensures { result ≡ unset_of self.now.kind attribute }
     {
-        match self.kind.row(attribute.name()) {
+        match row_of(self.kind, attribute) {
             Some(row) => row.unset,
             None => Unset::Nothing,
         }
     }
+}
+
+/// What the schema says of an attribute of a type.
+#[tactic(auto, unfolding(object_types::specs::Schema::row_named))]
+fn row_of(kind: ObjectType, attribute: Attribute) -> Option<SchemaRow>
+    ensures { result ≡ row_named kind (attribute_name attribute) }
+{
+    match row_among(kind.schema(), attribute) {
+        Some(row) => Some(row),
+        None => kind.row(attribute.name()),
+    }
+}
+
+/// The first of these rows that is of an attribute. No two attributes have one name.
+fn row_among(rows: &[SchemaRow], attribute: Attribute) -> Option<SchemaRow>
+    ensures { result ≡ first_row rows.now (attribute_name attribute) }
+{
+    for row in rows {
+        if row.attribute == attribute {
+            return Some(*row);
+        }
+    }
+    None
 }
 
 /// What pairs set under an attribute of which the schema says this.
