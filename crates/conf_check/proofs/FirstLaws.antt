@@ -17,7 +17,7 @@ use Rattle.object_types.specs.Names.{type_name, type_named}
 use Rattle.object_types.specs.declared.object_type.ObjectType.{ObjectType}
 use Rattle.object_types.proofs.TypeLaws.{type_sound}
 use Rattle.conf_check.specs.Duplicates.{first_object, first_place, first_under, faults_at, place_under, with_place, with_first, own_faults, later_faults, duplicate_faults}
-use Rattle.conf_check.specs.Keys.{is_object, key_of, with_key}
+use Rattle.conf_check.specs.Keys.{is_object, key_of, keys_from, with_key}
 use Rattle.conf_check.proofs.KeyLaws.{key_same, other_type}
 use Rattle.conf_check.proofs.PlaceLaws.{place_new}
 
@@ -206,6 +206,7 @@ pub record IsSoFar (files : List (List ℕ)) (before rest all : List PlainObject
   pub told : faults ++ later_faults files before rest ≡ duplicate_faults files all
   pub firsts : AreFirsts before keys places
   pub inside : All (λ (p : Place). p.file < length files) places
+  pub known : keys_from keys rest ≡ keys_from [] all
 
 next_so_far : (files : List (List ℕ)) (objects : List Object) (i : ℕ) (o : Object) (faults told : List Diag) (keys more : List (List ℕ)) (places grown : List Place) → i < length objects → o ≡ get_or objects i o
     → o.place.file < length files → told ≡ faults ++ own_faults (first_under keys places) files (object_view o) (type_named o.kind) → more ≡ with_key (type_named o.kind) o.name keys → grown ≡ with_first keys places (type_named o.kind) o.name o.place
@@ -229,6 +230,7 @@ next_so_far files objects i o faults told keys more places grown inside is here 
           (subst (λ ps. AreFirsts (before ++ object_view o ∷ []) (with_key (type_named o.kind) o.name keys) ps) (sym stands)
           (firsts_next before keys places (object_view o) (type_named o.kind) refl so_far.firsts)));
       inside = subst (All (λ (p : Place). p.file < length files)) (sym stands) (inside_next (λ (p : Place). p.file < length files) keys places (type_named o.kind) o.name o.place here so_far.inside);
+      known = ap (λ ks. keys_from ks rest) names ∙ sym (ap (keys_from keys) next) ∙ so_far.known;
     }
 
 -- the same of an object whose type is known

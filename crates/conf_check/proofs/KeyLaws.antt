@@ -1,5 +1,5 @@
 -- The keys of objects are those of which there is one.
-use Rattle.std.proofs.Common.{◌≡◌, ℕ, ◌&&◌, ◌||◌, ◌==◌, not, Bool, true, false, cond, List, [], ◌∷◌, ◌++◌, Option, Some, None, is_some, refl, sym, ap, ap₂, subst, ◌∙◌, arith}
+use Rattle.std.proofs.Common.{◌≡◌, ℕ, ◌&&◌, ◌||◌, ◌==◌, not, Bool, true, false, cond, List, [], ◌∷◌, ◌++◌, Option, Some, None, is_some, map, refl, sym, ap, ap₂, subst, ◌∙◌, arith}
 use Rattle.std.specs.List.{list_any, list_all}
 use Rattle.std.specs.Str.{bytes_eq}
 use Rattle.std.proofs.lemmas.Grind.{common_steps}
@@ -146,3 +146,8 @@ is_found k (n ∷ ns) = grind (arith, common_steps, is_found k ns)
 -- looking a name up by its key is asking whether there is such an object
 pub keys_are : (os : List PlainObject) → in_keys (keys_from [] os) ≡ has_object os
 keys_are os = λ i t name. keys_any t name [] os i
+
+-- a test of what is made of each element
+pub list_any-map : {X Y : Type 0} (f : X → Y) (p : Y → Bool) (xs : List X) → list_any p (map f xs) ≡ list_any (λ x. p (f x)) xs
+list_any-map f p [] = refl
+list_any-map f p (x ∷ xs) = rw (list_any-map f p xs)

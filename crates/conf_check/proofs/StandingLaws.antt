@@ -1,8 +1,5 @@
 -- Objects of which nothing is told.
-use Rattle.std.proofs.Common.{◌≡◌, ◌≢◌, ℕ, ◌&&◌, ◌||◌, ◌==◌, not, Bool, true, false, cond, List, [], ◌∷◌, ◌++◌, length, map, All, AllPairs, Option, Some, None, is_some, refl, sym, ap, ap₂, subst, ◌∙◌, arith, inl, inr, rules}
-use Rattle.std.specs.List.{filter}
-use Rattle.std.specs.Option.{option_map}
-use Rattle.std.specs.Str.{bytes_eq}
+use Rattle.std.proofs.Common.{◌≡◌, ◌≢◌, ℕ, ◌&&◌, ◌==◌, Bool, true, false, cond, List, [], ◌∷◌, ◌++◌, length, map, All, AllPairs, Option, Some, None, is_some, refl, sym, ap, ap₂, subst, ◌∙◌, arith, inl, inr, rules}
 use Rattle.std.proofs.lemmas.List.Elements.{All-nil, All-cons}
 use Rattle.std.proofs.lemmas.List.Kept.{AllPairs-cons}
 use Rattle.std.proofs.lemmas.Slice.Eq.{bytes_eq-Decides}
@@ -20,9 +17,9 @@ use Rattle.object_types.specs.declared.value_kind.ValueKind.{ValueKind}
 use Rattle.object_types.specs.declared.value_kind.ValueKind.TheVariants as kind
 use Rattle.object_types.proofs.TypeLaws.{type_again}
 use Rattle.conf_check.specs.declared.names.Item.{Item}
-use Rattle.conf_check.specs.Duplicates.{first_object, first_place, faults_at, own_faults, later_faults}
+use Rattle.conf_check.specs.Duplicates.{first_place, faults_at, own_faults, later_faults}
 use Rattle.conf_check.specs.Keys.{is_object, has_object, is_of, of_type, name_of, names_of}
-use Rattle.conf_check.specs.References.{fault, name_faults, one_faults, items_faults, element_faults, list_faults, service_faults, text_under, value_faults, attribute_faults, pairs_faults, tree_faults, item_of, objects_faults}
+use Rattle.conf_check.specs.References.{fault, name_faults, items_faults, text_under, value_faults, attribute_faults, pairs_faults, tree_faults, item_of, objects_faults}
 use Rattle.conf_check.specs.Standing.{AreApart, NameAll, Stands, NamesAreThere, AllStand}
 use Rattle.conf_check.proofs.FirstLaws.{first_more, or_else}
 

@@ -1,6 +1,6 @@
 -- What it means that nothing is told: no two objects of a type have one full name, and each name in an object is one of an
 -- object.
-use Rattle.std.specs.Prelude.{◌≡◌, ◌≢◌, ℕ, List, [], ◌∷◌, ◌++◌, Bool, true, Option, Some, All}
+use Rattle.std.specs.Prelude.{◌≡◌, ◌≢◌, ℕ, List, [], ◌∷◌, ◌++◌, Bool, true, Some, All}
 use Rattle.site_base.specs.Data.{Data, null, boolean, number, string, list, dict, Items, no_items, item, Pairs}
 use Rattle.site_model.specs.PlainSite.{PlainObject}
 use Rattle.site_model.specs.Sound.{AreDistinct}

@@ -1,13 +1,14 @@
 // The duplicates among all objects.
-ghost use Rattle.std.specs.Prelude.{◌≡◌, ◌<◌, ◌++◌, ◌∷◌, All, map, length, IfOk, OnOk, IfSome, Some};
+ghost use Rattle.std.specs.Prelude.{[], ◌≡◌, ◌<◌, ◌++◌, ◌∷◌, All, map, length, IfOk, OnOk, IfSome, Some};
 ghost use Rattle.site_base.specs.Quoted.{quoted};
 ghost use Rattle.site_model.specs.PlainSite.{object_view};
 ghost use Rattle.object_types.specs.Names.{type_named};
 ghost use Rattle.conf_check.specs.Duplicates.{duplicate_faults, faults_at, first_under, own_faults, place_text, with_first};
-ghost use Rattle.conf_check.specs.Keys.{with_key};
+ghost use Rattle.conf_check.specs.Keys.{keys_from, with_key};
 ghost use Rattle.conf_check.specs.Ordering.{IsByNumber};
 
 use crate::firsts::Firsts;
+use crate::keys::Keys;
 use crate::ordering::by_number;
 use object_types::ObjectType;
 use site_base::{Diag, DiagKind, Diags, OutOfMemory, Place, Row, Text, Texts, push_quoted};
@@ -23,13 +24,37 @@ pub fn duplicates(alloc: Global, objects: &[Object], files: &Texts) -> Result<Di
     requires { All (λ o. o.place.file < length files.now) objects.now }
     ensures { IfOk result (IsByNumber (duplicate_faults files.now (map object_view objects.now))) }
 {
+    let looked = look_through(alloc, objects, files)?;
+    by_number(looked.faults)
+}
+
+/// The duplicates among objects, in their order, and the keys of all objects.
+#[derive(Drop)]
+pub(crate) struct Looked {
+    pub(crate) faults: Diags,
+    pub(crate) keys: Keys,
+}
+
+/// Looks for duplicates among the objects of a site.
+pub(crate) fn look_through(
+    alloc: Global,
+    objects: &[Object],
+    files: &Texts,
+) -> Result<Looked, OutOfMemory>
+    requires { All (λ o. o.place.file < length files.now) objects.now }
+    ensures faults { IfOk result (λ l. l.faults ≡ duplicate_faults files.now (map object_view objects.now)) }
+    ensures keys { IfOk result (λ l. l.keys ≡ keys_from [] (map object_view objects.now)) }
+{
     let mut faults = Row::new(alloc);
-    let mut firsts = Firsts::new(alloc);
+    let mut firsts = Firsts::with_capacity(alloc, objects.len())?;
     for object in objects {
         let kind = ObjectType::of_name(object.kind.as_str());
         push_object(alloc, &mut faults, files, &mut firsts, object, kind)?;
     }
-    by_number(faults)
+    Ok(Looked {
+        faults,
+        keys: firsts.into_keys(),
+    })
 }
 
 /// Adds the fault of an object of this type, if the objects before had one of its type and name.

@@ -7,12 +7,13 @@ ghost use Rattle.conf_check.specs.Keys.{in_keys};
 ghost use Rattle.conf_check.specs.Ordering.{IsByNumber};
 ghost use Rattle.conf_check.specs.References.{reference_faults, objects_faults, tree_faults, item_of};
 
-use crate::keys::keys_of;
+use crate::keys::{Keys, keys_of};
 use crate::names::{Item, push_pairs};
 use crate::ordering::by_number;
+use crate::told::Told;
 use object_types::ObjectType;
-use site_base::{Diags, OutOfMemory, Row, Tree};
-use site_model::{Names, Object};
+use site_base::{Diags, OutOfMemory, Tree};
+use site_model::Object;
 use std::alloc::Global;
 
 /// What the objects of a site name and isn't among them: a `NoReference` at the item of each such name, with the attribute
@@ -31,27 +32,31 @@ pub fn references(alloc: Global, objects: &[Object]) -> Result<Diags, OutOfMemor
 }
 
 /// What objects name that no key has, in their order.
-fn faults_of(alloc: Global, keys: &Names, objects: &[Object]) -> Result<Diags, OutOfMemory>
+pub(crate) fn faults_of(
+    alloc: Global,
+    keys: &Keys,
+    objects: &[Object],
+) -> Result<Diags, OutOfMemory>
     ensures { IfOk result (λ faults. faults
         ≡ objects_faults (in_keys keys.now) (map object_view objects.now)) }
 {
-    let mut faults = Row::new(alloc);
+    let mut told = Told::new(alloc);
     for object in objects {
         let item = Item {
             number: object.number,
             place: object.place,
         };
         let kind = ObjectType::of_name(object.kind.as_str());
-        push_tree(alloc, &mut faults, keys, item, kind, &object.tree)?;
+        push_tree(alloc, &mut told, keys, item, kind, &object.tree)?;
     }
-    Ok(faults)
+    Ok(told.into_faults())
 }
 
 /// Adds what the tree of an object names, if its type is one of the schema.
 fn push_tree(
     alloc: Global,
-    out: &mut Diags,
-    keys: &Names,
+    out: &mut Told,
+    keys: &Keys,
     item: Item,
     kind: Option<ObjectType>,
     tree: &Tree,
@@ -67,8 +72,8 @@ fn push_tree(
 /// Adds what the attributes of an object name, which are a dictionary.
 fn push_dict(
     alloc: Global,
-    out: &mut Diags,
-    keys: &Names,
+    out: &mut Told,
+    keys: &Keys,
     item: Item,
     kind: ObjectType,
     tree: &Tree,

@@ -6,29 +6,28 @@ ghost use Rattle.site_model.specs.Names.{with_name};
 ghost use Rattle.conf_check.specs.Duplicates.{place_under, with_place};
 ghost use Rattle.conf_check.specs.Keys.{key_of};
 
-use crate::keys::{add_key, key_of};
+use crate::keys::{Keys, key_of};
 use object_types::ObjectType;
 use site_base::{OutOfMemory, Place};
-use site_model::Names;
 use std::alloc::Global;
 
 /// The keys of objects, each with the place of the first one that has it.
 #[derive(Drop)]
 pub(crate) struct Firsts {
-    keys: Names,
+    keys: Keys,
     places: Vec<Place>,
 }
 
 impl Firsts {
-    /// No objects.
-    pub(crate) fn new(alloc: Global) -> Firsts
-        ensures keys { result.keys ≡ [] }
-        ensures places { result.places.items ≡ [] }
+    /// No objects, with room for so many.
+    pub(crate) fn with_capacity(alloc: Global, count: usize) -> Result<Firsts, OutOfMemory>
+        ensures keys { IfOk result (λ f. f.keys ≡ []) }
+        ensures places { IfOk result (λ f. f.places.items ≡ []) }
     {
-        Firsts {
-            keys: Names::new(alloc),
-            places: Vec::new(alloc),
-        }
+        Ok(Firsts {
+            keys: Keys::with_capacity(alloc, count)?,
+            places: Vec::with_capacity(alloc, count)?,
+        })
     }
 
     /// The place of the first object of this type and full name. Where there was none it is the one at this place, and the
@@ -48,11 +47,18 @@ impl Firsts {
             ≡ with_place self.old.keys self.old.places.items (key_of kind name.now) place) }
     {
         let key = key_of(alloc, kind, name)?;
-        let at = add_key(&mut self.keys, key)? as usize;
+        let at = self.keys.add(key)?;
         if at < self.places.len() {
             return Ok(Some(self.places[at]));
         }
         self.places.push(place)?;
         Ok(None)
+    }
+
+    /// The keys alone.
+    pub(crate) fn into_keys(self) -> Keys
+        ensures { result ≡ self.keys }
+    {
+        self.keys
     }
 }

@@ -8,10 +8,10 @@ ghost use Rattle.conf_check.specs.Keys.{in_keys};
 ghost use Rattle.conf_check.specs.References.{fault, name_faults, one_faults, element_faults, items_faults, list_faults};
 ghost use Rattle.conf_check.specs.References.{service_faults, text_of, text_under, value_faults, attribute_faults, pairs_faults};
 
-use crate::keys::has_key;
+use crate::keys::Keys;
+use crate::told::Told;
 use object_types::{Attribute, ObjectType, SchemaRow, ValueKind};
-use site_base::{Diag, DiagKind, Diags, ItemNo, OutOfMemory, Place, Text, Tree, push_quoted};
-use site_model::Names;
+use site_base::{Diag, DiagKind, ItemNo, OutOfMemory, Place, Text, Tree, push_quoted};
 use std::alloc::Global;
 
 /// The item of an object.
@@ -24,7 +24,7 @@ pub(crate) struct Item {
 /// An attribute of an item, and the keys of all objects.
 #[derive(Clone, Copy)]
 struct Reference<'a> {
-    keys: &'a Names,
+    keys: &'a Keys,
     item: Item,
     attribute: &'a str,
 }
@@ -32,8 +32,8 @@ struct Reference<'a> {
 /// Adds what an object of a type names in its attributes and isn't there, in their order.
 pub(crate) fn push_pairs(
     alloc: Global,
-    out: &mut Diags,
-    keys: &Names,
+    out: &mut Told,
+    keys: &Keys,
     item: Item,
     kind: ObjectType,
     pairs: &[(Text, Tree)],
@@ -78,7 +78,7 @@ impl Reference<'_> {
     fn push_attribute(
         &self,
         alloc: Global,
-        out: &mut Diags,
+        out: &mut Told,
         row: Option<SchemaRow>,
         value: &Tree,
         pairs: &[(Text, Tree)],
@@ -96,7 +96,7 @@ impl Reference<'_> {
     fn push_value(
         &self,
         alloc: Global,
-        out: &mut Diags,
+        out: &mut Told,
         kind: ValueKind,
         value: &Tree,
         pairs: &[(Text, Tree)],
@@ -118,7 +118,7 @@ impl Reference<'_> {
     fn push_one(
         &self,
         alloc: Global,
-        out: &mut Diags,
+        out: &mut Told,
         of: ObjectType,
         value: &Tree,
     ) -> Result<(), OutOfMemory>
@@ -134,7 +134,7 @@ impl Reference<'_> {
     fn push_unless_empty(
         &self,
         alloc: Global,
-        out: &mut Diags,
+        out: &mut Told,
         of: ObjectType,
         name: &Text,
     ) -> Result<(), OutOfMemory>
@@ -151,7 +151,7 @@ impl Reference<'_> {
     fn push_list(
         &self,
         alloc: Global,
-        out: &mut Diags,
+        out: &mut Told,
         of: ObjectType,
         value: &Tree,
     ) -> Result<(), OutOfMemory>
@@ -167,7 +167,7 @@ impl Reference<'_> {
     fn push_items(
         &self,
         alloc: Global,
-        out: &mut Diags,
+        out: &mut Told,
         of: ObjectType,
         items: &[Tree],
     ) -> Result<(), OutOfMemory>
@@ -183,7 +183,7 @@ impl Reference<'_> {
     fn push_element(
         &self,
         alloc: Global,
-        out: &mut Diags,
+        out: &mut Told,
         of: ObjectType,
         value: &Tree,
     ) -> Result<(), OutOfMemory>
@@ -200,7 +200,7 @@ impl Reference<'_> {
     fn push_service(
         &self,
         alloc: Global,
-        out: &mut Diags,
+        out: &mut Told,
         host: &str,
         value: &Tree,
     ) -> Result<(), OutOfMemory>
@@ -216,7 +216,7 @@ impl Reference<'_> {
     fn push_service_name(
         &self,
         alloc: Global,
-        out: &mut Diags,
+        out: &mut Told,
         host: &str,
         name: &Text,
     ) -> Result<(), OutOfMemory>
@@ -227,26 +227,36 @@ impl Reference<'_> {
         if name.is_empty() {
             return Ok(());
         }
+        if out.knows_service(self.keys, host, name.as_str())? {
+            return Ok(());
+        }
         let mut full = Text::copy_of(alloc, host)?;
         full.push('!')?;
         full.push_str(name.as_str())?;
-        self.push_name(alloc, out, ObjectType::Service, full.as_str())
+        self.push_missing(alloc, out, full.as_str())
     }
 
     /// A full name, which is told where no object of the type has it.
     fn push_name(
         &self,
         alloc: Global,
-        out: &mut Diags,
+        out: &mut Told,
         of: ObjectType,
         name: &str,
     ) -> Result<(), OutOfMemory>
         ensures { OnOk result (out.new ≡ out.old ++ name_faults (in_keys self.now.keys.now) self.now.item
             self.now.attribute.now of name.now) }
     {
-        if has_key(alloc, self.keys, of, name)? {
+        if out.knows(self.keys, of, name)? {
             return Ok(());
         }
+        self.push_missing(alloc, out, name)
+    }
+
+    /// A full name that no object has.
+    fn push_missing(&self, alloc: Global, out: &mut Told, name: &str) -> Result<(), OutOfMemory>
+        ensures { OnOk result (out.new ≡ out.old ++ fault self.now.item self.now.attribute.now name.now ∷ []) }
+    {
         let text = missing_text(alloc, self.attribute, name)?;
         out.push(Diag {
             number: self.item.number,

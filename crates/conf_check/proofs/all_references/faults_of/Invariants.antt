@@ -7,5 +7,5 @@ use Rattle.conf_check.proofs.all_references.faults_of.Given as goal
 
 abbrev pub invariant-loop-object : goal.invariant-loop-object
 invariant-loop-object l =
-    l.faults ++ objects_faults (in_keys l.keys) (map object_view (drop l.object-index l.objects))
+    l.told ++ objects_faults (in_keys l.keys) (map object_view (drop l.object-index l.objects))
     ≡ objects_faults (in_keys l.keys) (map object_view l.objects)

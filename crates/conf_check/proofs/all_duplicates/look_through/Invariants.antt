@@ -1,7 +1,7 @@
 use Rattle.std.proofs.Common.{map, take, drop}
 use Rattle.site_model.specs.PlainSite.{object_view}
 use Rattle.conf_check.proofs.FirstLaws.{IsSoFar}
-use Rattle.conf_check.proofs.all_duplicates.duplicates.Given as goal
+use Rattle.conf_check.proofs.all_duplicates.look_through.Given as goal
 
 abbrev pub invariant-loop-object : goal.invariant-loop-object
 invariant-loop-object l =

@@ -1,7 +1,7 @@
 use Rattle.std.proofs.Common.{ap, ◌∙◌}
 use Rattle.object_types.specs.Names.{type_named}
 use Rattle.conf_check.proofs.FirstLaws.{one_more}
-use Rattle.conf_check.proofs.all_duplicates.duplicates.Goals as goal
+use Rattle.conf_check.proofs.all_duplicates.look_through.Goals as goal
 
 pub loop-object-preserved : goal.loop-object-preserved
 loop-object-preserved c =
