@@ -29,7 +29,7 @@ pub(crate) fn command_specs(
 ) -> Result<Row<CommandSpec>, OutOfMemory>
     ensures { IfOk result (λ r. map command_view r ≡ map command_of (lent_view commands.now)) }
 {
-    let mut specs = Vec::new(alloc);
+    let mut specs = Vec::with_capacity(alloc, commands.len())?;
     for command in commands {
         specs.push(CommandSpec {
             name: command.name.clone()?,
@@ -48,7 +48,7 @@ pub(crate) fn host_specs(
     ensures { IfOk result (λ r. map check_view r.items
         ≡ flat_map (λ o. option_to_list (host_check known.entry.commands.now known.entry.periods.now o)) (lent_view hosts.now)) }
 {
-    let mut specs = Vec::new(alloc);
+    let mut specs = Vec::with_capacity(alloc, hosts.len())?;
     for host in hosts {
         push_some(&mut specs, host_spec(alloc, known, host)?)?;
     }
@@ -65,7 +65,7 @@ pub(crate) fn service_specs(
     ensures { IfOk result (λ r. map check_view r.items
         ≡ flat_map (λ o. option_to_list (service_check known.entry.commands.now known.entry.periods.now hosts.now o)) (lent_view services.now)) }
 {
-    let mut specs = Vec::new(alloc);
+    let mut specs = Vec::with_capacity(alloc, services.len())?;
     for service in services {
         push_some(&mut specs, service_spec(alloc, known, hosts, service)?)?;
     }

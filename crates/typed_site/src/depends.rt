@@ -23,7 +23,7 @@ pub(crate) fn depend_specs(
 ) -> Result<Row<DependSpec>, OutOfMemory>
     ensures { IfOk result (λ r. r ≡ flat_map (λ o. option_to_list (depend_of periods.now checkables.now o)) (lent_view depends.now)) }
 {
-    let mut specs = Vec::new(alloc);
+    let mut specs = Vec::with_capacity(alloc, depends.len())?;
     for depend in depends {
         push_some(&mut specs, depend_spec(alloc, periods, checkables, depend)?)?;
     }

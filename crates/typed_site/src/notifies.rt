@@ -37,7 +37,7 @@ pub(crate) fn notify_specs(
         → IfOk result (λ r. r ≡ flat_map (λ o. option_to_list
         (notify_of known.entry.periods.now known.entry.checkables.now known.entry.users.now ms o)) (lent_view notifies.now)) }
 {
-    let mut specs = Vec::new(alloc);
+    let mut specs = Vec::with_capacity(alloc, notifies.len())?;
     for notify in notifies {
         push_some(&mut specs, notify_spec(alloc, known, notify)?)?;
     }

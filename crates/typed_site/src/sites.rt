@@ -165,6 +165,7 @@ fn with_services(
     let listed = all_of(alloc, ObjectType::Service, objects)?;
     let mut services = service_specs(alloc, known, &names, &listed.objects)?;
     add_names(&mut names, &services)?;
+    specs.reserve_exact(services.len())?;
     specs.append(&mut services)?;
     Ok(Checks { specs, names })
 }

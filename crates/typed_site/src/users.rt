@@ -19,7 +19,7 @@ pub(crate) fn user_specs(
 ) -> Result<Row<UserSpec>, OutOfMemory>
     ensures { IfOk result (λ r. r ≡ map (user_of periods.now) (lent_view users.now)) }
 {
-    let mut specs = Vec::new(alloc);
+    let mut specs = Vec::with_capacity(alloc, users.len())?;
     for user in users {
         specs.push(user_spec(alloc, periods, user)?)?;
     }

@@ -13,7 +13,7 @@ add_names-requires c =
 
 pub returns-clause-specs : goal.returns-clause-specs
 returns-clause-specs c =
-    ap (map check_view) c.in_ok-append.ensures.items
+    ap (map check_view) (c.in_ok-append.ensures.items ∙ ap (λ xs. xs ++ c.in_ok-services.services.items) c.reserve_exact.ensures.items)
     ∙ map-append check_view c.args.hosts.specs.items c.in_ok-services.services.items
     ∙ checks_from (map object_view c.args.objects.now) (map check_view c.args.hosts.specs.items) (map check_view c.in_ok-services.services.items) c.requires.specs
     (services_from (map object_view c.args.objects.now) _ _ _ _ _ _ c.requires.command_names c.requires.period_names c.requires.names c.deref.ensures.value c.in_ok-listed.ensures.objects c.in_ok-services.ensures)
