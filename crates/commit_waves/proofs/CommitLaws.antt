@@ -23,6 +23,14 @@ next_told load (suc (suc (suc (suc (suc (suc k)))))) h = absurd (omega (arith, h
 pub nothing_told : (load : Loaded) (k : ℕ) → k < 6 → diags_of load (suc k) ≡ [] → told_from load k ≡ told_from load (suc k)
 nothing_told load k h none = next_told load k h ∙ ap (λ ds. first_told (ds ∷ map (diags_of load) (drop (suc k) waves))) none
 
+only_told : (ds : List Diag) → first_told (ds ∷ []) ≡ ds
+only_told [] = refl
+only_told (d ∷ ds) = refl
+
+-- of the last wave there is nothing behind it
+pub last_told : (load : Loaded) → told_from load 5 ≡ diags_of load 6
+last_told load = only_told (diags_of load 6)
+
 some_first : (ds : List Diag) (more : List (List Diag)) → ¬ (ds ≡ []) → first_told (ds ∷ more) ≡ ds
 some_first [] more some = absurd (some refl)
 some_first (d ∷ ds) more some = refl

@@ -6,6 +6,7 @@ pub mod JoinLaws
 pub mod TellLaws
 pub mod NamedLaws
 pub mod WaveLaws
+pub mod SplitLaws
 pub mod CommitLaws
 pub mod WaveSteps
 pub mod WaveRuns

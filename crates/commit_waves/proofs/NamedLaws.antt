@@ -19,9 +19,13 @@ use Rattle.commit_meaning.proofs.Lists.{all_kept}
 use Rattle.commit_waves.specs.Captured.{AreNamed}
 use Rattle.commit_waves.proofs.TellLaws.{told}
 
-items_named : (c : Contents) (is : List Item) → ItemsNamed c is → AreNamed c (map plain_item is)
+pub items_named : (c : Contents) (is : List Item) → ItemsNamed c is → AreNamed c (map plain_item is)
 items_named c [] h = tt
 items_named c (i ∷ is) h = (h.0, items_named c is h.1)
+
+pub named_items : (c : Contents) (is : List Item) → AreNamed c (map plain_item is) → ItemsNamed c is
+named_items c [] h = tt
+named_items c (i ∷ is) h = (h.0, named_items c is h.1)
 
 rules_named : (c : Contents) (rs : List Rule) → RulesNamed c rs → AllByRecursion (λ (r : PlainRule). PairsNamed c r.captured) (map plain_rule rs)
 rules_named c [] h = tt

@@ -108,6 +108,23 @@ module _ (load : Loaded) (before : World) (w : ℕ) where
   unfolding wave_diags
   too_many is i ds ei there = ap (λ o. limited o (by_number diag_number (faults_of (wave_items load before w) (groups_with (wave_items load before w)) (made (wave_items load before w))))) (sym there ∙ ap (λ zs. slice_get zs most_items) ei)
 
+  -- Over items of which the wave has the same, the rest of the load being the same, it comes to the same.
+  module _ (is : List PlainItem) (e : filter (λ i. is_in_wave w i.kind) is ≡ filter (λ i. is_in_wave w i.kind) load.items) where
+    abbrev other : Loaded
+    other = record load { items = is }
+
+    same_items : wave_items other before w ≡ wave_items load before w
+    unfolding wave_items
+    same_items = ap (λ xs. by_number item_number (xs ++ flat_map all_made (wave_answers load before w))) e
+
+    pub same_world : wave_world other before w ≡ wave_world load before w
+    unfolding wave_world
+    same_world = ap (λ zs. world_of (groups_with zs) (joined (groups_with zs) (made zs))) same_items
+
+    pub same_diags : wave_diags other before w ≡ wave_diags load before w
+    unfolding wave_diags
+    same_diags = ap (λ zs. limited (slice_get zs most_items) (by_number diag_number (faults_of zs (groups_with zs) (made zs)))) same_items
+
   -- the same over what is equal to the view of the world
   module _ (v : View) (e : v ≡ told) (is gs : List PlainItem) (os : List PlainObject) (m : IsMade load before w v is gs os) where
     made_told : IsMade load before w told is gs os

@@ -1,28 +1,32 @@
 // A commit.
-ghost use Rattle.std.specs.Prelude.{◌≡◌, ◌<◌, Bool, All, [], length, map, true, IfOk};
+ghost use Rattle.std.specs.Prelude.{◌≡◌, ◌<◌, ◌++◌, Bool, All, [], length, map, true, IfOk};
 ghost use Rattle.std.specs.Bool.{Decides};
 ghost use Rattle.object_types.specs.Names.{all_types, type_name};
 ghost use Rattle.site_model.specs.PlainSite.{object_view};
+ghost use Rattle.eval_work.specs.Works.{plain_item};
 ghost use Rattle.dsl_load.specs.Loads.{IsLoad, plain_parts};
 ghost use Rattle.commit_meaning.specs.Commits.{commit, committed, first_told, waves};
-ghost use Rattle.commit_meaning.specs.Waves.{diags_of};
+ghost use Rattle.commit_meaning.specs.Waves.{diags_of, wave_diags, wave_world};
 ghost use Rattle.site_phases.specs.Constants.{AreBadBytes, globals_view, settings_of};
 ghost use Rattle.site_phases.specs.Phases.{FilesStay, IfSite, IsReady, answer_view, last_part, phases, site_made};
+ghost use Rattle.commit_waves.specs.Captured.{AreNamed};
 ghost use Rattle.commit_waves.specs.Globals.{globals_of};
+ghost use Rattle.commit_waves.specs.Plain.{plain_world, with_items};
 
 use crate::Loaded;
 use crate::site_globals::site_globals;
-use crate::waves::run_wave;
+use crate::waves::{make_wave, run_wave};
 use crate::world::all_known;
 use dsl_load::LoadParts;
-use eval_work::{Committed, Known};
+use eval_work::{Committed, Item, Known};
 use site_base::{Diags, OutOfMemory, Row, Texts};
 use site_model::Object;
 use site_phases::{Answer, last_phases};
 use std::alloc::Global;
+use wave_order::{Split, split_wave};
 
-/// There are so many waves.
-const WAVES: u8 = 6;
+/// The number of the last wave.
+const LAST_WAVE: u8 = 6;
 
 /// What a load comes to: a site, or what is wrong with it.
 ///
@@ -32,7 +36,8 @@ const WAVES: u8 = 6;
 /// then come those of all objects together, as `last_phases` (site_phases) says. A wave of more than 1,000,000 items has an
 /// `ItemLimit` at the first that is one too many, and no other.
 ///
-/// What was loaded goes before the site is made of the objects, so that both don't take memory at once.
+/// What the load registered goes item after item, as their objects are made, and the rest of it before the site is made of the
+/// objects, so that not all of it takes memory at once.
 pub fn commit_one(alloc: Global, loaded: Loaded) -> Result<Answer, OutOfMemory>
     requires { IsLoad loaded.parts }
     // Whether the zone's file is one is what its reader says.
@@ -44,39 +49,109 @@ pub fn commit_one(alloc: Global, loaded: Loaded) -> Result<Answer, OutOfMemory>
     ensures ready { IfOk result (λ a. IfSite a IsReady) }
 {
     let known = all_known(alloc)?;
-    let mut objects = Committed::new(alloc);
-    let list = run_waves(alloc, &loaded.parts, &known, &mut objects)?;
-    if !list.is_empty() {
-        let files = loaded.files;
-        return Ok(Answer::Diags { files, list });
+    let Loaded { files, parts, zone } = loaded;
+    let LoadParts {
+        store,
+        templates,
+        items,
+        rules,
+    } = parts;
+    let parts = LoadParts {
+        store,
+        templates,
+        items: Vec::new(alloc),
+        rules,
+    };
+    let made = run_waves(alloc, &parts, items, &known)?;
+    if !made.list.is_empty() {
+        return Ok(Answer::Diags {
+            files,
+            list: made.list,
+        });
     }
-    finish(alloc, loaded, objects.into_vec())
+    finish(alloc, Loaded { files, parts, zone }, made.objects)
 }
 
-/// Runs the waves, one after another, up to the first in which something is wrong. Where nothing is, all objects are committed then.
+/// What the waves come to: the objects that they made, all of them where nothing is wrong, and what is wrong.
+#[derive(Drop)]
+struct Run {
+    objects: Vec<Object>,
+    list: Diags,
+}
+
+/// Runs the waves, one after another, up to the first in which something is wrong, over these items of a load and the rest of its parts.
 fn run_waves(
     alloc: Global,
     parts: &LoadParts,
+    items: Vec<Item>,
     known: &Known,
-    objects: &mut Committed,
-) -> Result<Diags, OutOfMemory>
-    requires load { IsLoad parts.now }
+) -> Result<Run, OutOfMemory>
+    requires load { IsLoad (with_items items parts.now) }
     requires whole { known.now.whole.items ≡ map type_name all_types }
     requires absent { known.now.absent.items ≡ [] }
-    requires none { objects.old ≡ [] }
-    ensures diags { IfOk result (λ ds. ds ≡ first_told (map (diags_of (plain_parts parts.now)) waves)) }
-    ensures objects { IfOk result (λ ds. ds ≡ [] → map object_view objects.new ≡ committed (plain_parts parts.now)) }
+    ensures diags { IfOk result (λ r. r.list ≡ first_told (map (diags_of (plain_parts (with_items items parts.now))) waves)) }
+    ensures objects { IfOk result (λ r. r.list ≡ [] → map object_view r.objects.items ≡ committed (plain_parts (with_items items parts.now))) }
 {
+    let mut objects = Committed::new(alloc);
     let mut groups = Vec::new(alloc);
+    let mut left = items;
     let mut wave = 0;
-    while wave < WAVES {
+    while wave < LAST_WAVE - 1 {
         wave += 1;
-        let list = run_wave(alloc, parts, known, objects, &mut groups, wave)?;
+        let Split { of_wave, others } = split_wave(alloc, left, wave)?;
+        left = others;
+        let list = run_wave(
+            alloc,
+            parts,
+            of_wave,
+            known,
+            &mut objects,
+            &mut groups,
+            wave,
+        )?;
         if !list.is_empty() {
-            return Ok(list);
+            return Ok(Run {
+                objects: Vec::new(alloc),
+                list,
+            });
         }
     }
-    Ok(Row::new(alloc))
+    run_last(alloc, parts, left, known, objects, groups)
+}
+
+/// Runs the last wave. Nothing looks its objects up, so they stand behind the others without being committed.
+fn run_last(
+    alloc: Global,
+    parts: &LoadParts,
+    items: Vec<Item>,
+    known: &Known,
+    objects: Committed,
+    groups: Vec<Item>,
+) -> Result<Run, OutOfMemory>
+    requires load { IsLoad (with_items items parts.now) }
+    requires whole { known.now.whole.items ≡ map type_name all_types }
+    requires absent { known.now.absent.items ≡ [] }
+    requires named { AreNamed parts.now.store (map plain_item groups.items) }
+    ensures diags { IfOk result (λ r. r.list ≡ wave_diags (plain_parts (with_items items parts.now)) (plain_world objects groups.items) 6) }
+    ensures objects { IfOk result (λ r. r.list ≡ [] → map object_view r.objects.items ≡ (wave_world (plain_parts (with_items items parts.now)) (plain_world objects groups.items) 6).objects) }
+{
+    let mut groups = groups;
+    let made = make_wave(alloc, parts, items, known, &objects, &mut groups, LAST_WAVE)?;
+    Ok(Run {
+        objects: with_objects(objects.into_vec(), made.objects)?,
+        list: made.list,
+    })
+}
+
+/// Objects with more of them behind, in no more memory than they need.
+fn with_objects(objects: Vec<Object>, more: Vec<Object>) -> Result<Vec<Object>, OutOfMemory>
+    ensures { IfOk result (λ all. all.items ≡ objects.items ++ more.items) }
+{
+    let mut all = objects;
+    let mut more = more;
+    all.reserve_exact(more.len())?;
+    all.append(&mut more)?;
+    Ok(all)
 }
 
 /// The last phases over all objects.

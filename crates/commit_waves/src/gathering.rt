@@ -12,45 +12,46 @@ ghost use Rattle.commit_meaning.specs.Waves.{is_in_wave as in_wave, wave_items, 
 ghost use Rattle.commit_meaning.specs.Worlds.{world_view};
 ghost use Rattle.wave_order.specs.WaveItems.{plain_pending};
 ghost use Rattle.commit_waves.specs.Applying.{faults_by, made_by};
+ghost use Rattle.commit_waves.specs.Plain.{with_items};
 ghost use Rattle.commit_waves.specs.Steps.{over, answers_at};
 
 use crate::applying::{Applied, apply_to_all, unapplied};
 use crate::making::add_diags;
 use apply_rules::Instance;
 use dsl_load::LoadParts;
-use eval_work::{Committed, Rule, WorldView};
+use eval_work::{Committed, Item, Rule, WorldView};
 use site_base::{Diags, OutOfMemory, Row};
 use std::alloc::Global;
 use wave_order::{Pending, add_registered, items_by_number};
 
 /// The items of a wave before their turn, and what is wrong with its rules.
 #[derive(Drop)]
-pub(crate) struct Gathered<'p, 'a> {
-    pub(crate) items: Vec<Pending<'p, 'a>>,
+pub(crate) struct Gathered<'a> {
+    pub(crate) items: Vec<Pending<'a>>,
     pub(crate) faults: Diags,
 }
 
-/// Gathers the items of a wave by their numbers: those that the load registered, and those that the rules of the wave make at
+/// Gathers the items of a wave by their numbers: those of these items that are of it, and those that the rules of the wave make at
 /// what stands before it.
-pub(crate) fn gather<'p: 'a, 'a>(
+pub(crate) fn gather<'a>(
     alloc: Global,
     view: &WorldView,
-    parts: &'p LoadParts,
+    parts: &'a LoadParts,
+    items: Vec<Item>,
     objects: &'a Committed,
     wave: u8,
-) -> Result<Gathered<'p, 'a>, OutOfMemory>
+) -> Result<Gathered<'a>, OutOfMemory>
     requires lawful { IsLawfulView view.now }
     requires captured { RulesNamed view.now.store.now parts.now.rules.items }
     requires view { view_of view.now ≡ world_view (plain_parts parts.now) (map object_view objects.now) }
-    ensures items { IfOk result (λ g. map plain_pending g.items.items ≡ wave_items (plain_parts parts.now) (over objects.now) wave) }
-    ensures faults { IfOk result (λ g. g.faults ≡ flat_map diags_in (wave_answers (plain_parts parts.now) (over objects.now) wave)) }
+    ensures items { IfOk result (λ g. map plain_pending g.items.items ≡ wave_items (plain_parts (with_items items parts.now)) (over objects.now) wave) }
+    ensures faults { IfOk result (λ g. g.faults ≡ flat_map diags_in (wave_answers (plain_parts (with_items items parts.now)) (over objects.now) wave)) }
 {
-    let mut items = Vec::new(alloc);
-    add_registered(&mut items, &parts.items, wave)?;
     let mut gathered = Gathered {
-        items,
+        items: Vec::new(alloc),
         faults: Row::new(alloc),
     };
+    add_registered(&mut gathered.items, items, wave)?;
     add_instances(alloc, view, &parts.rules, objects, wave, &mut gathered)?;
     Ok(Gathered {
         items: items_by_number(gathered.items)?,
@@ -59,13 +60,13 @@ pub(crate) fn gather<'p: 'a, 'a>(
 }
 
 /// Adds what the rules of a wave make, each at all its targets.
-fn add_instances<'p, 'a>(
+fn add_instances<'a>(
     alloc: Global,
     view: &WorldView,
     rules: &'a [Rule],
     objects: &'a Committed,
     wave: u8,
-    out: &mut Gathered<'p, 'a>,
+    out: &mut Gathered<'a>,
 ) -> Result<(), OutOfMemory>
     requires lawful { IsLawfulView view.now }
     requires captured { RulesNamed view.now.store.now rules.now }
@@ -78,10 +79,7 @@ fn add_instances<'p, 'a>(
 }
 
 /// Adds what rules have made, one rule after another.
-fn add_applied<'p, 'a>(
-    rules: Vec<Applied<'a>>,
-    out: &mut Gathered<'p, 'a>,
-) -> Result<(), OutOfMemory>
+fn add_applied<'a>(rules: Vec<Applied<'a>>, out: &mut Gathered<'a>) -> Result<(), OutOfMemory>
     ensures items { OnOk result (map plain_pending out.new.items.items ≡ map plain_pending out.old.items.items ++ flat_map made_by rules.entry.items) }
     ensures faults { OnOk result (out.new.faults ≡ out.old.faults ++ flat_map faults_by rules.entry.items) }
 {
@@ -92,12 +90,10 @@ fn add_applied<'p, 'a>(
     Ok(())
 }
 
-fn add_made<'p, 'a>(
-    made: Vec<Instance<'a>>,
-    out: &mut Vec<Pending<'p, 'a>>,
-) -> Result<(), OutOfMemory>
+fn add_made<'a>(made: Vec<Instance<'a>>, out: &mut Vec<Pending<'a>>) -> Result<(), OutOfMemory>
     ensures { OnOk result (map plain_pending out.new.items ≡ map plain_pending out.old.items ++ map plain_instance made.entry.items) }
 {
+    out.reserve_exact(made.len())?;
     for instance in made {
         out.push(Pending::Made(instance))?;
     }

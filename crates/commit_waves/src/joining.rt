@@ -3,14 +3,13 @@ ghost use Rattle.std.specs.Prelude.{◌≡◌, ◌++◌, ◌∷◌, [], IfOk, On
 ghost use Rattle.std.specs.List.{flat_map};
 ghost use Rattle.site_model.specs.PlainSite.{object_view};
 ghost use Rattle.object_types.specs.Names.{type_named};
-ghost use Rattle.eval_work.specs.Works.{view_of};
+ghost use Rattle.eval_work.specs.Works.{view_of, plain_item};
 ghost use Rattle.item_start.specs.Ready.{IsLawfulView};
 ghost use Rattle.apply_rules.specs.Lawful.{GroupsNamed};
 ghost use Rattle.apply_rules.specs.Plain.{group_answer, plain_group};
 ghost use Rattle.commit_meaning.specs.Answers.{diags_in};
 ghost use Rattle.commit_meaning.specs.Groups.{grown};
 ghost use Rattle.commit_meaning.specs.Waves.{groups_of, group_type};
-ghost use Rattle.wave_order.specs.WaveItems.{plain_wave_item};
 ghost use Rattle.commit_waves.specs.Captured.{AreNamed};
 ghost use Rattle.commit_waves.specs.Members.{AreLists, ListsNamed, list_for, members_at, members_in};
 
@@ -23,7 +22,6 @@ use object_types::ObjectType;
 use site_base::{Diags, OutOfMemory, Row};
 use site_model::Object;
 use std::alloc::Global;
-use wave_order::WaveItem;
 
 /// The items of groups, by the type of their members.
 #[derive(Drop)]
@@ -35,13 +33,9 @@ struct GroupLists<'a> {
 }
 
 impl<'a> GroupLists<'a> {
-    fn new(
-        alloc: Global,
-        store: &Store,
-        groups: &'a [WaveItem],
-    ) -> Result<GroupLists<'a>, OutOfMemory>
-        requires { AreNamed store.now (map plain_wave_item groups.now) }
-        ensures lists { IfOk result (AreLists (map plain_wave_item groups.now)) }
+    fn new(alloc: Global, store: &Store, groups: &'a [Item]) -> Result<GroupLists<'a>, OutOfMemory>
+        requires { AreNamed store.now (map plain_item groups.now) }
+        ensures lists { IfOk result (AreLists (map plain_item groups.now)) }
         ensures named { IfOk result (ListsNamed store.now) }
     {
         Ok(GroupLists {
@@ -68,18 +62,17 @@ impl<'a> GroupLists<'a> {
 fn groups_of_type<'a>(
     alloc: Global,
     store: &Store,
-    groups: &'a [WaveItem],
+    groups: &'a [Item],
     kind: ObjectType,
 ) -> Result<Vec<&'a Item>, OutOfMemory>
-    requires { AreNamed store.now (map plain_wave_item groups.now) }
-    ensures groups { IfOk result (λ gs. map plain_group gs.items ≡ groups_of (Some kind) (map plain_wave_item groups.now)) }
+    requires { AreNamed store.now (map plain_item groups.now) }
+    ensures groups { IfOk result (λ gs. map plain_group gs.items ≡ groups_of (Some kind) (map plain_item groups.now)) }
     ensures named { IfOk result (λ gs. GroupsNamed store.now gs.items) }
 {
     let mut of_type = Vec::new(alloc);
     for group in groups {
-        let item = group.item();
-        if item.kind.as_str() == kind.name() {
-            of_type.push(item)?;
+        if group.kind.as_str() == kind.name() {
+            of_type.push(group)?;
         }
     }
     Ok(of_type)
@@ -89,14 +82,14 @@ fn groups_of_type<'a>(
 pub(crate) fn join_groups(
     alloc: Global,
     view: &WorldView,
-    groups: &[WaveItem],
+    groups: &[Item],
     objects: Vec<Object>,
     faults: &mut Diags,
 ) -> Result<Vec<Object>, OutOfMemory>
     requires lawful { IsLawfulView view.now }
-    requires named { AreNamed view.now.store.now (map plain_wave_item groups.now) }
-    ensures objects { IfOk result (λ os. map object_view os.items ≡ map (λ o. grown o (members_at (view_of view.now) (map plain_wave_item groups.now) o)) (map object_view objects.items)) }
-    ensures faults { OnOk result (faults.new ≡ faults.old ++ flat_map (λ o. diags_in (members_at (view_of view.now) (map plain_wave_item groups.now) o)) (map object_view objects.items)) }
+    requires named { AreNamed view.now.store.now (map plain_item groups.now) }
+    ensures objects { IfOk result (λ os. map object_view os.items ≡ map (λ o. grown o (members_at (view_of view.now) (map plain_item groups.now) o)) (map object_view objects.items)) }
+    ensures faults { OnOk result (faults.new ≡ faults.old ++ flat_map (λ o. diags_in (members_at (view_of view.now) (map plain_item groups.now) o)) (map object_view objects.items)) }
 {
     let lists = GroupLists::new(alloc, view.store, groups)?;
     let mut spare = Locals::new(alloc);

@@ -1,45 +1,57 @@
 // One wave.
-ghost use Rattle.std.specs.Prelude.{◌≡◌, [], Some, IfOk, map};
+ghost use Rattle.std.specs.Prelude.{◌≡◌, ◌++◌, [], Some, IfOk, map};
+ghost use Rattle.site_model.specs.PlainSite.{object_view};
 ghost use Rattle.object_types.specs.Names.{all_types, type_name};
+ghost use Rattle.eval_work.specs.Works.{plain_item};
 ghost use Rattle.dsl_load.specs.Loads.{IsLoad, plain_parts};
 ghost use Rattle.commit_meaning.specs.Waves.{limited, wave_world, wave_diags};
-ghost use Rattle.wave_order.specs.WaveItems.{plain_pending, plain_wave_item};
+ghost use Rattle.wave_order.specs.WaveItems.{plain_pending};
 ghost use Rattle.commit_waves.specs.Captured.{AreNamed};
-ghost use Rattle.commit_waves.specs.Plain.{plain_world};
+ghost use Rattle.commit_waves.specs.Plain.{plain_world, with_items};
 
 use crate::gathering::{Gathered, gather};
 use crate::joining::join_groups;
 use crate::making::{add_diags, make_objects};
 use crate::world::{add_groups, add_objects, view_before};
 use dsl_load::LoadParts;
-use eval_work::{Committed, Known};
+use eval_work::{Committed, Item, Known};
 use site_base::{Diag, DiagKind, Diags, OutOfMemory, Row, Text};
+use site_model::Object;
 use std::alloc::Global;
-use wave_order::{Pending, WaveItem, diags_by_number};
+use wave_order::{Pending, diags_by_number};
 
 /// A wave has so many items at most.
 const MOST_ITEMS: usize = 1_000_000;
 
-/// Runs a wave, from 1 on, over the objects that were committed and the items of the groups among them: what is wrong in it, by number.
-/// Where nothing is, its objects and its groups stand behind the others then.
-pub(crate) fn run_wave<'a>(
+/// What a wave comes to: its objects, and what is wrong in it, by number.
+#[derive(Drop)]
+pub(crate) struct Wave {
+    pub(crate) objects: Vec<Object>,
+    pub(crate) list: Diags,
+}
+
+/// Makes the objects of a wave, from 1 on, over the objects that were committed and the items of the groups among them. The load
+/// registered these items, and of its parts the rest; each item goes once its object is made. Where nothing is wrong, the wave's groups stand
+/// behind the others then.
+pub(crate) fn make_wave(
     alloc: Global,
-    parts: &'a LoadParts,
+    parts: &LoadParts,
+    items: Vec<Item>,
     known: &Known,
-    objects: &mut Committed,
-    groups: &mut Vec<WaveItem<'a>>,
+    objects: &Committed,
+    groups: &mut Vec<Item>,
     wave: u8,
-) -> Result<Diags, OutOfMemory>
+) -> Result<Wave, OutOfMemory>
     requires whole { known.now.whole.items ≡ map type_name all_types }
     requires absent { known.now.absent.items ≡ [] }
-    requires load { IsLoad parts.now }
-    requires named { AreNamed parts.now.store (map plain_wave_item groups.old.items) }
-    ensures diags { IfOk result (λ ds. ds ≡ wave_diags (plain_parts parts.now) (plain_world objects.old groups.old.items) wave) }
-    ensures world { IfOk result (λ ds. ds ≡ [] → plain_world objects.new groups.new.items ≡ wave_world (plain_parts parts.now) (plain_world objects.old groups.old.items) wave) }
-    ensures named { IfOk result (λ ds. ds ≡ [] → AreNamed parts.now.store (map plain_wave_item groups.new.items)) }
+    requires load { IsLoad (with_items items parts.now) }
+    requires named { AreNamed parts.now.store (map plain_item groups.old.items) }
+    ensures diags { IfOk result (λ x. x.list ≡ wave_diags (plain_parts (with_items items parts.now)) (plain_world objects.now groups.old.items) wave) }
+    ensures world { IfOk result (λ x. x.list ≡ [] → plain_world (objects.now ++ x.objects.items) groups.new.items ≡ wave_world (plain_parts (with_items items parts.now)) (plain_world objects.now groups.old.items) wave) }
+    ensures named { IfOk result (λ x. x.list ≡ [] → AreNamed parts.now.store (map plain_item groups.new.items)) }
 {
     let view = view_before(parts, objects, known);
-    let Gathered { items, mut faults } = gather(alloc, &view, parts, objects, wave)?;
+    let Gathered { items, mut faults } = gather(alloc, &view, parts, items, objects, wave)?;
     if items.len() > MOST_ITEMS {
         return too_many(alloc, &items[MOST_ITEMS]);
     }
@@ -47,13 +59,15 @@ pub(crate) fn run_wave<'a>(
     add_groups(groups, made.groups)?;
     add_diags(&mut faults, made.faults)?;
     let joined = join_groups(alloc, &view, groups, made.objects, &mut faults)?;
-    add_objects(objects, joined)?;
-    diags_by_number(faults)
+    Ok(Wave {
+        objects: joined,
+        list: diags_by_number(faults)?,
+    })
 }
 
-/// The fault of the first item that is one too many.
-fn too_many(alloc: Global, item: &Pending) -> Result<Diags, OutOfMemory>
-    ensures { IfOk result (λ ds. ds ≡ limited (Some (plain_pending item.now)) []) }
+/// A wave of which this item is the first that is one too many.
+fn too_many(alloc: Global, item: &Pending) -> Result<Wave, OutOfMemory>
+    ensures { IfOk result (λ x. x.list ≡ limited (Some (plain_pending item.now)) []) }
 {
     let mut list = Row::new(alloc);
     list.push(Diag {
@@ -62,5 +76,31 @@ fn too_many(alloc: Global, item: &Pending) -> Result<Diags, OutOfMemory>
         kind: DiagKind::ItemLimit,
         text: Text::new(alloc),
     })?;
-    Ok(list)
+    Ok(Wave {
+        objects: Vec::new(alloc),
+        list,
+    })
+}
+
+/// Runs a wave: what is wrong in it, by number. Where nothing is, its objects are committed and its groups stand behind the others then.
+pub(crate) fn run_wave(
+    alloc: Global,
+    parts: &LoadParts,
+    items: Vec<Item>,
+    known: &Known,
+    objects: &mut Committed,
+    groups: &mut Vec<Item>,
+    wave: u8,
+) -> Result<Diags, OutOfMemory>
+    requires whole { known.now.whole.items ≡ map type_name all_types }
+    requires absent { known.now.absent.items ≡ [] }
+    requires load { IsLoad (with_items items parts.now) }
+    requires named { AreNamed parts.now.store (map plain_item groups.old.items) }
+    ensures diags { IfOk result (λ ds. ds ≡ wave_diags (plain_parts (with_items items parts.now)) (plain_world objects.old groups.old.items) wave) }
+    ensures world { IfOk result (λ ds. ds ≡ [] → plain_world objects.new groups.new.items ≡ wave_world (plain_parts (with_items items parts.now)) (plain_world objects.old groups.old.items) wave) }
+    ensures named { IfOk result (λ ds. ds ≡ [] → AreNamed parts.now.store (map plain_item groups.new.items)) }
+{
+    let made = make_wave(alloc, parts, items, known, objects, groups, wave)?;
+    add_objects(objects, made.objects)?;
+    Ok(made.list)
 }

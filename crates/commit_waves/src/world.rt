@@ -2,18 +2,16 @@
 ghost use Rattle.std.specs.Prelude.{◌≡◌, ◌++◌, [], IfOk, OnOk, map};
 ghost use Rattle.site_model.specs.PlainSite.{object_view};
 ghost use Rattle.object_types.specs.Names.{all_types, type_name};
-ghost use Rattle.eval_work.specs.Works.{view_of};
+ghost use Rattle.eval_work.specs.Works.{view_of, plain_item};
 ghost use Rattle.dsl_load.specs.Loads.{plain_parts};
 ghost use Rattle.commit_meaning.specs.Worlds.{world_view};
-ghost use Rattle.wave_order.specs.WaveItems.{plain_wave_item};
 
 use dsl_load::LoadParts;
-use eval_work::{Committed, Known, WorldView};
+use eval_work::{Committed, Item, Known, WorldView};
 use object_types::ObjectType;
 use site_base::{OutOfMemory, Text};
 use site_model::Object;
 use std::alloc::Global;
-use wave_order::WaveItem;
 
 /// All types.
 const TYPES: [ObjectType; 22] = [
@@ -42,11 +40,8 @@ const TYPES: [ObjectType; 22] = [
 ];
 
 /// Adds the items of groups behind others.
-pub(crate) fn add_groups<'a>(
-    out: &mut Vec<WaveItem<'a>>,
-    more: Vec<WaveItem<'a>>,
-) -> Result<(), OutOfMemory>
-    ensures { OnOk result (map plain_wave_item out.new.items ≡ map plain_wave_item out.old.items ++ map plain_wave_item more.entry.items) }
+pub(crate) fn add_groups(out: &mut Vec<Item>, more: Vec<Item>) -> Result<(), OutOfMemory>
+    ensures { OnOk result (map plain_item out.new.items ≡ map plain_item out.old.items ++ map plain_item more.items) }
 {
     for group in more {
         out.push(group)?;

@@ -5,15 +5,9 @@ use Rattle.eval_work.specs.Works.{plain_item}
 use Rattle.apply_rules.specs.Plain.{plain_instance}
 use Rattle.wave_order.specs.declared.pending.Pending.{Pending}
 use Rattle.wave_order.specs.declared.pending.Pending.TheVariants as pending
-use Rattle.wave_order.specs.declared.wave_item.WaveItem.{WaveItem}
-use Rattle.wave_order.specs.declared.wave_item.WaveItem.TheVariants as wave_items
-
-abbrev pub plain_wave_item : WaveItem → PlainItem
-plain_wave_item (wave_items.Registered i) = plain_item i.now
-plain_wave_item (wave_items.Made i) = plain_item i
 
 abbrev pub plain_pending : Pending → PlainItem
-plain_pending (pending.Registered i) = plain_item i.now
+plain_pending (pending.Registered i) = plain_item i
 plain_pending (pending.Made i) = plain_instance i
 
 -- one thing, where it is kept

@@ -1,9 +1,9 @@
 // The items of a wave before their turn.
 ghost use Rattle.std.specs.Prelude.{◌≡◌, IfOk};
 ghost use Rattle.apply_rules.specs.Keys.{AreKeys};
-ghost use Rattle.wave_order.specs.WaveItems.{plain_pending, plain_wave_item};
+ghost use Rattle.eval_work.specs.Works.{plain_item};
+ghost use Rattle.wave_order.specs.WaveItems.{plain_pending};
 
-use crate::WaveItem;
 use apply_rules::{Instance, PresetKeys};
 use eval_work::Item;
 use site_base::{ItemNo, OutOfMemory, Place};
@@ -11,12 +11,12 @@ use std::alloc::Global;
 
 /// An item of a wave before its turn: one that the load registered, or what a rule makes at a target, which has no copies of trees yet.
 #[derive(Drop)]
-pub enum Pending<'p, 'a> {
-    Registered(&'p Item),
+pub enum Pending<'a> {
+    Registered(Item),
     Made(Instance<'a>),
 }
 
-impl<'p, 'a> Pending<'p, 'a> {
+impl<'a> Pending<'a> {
     /// The number by which the items of a wave stand.
     pub fn number(&self) -> ItemNo
         ensures { result ≡ (plain_pending self.now).number }
@@ -38,13 +38,13 @@ impl<'p, 'a> Pending<'p, 'a> {
     }
 
     /// The item itself.
-    pub fn into_item(self, alloc: Global, keys: &PresetKeys) -> Result<WaveItem<'p>, OutOfMemory>
+    pub fn into_item(self, alloc: Global, keys: &PresetKeys) -> Result<Item, OutOfMemory>
         requires { AreKeys keys.now }
-        ensures { IfOk result (λ w. plain_wave_item w ≡ plain_pending self.entry) }
+        ensures { IfOk result (λ i. plain_item i ≡ plain_pending self.entry) }
     {
         match self {
-            Pending::Registered(item) => Ok(WaveItem::Registered(item)),
-            Pending::Made(instance) => Ok(WaveItem::Made(instance.into_item(alloc, keys)?)),
+            Pending::Registered(item) => Ok(item),
+            Pending::Made(instance) => instance.into_item(alloc, keys),
         }
     }
 }

@@ -8,9 +8,7 @@ use crate::Pending;
 use site_base::{Diags, OutOfMemory, Row};
 
 /// Items by their numbers; those of one number keep their order.
-pub fn items_by_number<'p, 'a>(
-    items: Vec<Pending<'p, 'a>>,
-) -> Result<Vec<Pending<'p, 'a>>, OutOfMemory>
+pub fn items_by_number<'a>(items: Vec<Pending<'a>>) -> Result<Vec<Pending<'a>>, OutOfMemory>
     ensures { IfOk result (λ sorted. map plain_pending sorted.items ≡ by_number item_number (map plain_pending items.entry.items)) }
 {
     let mut sorted = items;

@@ -1,7 +1,6 @@
-use Rattle.std.proofs.Common.{◌≡◌, List, [], ◌==◌, length, map, false, IfOk, refl, sym, ap, ◌∙◌, subst}
+use Rattle.std.proofs.Common.{◌≡◌, List, [], ◌==◌, length, false, IfOk, refl, sym, ap, ◌∙◌, subst}
 use Rattle.std.proofs.lemmas.Bool.{false≢true}
 use Rattle.site_base.specs.declared.diag.Diag.{Diag}
-use Rattle.site_model.specs.PlainSite.{object_view}
 use Rattle.dsl_load.specs.Loads.{plain_parts}
 use Rattle.site_phases.specs.Phases.{answer_view, last_part, phases, site_made}
 use Rattle.site_phases.proofs.PhaseLaws.{nothing}
@@ -15,8 +14,8 @@ something ds some none = absurd (false≢true (sym some ∙ ap (λ xs. length xs
 pub returns-then-not-is_empty-clause-value : goal.returns-then-not-is_empty-clause-value
 returns-then-not-is_empty-clause-value c = λ bad decided.
     let l = c.args.loaded in
-    refused_in_waves (λ os. phases l.files (globals_of l.parts.store.cells l.zone) os bad) (site_made l.files (globals_of l.parts.store.cells l.zone)) (plain_parts l.parts) c.in_ok-list.list c.in_ok-list.ensures.diags
-    (something c.in_ok-list.list (sym c.is_empty.ensures ∙ c.if-not-is_empty.true))
+    refused_in_waves (λ os. phases l.files (globals_of l.parts.store.cells l.zone) os bad) (site_made l.files (globals_of l.parts.store.cells l.zone)) (plain_parts l.parts) c.in_ok-made.made.list c.in_ok-made.ensures.diags
+    (something c.in_ok-made.made.list (sym c.is_empty.ensures ∙ c.if-not-is_empty.true))
 
 pub returns-then-not-is_empty-clause-files : goal.returns-then-not-is_empty-clause-files
 returns-then-not-is_empty-clause-files c = refl
@@ -25,7 +24,7 @@ pub returns-clause-value : goal.returns-clause-value
 returns-clause-value c = λ bad decided.
     let l = c.args.loaded in
     let g = globals_of l.parts.store.cells l.zone in
-    let none = nothing c.in_ok-list.list (sym c.is_empty.ensures ∙ c.if-not-is_empty.false) in
-    let same = ap (λ os. last_part l.files g (map object_view os) bad) c.into_vec.ensures ∙ ap (λ os. last_part l.files g os bad) (c.in_ok-list.ensures.objects none)
-    ∙ left_to_phases (λ os. phases l.files g os bad) (site_made l.files g) (plain_parts l.parts) (sym c.in_ok-list.ensures.diags ∙ none) in
+    let none = nothing c.in_ok-made.made.list (sym c.is_empty.ensures ∙ c.if-not-is_empty.false) in
+    let same = ap (λ os. last_part l.files g os bad) (c.in_ok-made.ensures.objects none)
+    ∙ left_to_phases (λ os. phases l.files g os bad) (site_made l.files g) (plain_parts l.parts) (sym c.in_ok-made.ensures.diags ∙ none) in
     subst (λ x. IfOk c.finish.result (λ a. answer_view a ≡ x)) same (c.finish.ensures.value bad decided)

@@ -3,11 +3,11 @@ use Rattle.std.proofs.Common.{◌≡◌, ◌++◌, drop, map, Some}
 use Rattle.apply_rules.specs.Lawful.{GroupsNamed}
 use Rattle.apply_rules.specs.Plain.{plain_group}
 use Rattle.commit_meaning.specs.Waves.{groups_of}
-use Rattle.wave_order.specs.WaveItems.{plain_wave_item}
+use Rattle.eval_work.specs.Works.{plain_item}
 use Rattle.commit_waves.specs.Captured.{AreNamed}
 use Rattle.commit_waves.proofs.joining.groups_of_type.Given as goal
 
 abbrev pub invariant-loop-group : goal.invariant-loop-group
 invariant-loop-group l =
-    (map plain_group l.of_type.items ++ groups_of (Some l.kind) (map plain_wave_item (drop l.group-index l.groups)) ≡ groups_of (Some l.kind) (map plain_wave_item l.groups))
-    × (GroupsNamed l.store l.of_type.items × AreNamed l.store (map plain_wave_item (drop l.group-index l.groups)))
+    (map plain_group l.of_type.items ++ groups_of (Some l.kind) (map plain_item (drop l.group-index l.groups)) ≡ groups_of (Some l.kind) (map plain_item l.groups))
+    × (GroupsNamed l.store l.of_type.items × AreNamed l.store (map plain_item (drop l.group-index l.groups)))

@@ -3,16 +3,15 @@ use Rattle.std.proofs.Common.{◌≡◌, ◌++◌, map}
 use Rattle.std.specs.List.{flat_map}
 use Rattle.std.specs.Vec.Iter.{into_iter_items}
 use Rattle.site_model.specs.PlainSite.{object_view}
-use Rattle.eval_work.specs.Works.{view_of}
+use Rattle.eval_work.specs.Works.{view_of, plain_item}
 use Rattle.commit_meaning.specs.Answers.{diags_in}
 use Rattle.commit_meaning.specs.Groups.{grown}
-use Rattle.wave_order.specs.WaveItems.{plain_wave_item}
 use Rattle.commit_waves.specs.Members.{members_at}
 use Rattle.commit_waves.proofs.joining.join_groups.Given as goal
 
 abbrev pub invariant-loop-object : goal.invariant-loop-object
 invariant-loop-object l =
-    (map object_view l.grown.items ++ map (λ o. grown o (members_at (view_of l.view) (map plain_wave_item l.groups) o)) (map object_view (into_iter_items l.object-iterator))
-    ≡ map (λ o. grown o (members_at (view_of l.view) (map plain_wave_item l.groups) o)) (map object_view l.fn.objects.items))
-    × (l.faults ++ flat_map (λ o. diags_in (members_at (view_of l.view) (map plain_wave_item l.groups) o)) (map object_view (into_iter_items l.object-iterator))
-    ≡ l.fn.faults ++ flat_map (λ o. diags_in (members_at (view_of l.view) (map plain_wave_item l.groups) o)) (map object_view l.fn.objects.items))
+    (map object_view l.grown.items ++ map (λ o. grown o (members_at (view_of l.view) (map plain_item l.groups) o)) (map object_view (into_iter_items l.object-iterator))
+    ≡ map (λ o. grown o (members_at (view_of l.view) (map plain_item l.groups) o)) (map object_view l.fn.objects.items))
+    × (l.faults ++ flat_map (λ o. diags_in (members_at (view_of l.view) (map plain_item l.groups) o)) (map object_view (into_iter_items l.object-iterator))
+    ≡ l.fn.faults ++ flat_map (λ o. diags_in (members_at (view_of l.view) (map plain_item l.groups) o)) (map object_view l.fn.objects.items))

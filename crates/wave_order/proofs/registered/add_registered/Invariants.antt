@@ -1,6 +1,7 @@
 -- The items so far, and those that are left, are all.
-use Rattle.std.proofs.Common.{◌≡◌, ◌++◌, drop, map}
+use Rattle.std.proofs.Common.{◌≡◌, ◌++◌, map}
 use Rattle.std.specs.List.{filter}
+use Rattle.std.specs.Vec.Iter.{into_iter_items}
 use Rattle.eval_work.specs.Works.{plain_item}
 use Rattle.commit_meaning.specs.Waves.{is_in_wave}
 use Rattle.wave_order.specs.WaveItems.{plain_pending}
@@ -8,5 +9,5 @@ use Rattle.wave_order.proofs.registered.add_registered.Given as goal
 
 abbrev pub invariant-loop-item : goal.invariant-loop-item
 invariant-loop-item l =
-    map plain_pending l.out.items ++ filter (λ i. is_in_wave l.wave i.kind) (map plain_item (drop l.item-index l.items))
-    ≡ map plain_pending l.fn.out.items ++ filter (λ i. is_in_wave l.wave i.kind) (map plain_item l.items)
+    map plain_pending l.out.items ++ filter (λ i. is_in_wave l.wave i.kind) (map plain_item (into_iter_items l.item-iterator))
+    ≡ map plain_pending l.fn.out.items ++ filter (λ i. is_in_wave l.wave i.kind) (map plain_item l.fn.items.items)
