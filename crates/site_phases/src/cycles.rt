@@ -22,6 +22,9 @@ pub(crate) fn cycle_faults(alloc: Global, site: &Site) -> Result<Diags, OutOfMem
     ensures free { IfOk result (λ d. d ≡ [] → All (λ d. ¬ IsOnCycle (site_view site.now) d) (site_view site.now).depends) }
 {
     a_sound_site_has_parents();
+    if site.depends.is_empty() {
+        return Ok(Row::new(alloc));
+    }
     match Graph::build(alloc, site) {
         Ok(_) => Ok(Row::new(alloc)),
         Err(GraphFault::Cycle { depends }) => Ok(faults_at(alloc, site, depends.as_slice())?),

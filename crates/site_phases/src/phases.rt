@@ -10,7 +10,7 @@ ghost use Rattle.site_phases.specs.Phases.{FilesStay, IfSite, IsGiven, IsReady, 
 
 use crate::cycles::cycle_faults;
 use crate::{Answer, Globals};
-use conf_check::{duplicates, references};
+use conf_check::{Together, check_together};
 use site_base::{Diags, OutOfMemory, Row, Texts};
 use site_model::{Object, Site};
 use std::alloc::Global;
@@ -35,13 +35,21 @@ pub fn last_phases(
     // A run may begin with every site that is given.
     ensures ready { IfOk result (λ a. IfSite a IsReady) }
 {
-    let list = duplicates(alloc, objects.as_slice(), &files)?;
-    if !list.is_empty() {
-        return Ok(Answer::Diags { files, list });
+    let Together {
+        duplicates,
+        references,
+    } = check_together(alloc, objects.as_slice(), &files)?;
+    if !duplicates.is_empty() {
+        return Ok(Answer::Diags {
+            files,
+            list: duplicates,
+        });
     }
-    let list = references(alloc, objects.as_slice())?;
-    if !list.is_empty() {
-        return Ok(Answer::Diags { files, list });
+    if !references.is_empty() {
+        return Ok(Answer::Diags {
+            files,
+            list: references,
+        });
     }
     let faults = globals.faults(alloc)?;
     let site = typed_site(alloc, files, objects, globals.into_settings())?;
