@@ -5,19 +5,23 @@
 #   passive   so many passive results over 1,000 hosts, each with a service, a notification and a downtime, 1,000 a turn
 #   active    so many orders, each with its report, over 10,000 services
 #
-# Prints seconds of the processor, how many times as long each took as the one of half as many, entries or orders a second, and peak memory an
-# entry, both without what an empty script over the site takes. Wanted: 75,000 turns below 0.2 s more than their site takes; above 400,000 passive results a second and below 300 bytes an entry;
-# above 250,000 orders a second; each doubling below 2.2 times as long. An argument is a built icinga_site to take.
+# Prints seconds of the processor, the least of three runs, how many times as long each took as the one of half as many, entries or orders a
+# second, and peak memory an entry, both without what an empty script over the site takes. Wanted: 75,000 turns below 0.2 s more than their
+# site takes; above 400,000 passive results a second and below 300 bytes an entry; above 250,000 orders a second; each doubling below 2.2 times
+# as long. An argument is a built icinga_site to take.
 set -eu
 top=$(cd "$(dirname "$(readlink -f "${BASH_SOURCE[0]}")")/.." && pwd)
 program=${1:-$top/bin/icinga_site}
 work=$(mktemp -d)
 trap 'rm -rf "$work"' EXIT
 
-# what is measured, of a root and a script: seconds and kilobytes
+# what is measured, of a root and a script: seconds, the least of three runs, and kilobytes
 measured() {
-    /usr/bin/time -f '%U %S %M' -o "$work/time" taskset -c 0 "$program" replay "$1" "$2" >"$work/log" || return
-    awk '{ print $1 + $2, $3 }' "$work/time"
+    local TIMEFORMAT='%3U %3S'
+    for _ in 1 2 3; do
+        { time /usr/bin/time -f '%M' -o "$work/memory" taskset -c 0 "$program" replay "$1" "$2" >"$work/log"; } 2>"$work/time" || return
+        awk -v memory="$(cat "$work/memory")" '{ print $1 + $2, memory }' "$work/time"
+    done | sort -n | head -1
 }
 
 # one row: its name, its size, what is counted of the log, and the time before
@@ -27,7 +31,7 @@ row() {
     read -r idle least <<<"$(measured "$root" "$work/empty")"
     read -r seconds memory <<<"$(measured "$root" "$script")"
     awk -v name="$name" -v size="$size" -v n="$(grep -c "^$sign" "$work/log")" -v s="$seconds" -v i="$idle" -v m="$((memory - least))" -v b="${before:-}" -v sign="$sign" 'BEGIN {
-        printf "%s %d: %.2f s, %.2f without the site, %d lines of %s, %.0f a second, %.0f bytes each", name, size, s, s - i, n, sign, n / (s - i), m * 1024 / n
+        printf "%s %d: %.3f s, %.3f without the site, %d lines of %s, %.0f a second, %.0f bytes each", name, size, s, s - i, n, sign, n / (s - i), m * 1024 / n
         if (b != "") printf ", %.2f times as long", (s - i) / b
         print ""
     }'
