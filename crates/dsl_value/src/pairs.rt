@@ -77,6 +77,14 @@ pub(crate) fn sorted_pairs(
     if rises(&pairs) {
         return Ok(pairs);
     }
+    pairs_by_key(alloc, pairs)
+}
+
+/// The same for pairs that needn't rise. It isn't inlined, so that those that rise don't pay for its room.
+#[inline(never)]
+fn pairs_by_key(alloc: Global, pairs: Vec<(Text, Value)>) -> Result<Vec<(Text, Value)>, OutOfMemory>
+    ensures { IfOk result (λ v. v.items ≡ dict_of pairs.items []) }
+{
     let mut by_key = BTreeMap::new(alloc);
     for (key, value) in pairs {
         by_key.insert(key, value)?;

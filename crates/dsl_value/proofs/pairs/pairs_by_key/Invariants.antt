@@ -1,7 +1,7 @@
 use Rattle.std.proofs.Common.{◌≡◌, [], ◌++◌}
 use Rattle.std.specs.Vec.Iter.{into_iter_items}
 use Rattle.dsl_value.specs.Pairs.{dict_of}
-use Rattle.dsl_value.proofs.pairs.sorted_pairs.Given as goal
+use Rattle.dsl_value.proofs.pairs.pairs_by_key.Given as goal
 
 -- the pairs so far, with those that are left put in, are all of them
 abbrev pub invariant-loop-key : goal.invariant-loop-key
