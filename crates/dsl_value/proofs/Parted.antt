@@ -8,8 +8,8 @@ use Rattle.site_base.specs.declared.memory.OutOfMemory.{OutOfMemory}
 use Rattle.site_base.specs.declared.tree.Tree.{Tree}
 use Rattle.dsl_value.specs.Contents.{PlainCell, array, dict as pairs_cell}
 use Rattle.dsl_value.specs.Pairs.{Pairs, dict_of}
-use Rattle.dsl_value.specs.Loads.{Made, load, load_items, load_pairs, grown, given}
-use Rattle.dsl_value.specs.Loading.{among, loaded, array_of, dict_of_pairs, filled, wrapped, work_in, work_of, work_outside}
+use Rattle.dsl_value.specs.Loads.{Made, bare, load, load_items, load_pairs, grown, given}
+use Rattle.dsl_value.specs.Loading.{among, loaded, array_of, dict_of_pairs, filled, wrapped, work_in, work_of, work_outside, SameArray, SameDict}
 use Rattle.dsl_value.specs.declared.value.Value.{Value}
 use Rattle.dsl_value.specs.declared.value.Value.TheVariants.{Ref}
 use Rattle.dsl_value.specs.declared.loading.Open.{Open}
@@ -74,6 +74,31 @@ module _ (before : ℕ) (cells : List PlainCell) where
       (λ j. among (named j) (all j)) ∙ ap (λ ps. among (Ref (before + length cells)) (cells ++ pairs_cell ps ∷ [])) is
       ∙ (λ j. among (Ref (before + length (sym (append-nil cells) j))) (sym (append-nil cells) j ++ pairs_cell (dict_of (sym (append-nil qs) j) []) ∷ []))
   dict_end qs sorted (p ∷ ps) v new none is named all = absurd (omega (arith, none))
+
+-- a part that needs no cell is added
+bare_array : (before : ℕ) (cells : List PlainCell) (vs : List Value) (ds : Items) (m : ℕ → Made Value) (v : Value) → m ≡ (λ n. bare v)
+    → array_of before (grown before cells m) (vs ++ given before cells m ∷ []) ds ≡ array_of before cells (vs ++ v ∷ []) ds
+bare_array before cells vs ds m v is =
+    ap (λ f. array_of before (grown before cells f) (vs ++ given before cells f ∷ []) ds) is
+    ∙ ap (λ cs. array_of before cs (vs ++ v ∷ []) ds) (append-nil cells)
+
+bare_dict : (before : ℕ) (cells : List PlainCell) (k : List ℕ) (qs : Pairs) (ps : TreePairs) (m : ℕ → Made Value) (v : Value) → m ≡ (λ n. bare v)
+    → dict_of_pairs before (grown before cells m) (qs ++ (k, given before cells m) ∷ []) ps ≡ dict_of_pairs before cells (qs ++ (k, v) ∷ []) ps
+bare_dict before cells k qs ps m v is =
+    ap (λ f. dict_of_pairs before (grown before cells f) (qs ++ (k, given before cells f) ∷ []) ps) is
+    ∙ ap (λ cs. dict_of_pairs before cs (qs ++ (k, v) ∷ []) ps) (append-nil cells)
+
+pub bare_item_added : (vs new : List Value) (left : List Tree) (t : Tree) (rest : List Tree) (v : Value) → left ≡ t ∷ rest → load (view t) ≡ (λ n. bare v) → new ≡ vs ++ v ∷ [] → SameArray new (items_view rest) vs (items_view left)
+bare_item_added vs new left t rest v e is added before cells =
+    ap (λ ws. array_of before cells ws (items_view rest)) added
+    ∙ sym (bare_array before cells vs (items_view rest) (load (view t)) v is)
+    ∙ array_next before cells vs left t rest e
+
+pub bare_pair_added : (qs new : Pairs) (left : List (List ℕ × Tree)) (k : List ℕ) (p : List ℕ × Tree) (rest : List (List ℕ × Tree)) (v : Value) → k ≡ p.0 → left ≡ p ∷ rest → load (view p.1) ≡ (λ n. bare v) → new ≡ qs ++ (k, v) ∷ [] → SameDict new (pairs_view rest) qs (pairs_view left)
+bare_pair_added qs new left k p rest v same e is added before cells =
+    ap (λ ws. dict_of_pairs before cells ws (pairs_view rest)) added
+    ∙ sym (bare_dict before cells k qs (pairs_view rest) (load (view p.1)) v is)
+    ∙ dict_next before cells qs left k p rest same e
 
 -- what is open, one more or less of it
 pub wrapped_end : (before : ℕ) (os : List Open) (o : Open) (m : Made Value) → wrapped before (os ++ o ∷ []) m ≡ wrapped before os (filled before o m)

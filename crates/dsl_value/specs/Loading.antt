@@ -1,5 +1,5 @@
 -- A tree while it is put into a store.
-use Rattle.std.specs.Prelude.{ℕ, ◌+◌, ◌*◌, List, [], ◌∷◌, ◌++◌}
+use Rattle.std.specs.Prelude.{◌≡◌, ℕ, ◌+◌, ◌*◌, List, [], ◌∷◌, ◌++◌}
 use Rattle.site_base.specs.Data.{Data, Items, Pairs as TreePairs}
 use Rattle.site_base.specs.View.{view, items_view, pairs_view}
 use Rattle.site_base.specs.Weight.{weight, items_weight, pairs_weight}
@@ -27,6 +27,13 @@ array_of before cells vs ds = in_cell before array (record { value = vs ++ given
 -- a dictionary of pairs and of those that are left
 abbrev pub dict_of_pairs : ℕ → List PlainCell → Pairs → TreePairs → Made Value
 dict_of_pairs before cells qs ps = in_cell before (λ all. dict (dict_of all [])) (record { value = qs ++ given before cells (load_pairs ps); cells = grown before cells (load_pairs ps) })
+
+-- an array, or a dictionary, comes to the same as with more of it left, whatever cells are there
+abbrev pub SameArray : List Value → Items → List Value → Items → Type 0
+SameArray vs ds more_vs more_ds = (before : ℕ) (cells : List PlainCell) → array_of before cells vs ds ≡ array_of before cells more_vs more_ds
+
+abbrev pub SameDict : Pairs → TreePairs → Pairs → TreePairs → Type 0
+SameDict qs ps more_qs more_ps = (before : ℕ) (cells : List PlainCell) → dict_of_pairs before cells qs ps ≡ dict_of_pairs before cells more_qs more_ps
 
 -- what an open array or dictionary becomes once the part that is loaded next has this value, and these are all cells
 abbrev pub filled : ℕ → Open → Made Value → Made Value

@@ -1,10 +1,10 @@
 // How trees are put into a store.
-ghost use Rattle.std.specs.Prelude.{◌≡◌, ◌≤◌, ◌<◌, ◌+◌, ◌*◌, ◌++◌, ◌∷◌, [], IfOk, OnOk, length, map};
+ghost use Rattle.std.specs.Prelude.{◌≡◌, ◌≤◌, ◌<◌, ◌+◌, ◌*◌, ◌++◌, ◌∷◌, [], IfOk, IfSome, OnOk, length, map};
 ghost use Rattle.site_base.specs.View.{view, items_view, pairs_view};
 ghost use Rattle.site_base.specs.Weight.{weight, items_weight, pairs_weight};
 ghost use Rattle.dsl_value.specs.Contents.{plain};
-ghost use Rattle.dsl_value.specs.Loads.{load, grown, given};
-ghost use Rattle.dsl_value.specs.Loading.{among, loaded, array_of, dict_of_pairs, filled, value_of, work_in, work_of};
+ghost use Rattle.dsl_value.specs.Loads.{bare, load, grown, given};
+ghost use Rattle.dsl_value.specs.Loading.{among, loaded, array_of, dict_of_pairs, filled, value_of, work_in, work_of, SameArray, SameDict};
 
 use crate::pairs::sorted_pairs;
 use crate::{Cell, Value};
@@ -118,7 +118,7 @@ fn add<'a>(
 
 /// Goes on in an array of which so much is loaded, and this is left.
 fn next_item<'a>(
-    values: Vec<Value>,
+    mut values: Vec<Value>,
     left: &'a [Tree],
     before: u32,
     made: &mut Vec<Cell>,
@@ -126,6 +126,7 @@ fn next_item<'a>(
     ensures value { IfOk result (λ s. value_of before (map plain made.new.items) s ≡ array_of before (map plain made.old.items) values.items (items_view left.now)) }
     ensures less { IfOk result (λ s. work_of s ≤ 1 + 2 * items_weight left.now) }
 {
+    let left = add_bare_items(&mut values, left)?;
     match left.split_first() {
         None => Ok(Step::Made(add_cell(Cell::Array(values), before, made)?)),
         Some((next, left)) => Ok(Step::Inside(Open::Array { values, left }, next)),
@@ -135,7 +136,7 @@ fn next_item<'a>(
 /// Goes on in a dictionary of which so much is loaded, and this is left.
 fn next_pair<'a>(
     alloc: Global,
-    pairs: Vec<(Text, Value)>,
+    mut pairs: Vec<(Text, Value)>,
     left: &'a [(Text, Tree)],
     before: u32,
     made: &mut Vec<Cell>,
@@ -143,6 +144,7 @@ fn next_pair<'a>(
     ensures value { IfOk result (λ s. value_of before (map plain made.new.items) s ≡ dict_of_pairs before (map plain made.old.items) pairs.items (pairs_view left.now)) }
     ensures less { IfOk result (λ s. work_of s ≤ 1 + 2 * pairs_weight left.now) }
 {
+    let left = add_bare_pairs(&mut pairs, left)?;
     match left.split_first() {
         None => {
             let sorted = sorted_pairs(alloc, pairs)?;
@@ -152,6 +154,55 @@ fn next_pair<'a>(
             let key = key.clone()?;
             Ok(Step::Inside(Open::Dict { pairs, key, left }, next))
         }
+    }
+}
+
+/// Adds the values of the items that need no cell and stand in front of the first that needs one, and
+/// gives what is left.
+fn add_bare_items<'a>(values: &mut Vec<Value>, items: &'a [Tree]) -> Result<&'a [Tree], OutOfMemory>
+    ensures value { IfOk result (λ r. SameArray values.new.items (items_view r.now) values.old.items (items_view items.now)) }
+    ensures less { IfOk result (λ r. items_weight r.now ≤ items_weight items.now) }
+{
+    let mut left = items;
+    while let Some((next, rest)) = left.split_first() {
+        let Some(value) = bare_value(next)? else {
+            break;
+        };
+        values.push(value)?;
+        left = rest;
+    }
+    Ok(left)
+}
+
+/// The same for pairs.
+fn add_bare_pairs<'a>(
+    pairs: &mut Vec<(Text, Value)>,
+    items: &'a [(Text, Tree)],
+) -> Result<&'a [(Text, Tree)], OutOfMemory>
+    ensures value { IfOk result (λ r. SameDict pairs.new.items (pairs_view r.now) pairs.old.items (pairs_view items.now)) }
+    ensures less { IfOk result (λ r. pairs_weight r.now ≤ pairs_weight items.now) }
+{
+    let mut left = items;
+    while let Some(((key, next), rest)) = left.split_first() {
+        let Some(value) = bare_value(next)? else {
+            break;
+        };
+        pairs.push((key.clone()?, value))?;
+        left = rest;
+    }
+    Ok(left)
+}
+
+/// The value of a tree that needs no cell; `None` for a list or dictionary.
+fn bare_value(tree: &Tree) -> Result<Option<Value>, OutOfMemory>
+    ensures { IfOk result (λ o. IfSome o (λ v. load (view tree.now) ≡ (λ n. bare v))) }
+{
+    match tree {
+        Tree::Null => Ok(Some(Value::Null)),
+        Tree::Bool(value) => Ok(Some(Value::Bool(*value))),
+        Tree::Number(number) => Ok(Some(Value::Number(*number))),
+        Tree::Str(text) => Ok(Some(Value::Str(text.clone()?))),
+        Tree::List(_) | Tree::Dict(_) => Ok(None),
     }
 }
 
