@@ -7,6 +7,7 @@ pub mod Kept
 pub mod Keyed
 pub mod Layered
 pub mod Levels
+pub mod Looks
 pub mod Named
 pub mod Numbered
 pub mod Parted

@@ -162,7 +162,7 @@ pub element_none : (cells : List PlainCell) (below : List Entered) (f : Entered)
 element_none cells below f c e = ap (going_with cells below) (next_none (inside_walk cells below f) (cell_at cells (cell_of f)) f c e)
 
 module _ (cells : List PlainCell) (below : List Entered) (f : Entered) (few : length below < most) where
-  level : (v : Value) (c : ℕ) → inside_walk cells below f v c ≡ value_walked (walk (most - length below - 1) cells) cells (cell_of f ∷ map cell_of below) v c
+  pub level : (v : Value) (c : ℕ) → inside_walk cells below f v c ≡ value_walked (walk (most - length below - 1) cells) cells (cell_of f ∷ map cell_of below) v c
   level v c = a_level (most - length below) cells (cell_of f ∷ map cell_of below) v c (omega (arith, few))
 
   pub at_null : (c : ℕ) → inside_walk cells below f value.Null c ≡ walked tree.null c

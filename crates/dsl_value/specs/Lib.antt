@@ -8,6 +8,7 @@ pub mod Grows
 pub mod Known
 pub mod Loading
 pub mod Loads
+pub mod Looking
 pub mod Nests
 pub mod Outcomes
 pub mod Pairs

@@ -7,6 +7,7 @@ use Rattle.site_base.specs.View.{view, items_of, pairs_of}
 use Rattle.dsl_value.specs.Contents.{PlainCell, array, dict, cell_at, values_of, pairs_of as content}
 use Rattle.dsl_value.specs.Walks.{most, Walk, walked, ◌>>=◌, Walker, values_walked, pairs_walked, walk, outcome, Stops, is_open}
 use Rattle.dsl_value.specs.declared.value.Value.{Value}
+use Rattle.dsl_value.specs.declared.value.Value.TheVariants as value
 use Rattle.dsl_value.specs.Entering.{Entered, in_array, in_dict, frame, cell_of}
 use Rattle.dsl_value.specs.declared.path.Path.{Path}
 use Rattle.dsl_value.specs.declared.turn.Turn.{Turn}
@@ -90,6 +91,12 @@ pub record IsPath (count : ℕ) (p : Path) : Type 0 where
 -- falls with each turn
 abbrev pub left_of : Path → ℕ
 left_of p = 2 * (most - p.cost) + length (below_of p)
+
+-- what comes next is passed, up to a cell that is looked at then, or to the end of the last cell
+abbrev pub Passed : List PlainCell → Path → Result (Option ℕ) TreeFault → Walk Data → Type 0
+Passed cells p (Ok (Some k)) w = (k < length cells) × (going_at cells p (value.Ref k) ≡ w)
+Passed cells p (Ok None) w = going_with cells (below_of p) (walked (tree_made (frame p.top)) p.cost) ≡ w
+Passed cells p (Err e) w = Stops e (outcome w)
 
 -- a turn goes on where the walk goes on, or ends as the walk does
 abbrev pub Turned : List PlainCell → Result Turn TreeFault → Walk Data → Type 0

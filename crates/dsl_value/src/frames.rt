@@ -1,5 +1,5 @@
 // What a walk does inside of one cell.
-ghost use Rattle.std.specs.Prelude.{◌≡◌, ◌<◌, IfSome, IfNone, OnOk, Some, None, map, length, slice_get};
+ghost use Rattle.std.specs.Prelude.{◌≡◌, ◌<◌, IfOk, IfSome, IfNone, OnOk, Some, None, map, length, slice_get};
 ghost use Rattle.site_base.specs.View.{view, pair_view};
 ghost use Rattle.dsl_value.specs.Contents.{plain, pairs_of};
 ghost use Rattle.dsl_value.specs.Paths.{entered, next_value, key_bytes, keyed, with_child, tree_made};
@@ -10,19 +10,19 @@ use crate::{Cell, Value};
 use site_base::{OutOfMemory, Text, Tree};
 use std::alloc::Global;
 
-/// A cell of which nothing is passed.
-pub(crate) fn enter(alloc: Global, cell: u32, content: &Cell) -> Frame
-    ensures { frame result ≡ entered cell (plain content.now) }
+/// A cell of which nothing is passed, with room for the trees of all that is in it.
+pub(crate) fn enter(alloc: Global, cell: u32, content: &Cell) -> Result<Frame, OutOfMemory>
+    ensures { IfOk result (λ f. frame f ≡ entered cell (plain content.now)) }
 {
     match content {
-        Cell::Array(_) => Frame::Array {
-            cell,
-            made: Vec::new(alloc),
-        },
-        Cell::Dict(_) => Frame::Dict {
-            cell,
-            made: Vec::new(alloc),
-        },
+        Cell::Array(items) => {
+            let made = Vec::with_capacity(alloc, items.len())?;
+            Ok(Frame::Array { cell, made })
+        }
+        Cell::Dict(pairs) => {
+            let made = Vec::with_capacity(alloc, pairs.len())?;
+            Ok(Frame::Dict { cell, made })
+        }
     }
 }
 
@@ -65,6 +65,7 @@ pub(crate) fn key_bytes_of(top: &Frame, content: &Cell) -> usize
 }
 
 /// Passes a value, whose tree this is.
+#[inline]
 pub(crate) fn add_tree(top: &mut Frame, content: &Cell, tree: Tree) -> Result<(), OutOfMemory>
     ensures { OnOk result (frame top.new ≡ with_child (plain content.now) (frame top.old) (view tree)) }
 {

@@ -3,8 +3,8 @@
 //! In reading order: values (`value`), cells with what changes one (`cell`, `change`, `cells`, `pairs`),
 //! functions (`function`), cells and functions that stores share (`part`, `layer`, `frozen`), the store (`store`,
 //! `reading`, `writing`, `set_fault`), when values are equal (`equality`, `known`), trees that are put in
-//! (`loading`), the trees of values (`walking`, with `frame`, `frames`, `nest`, `path`, `turn` and `tree_fault`),
-//! and what trees cost (`costs`). What operators and the library make for a store stands in `making` and
+//! (`loading`), the trees of values (`walking`, with `looking`, `frame`, `frames`, `nest`, `path`, `turn` and
+//! `tree_fault`), and what trees cost (`costs`). What operators and the library make for a store stands in `making` and
 //! `acting` (with `priced` and `refusal`), and laws of stores in `laws`.
 #![tactic(auto)]
 
@@ -22,6 +22,7 @@ mod known;
 mod laws;
 mod layer;
 mod loading;
+mod looking;
 mod making;
 mod nest;
 mod pairs;

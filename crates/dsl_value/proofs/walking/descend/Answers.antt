@@ -19,5 +19,5 @@ pub returns-clause-gives : goal.returns-clause-gives
 returns-clause-gives c =
     let few : length (below_of c.args.path) < most = omega (arith, c.requires.path.levels, c.requires.path.within) in
     let within : c.args.path.cost + 1 ≤ most = omega (arith, c.in-Some.ensures.within.0, c.in-Some.ensures.within.1) in
-    entered_going c.args.store.now.cells (below_of c.args.path) _ (frame c.args.path.top) (frame c.enter-top.result) c.args.cell c.args.path.cost c.in-Some.cost few (sym c.is_inside.ensures ∙ c.if-is_inside.false) within
-    (ap (map frame) c.in_ok-below.ensures) (c.enter-top.ensures ∙ ap (entered c.args.cell) c.cell.ensures.cell) c.in-Some.ensures.within.0
+    entered_going c.args.store.now.cells (below_of c.args.path) _ (frame c.args.path.top) (frame c.in_ok-top.top) c.args.cell c.args.path.cost c.in-Some.cost few (sym c.is_inside.ensures ∙ c.if-is_inside.false) within
+    (ap (map frame) c.in_ok-below.ensures) (c.in_ok-top.ensures ∙ ap (entered c.args.cell) c.cell.ensures.cell) c.in-Some.ensures.within.0

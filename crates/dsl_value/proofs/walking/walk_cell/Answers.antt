@@ -9,15 +9,15 @@ use Rattle.dsl_value.proofs.walking.walk_cell.Goals as goal
 
 pub loop-next-init : goal.loop-next-init
 loop-next-init c =
-    let first : frame c.enter.result ≡ entered c.args.cell (cell_at c.args.store.now.cells c.args.cell) = c.enter.ensures ∙ ap (entered c.args.cell) c.cell.ensures.cell in
-    let none : map frame c.new.result ≡ [] = ap (map frame) c.new.ensures in
-    let there : cell_of (frame c.enter.result) ≡ c.args.cell = ap cell_of first ∙ cell_of_entered c.args.cell (cell_at c.args.store.now.cells c.args.cell) in (
+    let first : frame c.in_ok-top.top ≡ entered c.args.cell (cell_at c.args.store.now.cells c.args.cell) = c.in_ok-top.ensures ∙ ap (entered c.args.cell) c.cell.ensures.cell in
+    let none : map frame c.new-below.result ≡ [] = ap (map frame) c.new-below.ensures in
+    let there : cell_of (frame c.in_ok-top.top) ≡ c.args.cell = ap cell_of first ∙ cell_of_entered c.args.cell (cell_at c.args.store.now.cells c.args.cell) in (
       record {
         top = subst (λ k. k < length c.args.store.now.cells) (sym there) c.requires;
         below = subst (AllByRecursion (λ f. cell_of f < length c.args.store.now.cells)) (sym none) tt;
         within = omega arith;
-        apart = ap (λ fs. is_open (cell_of (frame c.enter.result)) (map cell_of fs)) none;
+        apart = ap (λ fs. is_open (cell_of (frame c.in_ok-top.top)) (map cell_of fs)) none;
         levels = subst (λ fs. length fs < 1) (sym none) (omega arith);
       },
-      begun_going c.args.store.now.cells (map frame c.new.result) (frame c.enter.result) c.args.cell none first,
+      begun_going c.args.store.now.cells (map frame c.new-below.result) (frame c.in_ok-top.top) c.args.cell none first,
     )

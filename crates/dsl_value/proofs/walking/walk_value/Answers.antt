@@ -1,28 +1,18 @@
-use Rattle.std.proofs.Common.{◌≤◌, ◌<◌, Ok, length, sym, ap, ◌∙◌, arith}
-use Rattle.dsl_value.specs.Walks.{most, tree_walked}
-use Rattle.dsl_value.specs.declared.value.Value.TheVariants as value
-use Rattle.dsl_value.proofs.Seen.{view-Null, view-Bool, view-Number}
-use Rattle.dsl_value.proofs.Steps.{at_top, top_text_within, top_text_over}
+use Rattle.std.proofs.Common.{◌≡◌, ◌+◌, ◌-◌, [], Ok, Err, sym, ap, subst, ◌∙◌, rules}
+use Rattle.site_base.specs.View.{view}
+use Rattle.dsl_value.specs.Walks.{most, walk, outcome, tree_walked, Gives, Stops}
+use Rattle.dsl_value.specs.Looking.{Looked}
+use Rattle.dsl_value.proofs.Steps.{at_top}
 use Rattle.dsl_value.proofs.walking.walk_value.Goals as goal
 
-pub returns-in-Null : goal.returns-in-Null
-returns-in-Null c = ap (tree_walked c.args.store.now.cells) c.in-Null.is ∙ at_top c.args.store.now.cells value.Null ∙ ap Ok (sym view-Null)
+pub returns-in_err-tree : goal.returns-in_err-tree
+returns-in_err-tree c =
+    let stopped : c.from_residual.result ≡ Err c.in_err-tree.field-0.0 = search rules in
+    subst (λ r. Gives view r (tree_walked c.args.store.now.cells c.args.value.now)) (sym stopped)
+    (subst (Stops c.in_err-tree.field-0.0) (sym (at_top c.args.store.now.cells c.args.value.now))
+    (c.in_err-tree.ensures (walk (most + 1 - 1) c.args.store.now.cells) c.args.store.now.cells []))
 
-pub returns-in-Bool : goal.returns-in-Bool
-returns-in-Bool c = ap (tree_walked c.args.store.now.cells) c.in-Bool.is ∙ at_top c.args.store.now.cells (value.Bool c.in-Bool.value) ∙ ap Ok (sym (view-Bool c.in-Bool.value))
-
-pub returns-in-Number : goal.returns-in-Number
-returns-in-Number c = ap (tree_walked c.args.store.now.cells) c.in-Number.is ∙ at_top c.args.store.now.cells (value.Number c.in-Number.number) ∙ ap Ok (sym (view-Number c.in-Number.number))
-
-pub returns-in_ok-text_tree-in-Some : goal.returns-in_ok-text_tree-in-Some
-returns-in_ok-text_tree-in-Some c =
-    let within : length c.in-Str.text ≤ most = omega (arith, c.in-Some.ensures.within.0, c.in-Some.ensures.within.1, c.len.ensures) in
-    ap (tree_walked c.args.store.now.cells) c.in-Str.is ∙ top_text_within c.args.store.now.cells c.in-Str.text within ∙ ap Ok (sym c.in_ok-text_tree-in-Some.ensures)
-
-pub returns-in-None : goal.returns-in-None
-returns-in-None c =
-    let over : most < length c.in-Str.text = omega (arith, c.in-None.ensures.over, c.len.ensures) in
-    ap (tree_walked c.args.store.now.cells) c.in-Str.is ∙ top_text_over c.args.store.now.cells c.in-Str.text over
-
-pub returns-in-Func : goal.returns-in-Func
-returns-in-Func c = ap (tree_walked c.args.store.now.cells) c.in-Func.is ∙ at_top c.args.store.now.cells (value.Func c.in-Func.field-0)
+pub returns-in-Leaf : goal.returns-in-Leaf
+returns-in-Leaf c =
+    let leaf = subst (λ l. Looked c.args.value.now 0 (Ok l)) c.in-Leaf.is c.in_ok-tree.ensures in
+    at_top c.args.store.now.cells c.args.value.now ∙ ap outcome (leaf.0 (walk (most + 1 - 1) c.args.store.now.cells) c.args.store.now.cells [])
