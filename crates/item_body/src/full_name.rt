@@ -1,5 +1,5 @@
 // The full names of objects.
-ghost use Rattle.std.specs.Prelude.{◌≡◌, ◌++◌, List, ℕ, IfOk, OnOk, Some, None, map, if◌then◌else◌, ◌==◌, ◌∷◌, length};
+ghost use Rattle.std.specs.Prelude.{◌≡◌, ◌++◌, List, ℕ, IfOk, OnOk, Some, None, map, if◌then◌else◌, ◌==◌, ◌∷◌, length, string_bytes};
 ghost use Rattle.site_base.specs.View.{view};
 ghost use Rattle.eval_meaning.specs.Views.{bang};
 ghost use Rattle.object_types.specs.Names.{type_named};
@@ -16,43 +16,57 @@ use std::alloc::Global;
 pub(crate) fn full_name(
     alloc: Global,
     kind: &str,
-    name: &str,
+    name: &Text,
     tree: &Tree,
 ) -> Result<Text, OutOfMemory>
     ensures { IfOk result (λ n. n ≡ full_name_by (type_named kind.now) name.now (view tree.now)) }
 {
     match ObjectType::of_name(kind) {
         Some(kind) => joined_name(alloc, owners(kind), name, tree),
-        None => Text::copy_of(alloc, name),
+        None => Ok(name.clone()?),
     }
 }
 
-/// What these attributes hold and then a name, with `!` between. An empty string is left out.
+/// What these attributes hold and then a name, with `!` between. An empty string is left out. A name alone is shared.
 fn joined_name(
     alloc: Global,
     owners: &[Attribute],
-    name: &str,
+    name: &Text,
     tree: &Tree,
 ) -> Result<Text, OutOfMemory>
     ensures { IfOk result (λ n. n ≡ joined (map (attribute_text (view tree.now)) owners.now) name.now) }
 {
-    let mut full = Text::new(alloc);
+    if owners.is_empty() {
+        return Ok(name.clone()?);
+    }
+    let mut full = String::with_capacity(alloc, room_for(owners, name, tree))?;
     for owner in owners {
         push_owner(&mut full, text_of(tree, *owner))?;
     }
-    full.push_str(name)?;
-    Ok(full)
+    full.push_str(name.as_str())?;
+    Text::of_string(alloc, full)
+}
+
+/// How many bytes such a name has at most.
+fn room_for(owners: &[Attribute], name: &Text, tree: &Tree) -> usize {
+    let mut room = name.len();
+    for owner in owners {
+        let behind = text_of(tree, *owner).len().saturating_add(1);
+        room = room.saturating_add(behind);
+    }
+    room
 }
 
 /// Adds a name and a `!`, and nothing where the name is empty.
-fn push_owner(full: &mut Text, owner: &str) -> Result<(), OutOfMemory>
-    ensures { OnOk result ((more : List ℕ) → full.new ++ more ≡ full.old ++ (if length owner.now == 0 then more else owner.now ++ bang ∷ more)) }
+fn push_owner(full: &mut String, owner: &str) -> Result<(), OutOfMemory>
+    ensures { OnOk result ((more : List ℕ) → string_bytes full.new ++ more ≡ string_bytes full.old ++ (if length owner.now == 0 then more else owner.now ++ bang ∷ more)) }
 {
     if owner.is_empty() {
         return Ok(());
     }
     full.push_str(owner)?;
-    full.push('!')
+    full.push('!')?;
+    Ok(())
 }
 
 /// The attributes of a type's objects that name their host and their service.

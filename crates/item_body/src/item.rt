@@ -65,7 +65,7 @@ fn object_of(alloc: Global, item: &Item, tree: Tree) -> Result<Object, OutOfMemo
 {
     Ok(Object {
         kind: item.kind.clone()?,
-        name: full_name(alloc, item.kind.as_str(), item.name.as_str(), &tree)?,
+        name: full_name(alloc, item.kind.as_str(), &item.name, &tree)?,
         place: item.place,
         number: item.number,
         builtin: item.builtin,
