@@ -1,8 +1,8 @@
 //! The tokens of the configuration language.
 //!
 //! In reading order: the reserved words and the signs, tokens and what they are, the error, and
-//! [`lex`], which goes over a text step by step. What a step finds is in `stepping`: names, which share
-//! their texts by `interner`, numbers, strings and comments, and signs by the longest mark.
+//! [`lex`], which goes over a text step by step. What a step finds is in `stepping`: names and strings, which
+//! share their texts by `interner`, numbers, comments, and signs by the longest mark.
 #![tactic(auto)]
 
 mod interner;

@@ -50,7 +50,7 @@ pub(crate) fn next_step(
     if first.is_ascii_digit() {
         return Ok(number(bytes));
     }
-    marked(alloc, bytes)
+    marked(alloc, interner, bytes)
 }
 
 fn newline(is_token: bool) -> Step
@@ -103,7 +103,7 @@ pub(crate) fn ascii_text(bytes: &[u8]) -> &str
 
 /// A sign, a string or a comment.
 #[tactic(auto, unfolding(crate::specs::Steps::mark_at))]
-fn marked(alloc: Global, bytes: &[u8]) -> Result<Step, OutOfMemory>
+fn marked(alloc: Global, interner: &mut Interner, bytes: &[u8]) -> Result<Step, OutOfMemory>
     requires { 0 < length bytes.now }
     ensures { IfOk result (λ s. s ≡ mark_at bytes.now) }
 {
@@ -112,8 +112,8 @@ fn marked(alloc: Global, bytes: &[u8]) -> Result<Step, OutOfMemory>
         Some(Mark::Sign(sign)) => Ok(Step::Taken(sign.spelling().len(), TokenKind::Sign(sign))),
         Some(Mark::Hash | Mark::DoubleSlash) => Ok(Step::Passed(line_len(bytes))),
         Some(Mark::BlockComment) => Ok(block_comment(bytes.split_at(2).1)),
-        Some(Mark::LongString) => long_string(alloc, bytes.split_at(3).1),
-        Some(Mark::Quote) => read_string(alloc, bytes.split_at(1).1),
+        Some(Mark::LongString) => long_string(interner, bytes.split_at(3).1),
+        Some(Mark::Quote) => read_string(alloc, interner, bytes.split_at(1).1),
     }
 }
 
@@ -128,11 +128,11 @@ fn block_comment(bytes: &[u8]) -> Step
 }
 
 /// A string behind its `{{{`.
-fn long_string(alloc: Global, bytes: &[u8]) -> Result<Step, OutOfMemory>
+fn long_string(interner: &mut Interner, bytes: &[u8]) -> Result<Step, OutOfMemory>
     ensures { IfOk result (λ s. s ≡ long_step bytes.now (find_end (codes "}}}") bytes.now)) }
 {
     match end_len(b"}}}", bytes) {
-        Some(len) => copied_text(alloc, 6 + len, bytes.split_at(len).0),
+        Some(len) => copied_text(interner, 6 + len, bytes.split_at(len).0),
         None => Ok(Step::Fault),
     }
 }

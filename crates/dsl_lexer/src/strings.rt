@@ -7,13 +7,18 @@ ghost use Rattle.dsl_lexer.specs.Strings.{body_of, is_quote};
 ghost use Rattle.dsl_lexer.specs.Steps.{string_step, text_step};
 
 use crate::TokenKind;
+use crate::interner::Interner;
 use crate::stepping::Step;
 use crate::unit::{Unit, read_unit};
 use site_base::{OutOfMemory, Text};
 use std::alloc::Global;
 
 /// A string behind its opening quote. One without escapes is copied as it stands.
-pub(crate) fn read_string(alloc: Global, bytes: &[u8]) -> Result<Step, OutOfMemory>
+pub(crate) fn read_string(
+    alloc: Global,
+    interner: &mut Interner,
+    bytes: &[u8],
+) -> Result<Step, OutOfMemory>
     ensures { IfOk result (λ s. s ≡ string_step (body_of bytes.now)) }
 {
     let len = plain_len(bytes);
@@ -21,7 +26,7 @@ pub(crate) fn read_string(alloc: Global, bytes: &[u8]) -> Result<Step, OutOfMemo
     if !at_quote(rest) {
         return read_units(alloc, bytes);
     }
-    copied_text(alloc, 2 + len, text)
+    copied_text(interner, 2 + len, text)
 }
 
 /// How many bytes at the front of a text stand for themselves inside a string.
@@ -72,13 +77,17 @@ fn read_units(alloc: Global, bytes: &[u8]) -> Result<Step, OutOfMemory>
 }
 
 /// A string of so many bytes that stands for this text.
-pub(crate) fn copied_text(alloc: Global, len: usize, text: &[u8]) -> Result<Step, OutOfMemory>
+pub(crate) fn copied_text(
+    interner: &mut Interner,
+    len: usize,
+    text: &[u8],
+) -> Result<Step, OutOfMemory>
     ensures { IfOk result (λ s. s ≡ text_step len text.now) }
 {
     let Ok(text) = str::from_utf8(text) else {
         return Ok(Step::Fault);
     };
-    let text = Text::copy_of(alloc, text)?;
+    let text = interner.string_of(text)?;
     Ok(Step::Taken(len, TokenKind::Str(text)))
 }
 
