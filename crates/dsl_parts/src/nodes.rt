@@ -71,22 +71,24 @@ pub fn with_call(
     Ok(Operand { start, expr })
 }
 
-/// An array at its place.
+/// An array at its place, which takes no more memory than its elements do.
 #[tactic(auto, using(dsl_syntax::proofs::SyntaxKinds::kind_array))]
-pub fn array_at(place: Place, items: Vec<Expr>) -> Expr
+pub fn array_at(place: Place, mut items: Vec<Expr>) -> Expr
     ensures { expr_view result ≡ expression place (array (exprs_view items.items)) }
 {
+    items.shrink_to_fit();
     Expr {
         place,
         kind: ExprKind::Array(items),
     }
 }
 
-/// A dictionary at its place.
+/// A dictionary at its place, which takes no more memory than its entries do.
 #[tactic(auto, using(dsl_syntax::proofs::SyntaxKinds::kind_dict))]
-pub fn dictionary_at(place: Place, entries: Vec<(Text, Expr)>) -> Expr
+pub fn dictionary_at(place: Place, mut entries: Vec<(Text, Expr)>) -> Expr
     ensures { expr_view result ≡ expression place (dictionary (entries_view entries.items)) }
 {
+    entries.shrink_to_fit();
     Expr {
         place,
         kind: ExprKind::Dict(entries),

@@ -66,11 +66,12 @@ pub fn set_op<'a>(tokens: &'a [Token]) -> Result<(SetOp, &'a [Token]), Stop<'a>>
     }
 }
 
-/// The assignment to a target.
+/// The assignment to a target, whose steps take no more memory than they need.
 fn set_of(target: Target, setting: Setting) -> StmtKind
     ensures { (k : StatementKind) → stmt_kind_view result ≡ set_value (assigned (maybe_set k (Some (target_view target))) (setting_view setting)) }
 {
-    let Target { base, steps } = target;
+    let Target { base, mut steps } = target;
+    steps.shrink_to_fit();
     let Setting { op, expr } = setting;
     StmtKind::Set {
         base,
