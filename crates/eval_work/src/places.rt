@@ -54,7 +54,7 @@ impl Places {
         ensures added { (k n : List ℕ) → OnOk result (place_at self.new k n ≡ placed k n kind.now name.now place (place_at self.old k n)) }
         ensures kept { (k n : List ℕ) → OnErr result (place_at self.new k n ≡ place_at self.old k n) }
     {
-        let mut list = Vec::new(self.alloc);
+        let mut list = Vec::with_capacity(self.alloc, 1)?;
         list.push((kind.clone()?, place))?;
         let key = String::from_str(self.alloc, name.as_str())?;
         self.lists.insert(key, list)?;
