@@ -1,5 +1,6 @@
 // The groups that take an object.
 ghost use Rattle.std.specs.Prelude.{◌≡◌, [], ◌∷◌, IfOk, map, option_map};
+ghost use Rattle.std.specs.Arc.{arc_value};
 ghost use Rattle.site_base.specs.View.{view as tree_view};
 ghost use Rattle.dsl_value.specs.PlainStores.{plain_store};
 ghost use Rattle.eval_meaning.specs.States.{rule as rule_task};
@@ -91,7 +92,7 @@ fn take_seen(
 ) -> Result<Taken, Stop>
     requires view { IsLawfulView view.now }
     requires groups { GroupsNamed view.now.store.now groups.now }
-    ensures { Gives plain_taken result (fresh (plain_store view.now.store.now) rule_task reads.new.items) (seen_taken (view_of view.now) member.now.number (type_named member.now.kind) (tree_view member.now.tree) (map plain_group groups.now) (fresh (plain_store view.now.store.now) rule_task reads.old.items)) }
+    ensures { Gives plain_taken result (fresh (plain_store view.now.store.now) rule_task reads.new.items) (seen_taken (view_of view.now) member.now.number (type_named member.now.kind) (tree_view (arc_value member.now.tree)) (map plain_group groups.now) (fresh (plain_store view.now.store.now) rule_task reads.old.items)) }
 {
     let seen = seen_of(alloc, view, member, reads)?;
     take_by(alloc, view, member.number, seen, groups, reads, spare)

@@ -1,5 +1,6 @@
 // What groups see of an object.
 ghost use Rattle.std.specs.Prelude.{◌≡◌, IfOk, option_map};
+ghost use Rattle.std.specs.Arc.{arc_value};
 ghost use Rattle.site_base.specs.View.{view as tree_view};
 ghost use Rattle.eval_meaning.specs.States.{rule as rule_task};
 ghost use Rattle.eval_meaning.specs.Views.{host as host_read_of};
@@ -29,7 +30,7 @@ pub(crate) fn seen_of<'a>(
     member: &'a Object,
     reads: &mut Vec<Read>,
 ) -> Result<Option<Subject<'a>>, Stop>
-    ensures { Gives (option_map names_of) result (fresh (plain_store view.now.store.now) rule_task reads.new.items) (member_names (view_of view.now) (type_named member.now.kind) (tree_view member.now.tree) (fresh (plain_store view.now.store.now) rule_task reads.old.items)) }
+    ensures { Gives (option_map names_of) result (fresh (plain_store view.now.store.now) rule_task reads.new.items) (member_names (view_of view.now) (type_named member.now.kind) (tree_view (arc_value member.now.tree)) (fresh (plain_store view.now.store.now) rule_task reads.old.items)) }
 {
     match ObjectType::of_name(member.kind.as_str()) {
         Some(ObjectType::Host) => Ok(Some(Subject::Host(&member.tree))),

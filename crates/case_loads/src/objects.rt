@@ -5,6 +5,7 @@ use eval_meaning::Read;
 use site_base::{ItemNo, OutOfMemory, Place, TargetNo, Text, Tree};
 use site_model::Object;
 use std::alloc::Global;
+use std::sync::Arc;
 
 /// A tree with the marks of rows in it; `None` where the text is none.
 pub(crate) fn marked_tree(alloc: Global, text: &str) -> Result<Option<Tree>, OutOfMemory> {
@@ -38,7 +39,7 @@ pub(crate) fn object_of(
         },
         number: number_of(item.saturating_add(1), before, kind, name),
         builtin: false,
-        tree,
+        tree: Arc::new(alloc, tree)?,
     }))
 }
 

@@ -6,6 +6,7 @@ use site_base::{ItemNo, OutOfMemory, Place, TargetNo, Text, Tree, copy_tree, pus
 use site_model::Object;
 use site_text::print_object;
 use std::alloc::Global;
+use std::sync::Arc;
 
 /// No place, of what stands in no file.
 const NOWHERE: Place = Place {
@@ -33,7 +34,7 @@ pub fn push_tree(alloc: Global, out: &mut Text, tree: &Tree) -> Result<(), OutOf
         place: NOWHERE,
         number: NO_NUMBER,
         builtin: false,
-        tree: copy_tree(alloc, tree)?,
+        tree: Arc::new(alloc, copy_tree(alloc, tree)?)?,
     };
     let line = print_object(alloc, &nameless)?;
     let behind = line.as_str().strip_prefix(" \"\" ").unwrap_or("");

@@ -2,6 +2,7 @@
 use site_base::{ItemNo, OutOfMemory, Place, TargetNo, Text, Tree};
 use site_model::Object;
 use std::alloc::Global;
+use std::sync::Arc;
 
 /// The object of a head `NUMBER TYPE NAME` and a tree, in the first column of its line. A number that is none counts as 0.
 pub fn object_of(alloc: Global, head: &str, tree: Tree) -> Result<Object, OutOfMemory> {
@@ -18,7 +19,7 @@ pub fn object_of(alloc: Global, head: &str, tree: Tree) -> Result<Object, OutOfM
         },
         number: number_of(item),
         builtin: false,
-        tree,
+        tree: Arc::new(alloc, tree)?,
     })
 }
 

@@ -18,7 +18,7 @@ pub(crate) fn add_checkable(
             return Ok(false);
         }
     }
-    let mut spec = CheckSpec::plain(Text::copy_of(draft.alloc, name)?, host);
+    let mut spec = CheckSpec::plain(draft.alloc, Text::copy_of(draft.alloc, name)?, host)?;
     for word in words {
         if !describe(draft, &mut spec, word) {
             return Ok(false);

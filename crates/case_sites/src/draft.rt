@@ -2,6 +2,7 @@
 use site_base::{OutOfMemory, Row, Text, Tree};
 use site_model::{CommandSpec, Names, Site};
 use std::alloc::Global;
+use std::sync::Arc;
 
 /// How many of its things a site may have under names.
 const MOST: usize = 1_000;
@@ -21,7 +22,7 @@ impl Draft {
         let mut site = Site::plain(alloc, Row::new(alloc), Names::new(alloc));
         site.commands.push(CommandSpec {
             name: Text::copy_of(alloc, "c")?,
-            tree: Tree::Null,
+            tree: Arc::new(alloc, Tree::Null)?,
         })?;
         Ok(Draft {
             alloc,

@@ -4,6 +4,7 @@ use Rattle.std.specs.Prelude.{option_map, ◌&&◌}
 use Rattle.std.specs.List.{flat_map}
 use Rattle.std.specs.Str.{bytes_eq}
 use Rattle.std.proofs.lemmas.Slice.Eq.{bytes_eq-Decides}
+use Rattle.std.specs.Arc.{arc_value}
 use Rattle.site_base.specs.View.{view}
 use Rattle.site_model.specs.PlainSite.{PlainObject, object_view}
 use Rattle.site_model.specs.declared.object.Object.{Object}
@@ -61,6 +62,6 @@ service_by_host os s found e = ap (with_host s) (first_is (codes "Host") (text_o
 
 -- the same among its targets
 pub one_service : (os : List Object) (o : Object) (found : Option Object) → bytes_eq o.kind (codes "Service") ≡ true
-    → object_at (codes "Host") (text_of (view o.tree) attribute.HostName) os ≡ found → targets_of_one (map object_view os) (object_view o) ≡ with_host (object_view o) (option_map object_view found)
+    → object_at (codes "Host") (text_of (view (arc_value o.tree)) attribute.HostName) os ≡ found → targets_of_one (map object_view os) (object_view o) ≡ with_host (object_view o) (option_map object_view found)
 one_service os o found is there =
     ap (λ b. cond b (service_targets (map object_view os) (object_view o)) (host (object_view o) ∷ [])) is ∙ service_by_host os (object_view o) found there

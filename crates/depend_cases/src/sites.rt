@@ -24,7 +24,7 @@ pub(crate) fn site_of(
             return Ok(None);
         }
         names.add(Text::copy_of(alloc, word)?)?;
-        specs.push(CheckSpec::plain(Text::copy_of(alloc, word)?, host))?;
+        specs.push(CheckSpec::plain(alloc, Text::copy_of(alloc, word)?, host)?)?;
     }
     let mut site = Site::plain(alloc, specs, names);
     for words in depends.split(',') {

@@ -5,6 +5,7 @@ use Rattle.std.specs.Borrow.{Bor}
 use Rattle.std.specs.Slice.{IsItemAt}
 use Rattle.std.proofs.lemmas.Option.{slice_get-get_or, slice_get_past}
 use Rattle.std.specs.Str.{bytes_eq}
+use Rattle.std.specs.Arc.{arc_value}
 use Rattle.site_base.specs.View.{view}
 use Rattle.site_model.specs.declared.object.Object.{Object}
 use Rattle.eval_meaning.specs.Views.{object_in, template_in}
@@ -79,11 +80,11 @@ template_lost k n ts e = template_there k n ts ∙ ap (λ x. option_map plain_te
 
 -- ---- what is read
 
-pub shown_at : (r : Read) (os : List Object) → object_in r (map shown_object os) ≡ option_map (λ o. view o.tree) (object_at r.kind r.name os)
+pub shown_at : (r : Read) (os : List Object) → object_in r (map shown_object os) ≡ option_map (λ o. view (arc_value o.tree)) (object_at r.kind r.name os)
 shown_at r [] = refl
 shown_at r (o ∷ os) = by (shown_at r os) (bytes_eq r.kind o.kind && bytes_eq r.name o.name)
   where
-    by : object_in r (map shown_object os) ≡ option_map (λ x. view x.tree) (object_at r.kind r.name os) → (b : Bool) → cond b (Some (view o.tree)) (object_in r (map shown_object os)) ≡ option_map (λ o. view o.tree) (cond b (Some o) (object_at r.kind r.name os))
+    by : object_in r (map shown_object os) ≡ option_map (λ x. view (arc_value x.tree)) (object_at r.kind r.name os) → (b : Bool) → cond b (Some (view (arc_value o.tree))) (object_in r (map shown_object os)) ≡ option_map (λ o. view (arc_value o.tree)) (cond b (Some o) (object_at r.kind r.name os))
     by rest true = refl
     by rest false = rest
 

@@ -67,7 +67,7 @@ plain_file f = record { name = f.name; builtin = f.builtin; statements = file_vi
 -- ---- views
 
 abbrev pub shown_object : Object → Shown
-shown_object o = record { kind = o.kind; name = o.name; tree = view o.tree }
+shown_object o = record { kind = o.kind; name = o.name; tree = view (arc_value o.tree) }
 
 abbrev pub view_of : WorldView → View
 view_of v = record {

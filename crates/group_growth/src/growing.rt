@@ -11,13 +11,22 @@ use object_types::Attribute;
 use site_base::{OutOfMemory, Text, Tree, copy_tree};
 use site_model::Object;
 use std::alloc::Global;
+use std::sync::Arc;
 
 /// Adds the names of groups to an object's `groups`, each at the end where it isn't there yet. What stands there and is no list is
 /// replaced.
 pub fn grow(alloc: Global, object: &mut Object, names: &[Text]) -> Result<(), OutOfMemory>
     ensures { OnOk result (object_view object.new ≡ grown (object_view object.old) (made names.now)) }
 {
-    grow_tree(alloc, &mut object.tree, names)
+    match Arc::get_mut(&mut object.tree) {
+        Some(tree) => grow_tree(alloc, tree, names),
+        None => {
+            let mut tree = copy_tree(alloc, &object.tree)?;
+            grow_tree(alloc, &mut tree, names)?;
+            object.tree = Arc::new(alloc, tree)?;
+            Ok(())
+        }
+    }
 }
 
 #[tactic(auto, using(crate::proofs::GroupLaws::grown_dict))]

@@ -18,6 +18,7 @@ use object_types::check_object;
 use site_base::{Diag, Diags, OutOfMemory, Row, Tree};
 use site_model::Object;
 use std::alloc::Global;
+use std::sync::Arc;
 
 /// What an item comes to over a view: an object, or what is wrong with it, or the first read that the view doesn't decide.
 ///
@@ -69,7 +70,7 @@ fn object_of(alloc: Global, item: &Item, tree: Tree) -> Result<Object, OutOfMemo
         place: item.place,
         number: item.number,
         builtin: item.builtin,
-        tree,
+        tree: Arc::new(alloc, tree)?,
     })
 }
 

@@ -32,8 +32,8 @@ fn checkables(alloc: Global) -> Result<Row<CheckSpec>, OutOfMemory>
         map (λ c. c.name) (map check_view checkables) ≡ codes "h" ∷ codes "h!s \"1\"" ∷ []) }
 {
     let mut checkables = Row::new(alloc);
-    checkables.push(CheckSpec::plain(Text::copy_of(alloc, "h")?, None))?;
-    checkables.push(CheckSpec::plain(Text::copy_of(alloc, "h!s \"1\"")?, Some(0)))?;
+    checkables.push(CheckSpec::plain(alloc, Text::copy_of(alloc, "h")?, None)?)?;
+    checkables.push(CheckSpec::plain(alloc, Text::copy_of(alloc, "h!s \"1\"")?, Some(0))?)?;
     Ok(checkables)
 }
 

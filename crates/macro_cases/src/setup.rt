@@ -3,6 +3,7 @@ use case_trees::tree_of;
 use site_base::{OutOfMemory, Row, Text, Tree};
 use site_model::{CheckSpec, CommandSpec, Names, Site};
 use std::alloc::Global;
+use std::sync::Arc;
 
 /// The attributes of the objects, as rows write them, and the global `Vars`.
 #[derive(Drop)]
@@ -46,7 +47,7 @@ impl Setup {
         let mut site = Site::plain(alloc, checkables, Names::new(alloc));
         site.commands.push(CommandSpec {
             name: Text::copy_of(alloc, "c")?,
-            tree: command,
+            tree: Arc::new(alloc, command)?,
         })?;
         site.vars = globals;
         Ok(Some(site))
@@ -68,8 +69,8 @@ fn checkable(
     host: Option<u32>,
     attributes: Tree,
 ) -> Result<CheckSpec, OutOfMemory> {
-    let mut spec = CheckSpec::plain(Text::copy_of(alloc, name)?, host);
-    spec.tree = attributes;
+    let mut spec = CheckSpec::plain(alloc, Text::copy_of(alloc, name)?, host)?;
+    spec.tree = Arc::new(alloc, attributes)?;
     Ok(spec)
 }
 

@@ -1,5 +1,6 @@
 -- The plain value of a site: what clauses speak of in place of a `Site`, whose trees have no equality.
 use Rattle.std.specs.Prelude.{ℕ, Bool, true, false, List, [], Option, None, map}
+use Rattle.std.specs.Arc.{arc_value}
 use Rattle.site_base.specs.Data.{Data, null}
 use Rattle.site_base.specs.View.{view}
 use Rattle.site_base.specs.declared.item_no.ItemNo.{ItemNo}
@@ -29,7 +30,7 @@ object_view o = record {
   place = o.place;
   number = o.number;
   builtin = o.builtin;
-  tree = view o.tree;
+  tree = view (arc_value o.tree);
 }
 
 -- a `CheckSpec` with the plain value of its tree
@@ -66,7 +67,7 @@ check_view c = record {
   flapping = c.flapping;
   low = c.low;
   high = c.high;
-  tree = view c.tree;
+  tree = view (arc_value c.tree);
 }
 
 -- a host, or a service of the host of this index, that sets nothing
@@ -95,7 +96,7 @@ pub record PlainCommand : Type 0 where
   pub tree : Data
 
 abbrev pub command_view : CommandSpec → PlainCommand
-command_view c = record { name = c.name; tree = view c.tree }
+command_view c = record { name = c.name; tree = view (arc_value c.tree) }
 
 -- a `Site` with the plain values of its trees
 pub record PlainSite : Type 0 where

@@ -1,8 +1,10 @@
 // Checkables as the configuration sets them.
-ghost use Rattle.std.specs.Prelude.{◌≡◌};
+ghost use Rattle.std.specs.Prelude.{◌≡◌, IfOk};
 ghost use Rattle.site_model.specs.PlainSite.{check_view, plain_check};
 
-use site_base::{Text, Tree};
+use site_base::{OutOfMemory, Text, Tree};
+use std::alloc::Global;
+use std::sync::Arc;
 
 /// A host or a service and how it is checked (Icinga 2 documentation, Object Types, "Host" and
 /// "Service"). Indices are places in the lists of the `Site`.
@@ -36,15 +38,15 @@ pub struct CheckSpec {
     /// `flapping_threshold_high`, in thousandths of a percent: above it flapping begins.
     pub high: u64,
     /// The object's attributes, a `Dict`.
-    pub tree: Tree,
+    pub tree: Arc<Tree>,
 }
 
 impl CheckSpec {
     /// A host, or a service of the host of this index, that sets nothing: all else is as the defaults are.
-    pub fn plain(name: Text, host: Option<u32>) -> CheckSpec
-        ensures { check_view result ≡ plain_check name host }
+    pub fn plain(alloc: Global, name: Text, host: Option<u32>) -> Result<CheckSpec, OutOfMemory>
+        ensures { IfOk result (λ c. check_view c ≡ plain_check name host) }
     {
-        CheckSpec {
+        Ok(CheckSpec {
             name,
             host,
             command: 0,
@@ -59,7 +61,7 @@ impl CheckSpec {
             flapping: false,
             low: 25_000,
             high: 30_000,
-            tree: Tree::Null,
-        }
+            tree: Arc::new(alloc, Tree::Null)?,
+        })
     }
 }

@@ -1,10 +1,11 @@
 // Commands as the configuration sets them.
 use site_base::{Text, Tree};
+use std::sync::Arc;
 
 /// A command that checks (Icinga 2 documentation, Object Types, "CheckCommand").
 #[derive(Debug, Drop)]
 pub struct CommandSpec {
     pub name: Text,
     /// The object's attributes, a `Dict`.
-    pub tree: Tree,
+    pub tree: Arc<Tree>,
 }

@@ -1,5 +1,6 @@
 // Objects of the site.
 use site_base::{ItemNo, Place, Text, Tree};
+use std::sync::Arc;
 
 /// An object that a configuration makes (Icinga 2 documentation, Object Types).
 #[derive(Debug, Drop)]
@@ -14,5 +15,5 @@ pub struct Object {
     /// Whether it comes from the built-in library, and isn't listed.
     pub builtin: bool,
     /// Its attributes, a `Dict`.
-    pub tree: Tree,
+    pub tree: Arc<Tree>,
 }

@@ -108,8 +108,8 @@ fn sets_of_kinds(rt: HostRuntime) {
 
 fn host_and_service(alloc: Global) -> Result<Site, OutOfMemory> {
     let mut checkables = Row::new(alloc);
-    checkables.push(CheckSpec::plain(Text::copy_of(alloc, "h")?, None))?;
-    checkables.push(CheckSpec::plain(Text::copy_of(alloc, "h!s")?, Some(0)))?;
+    checkables.push(CheckSpec::plain(alloc, Text::copy_of(alloc, "h")?, None)?)?;
+    checkables.push(CheckSpec::plain(alloc, Text::copy_of(alloc, "h!s")?, Some(0))?)?;
     let mut names = Names::new(alloc);
     names.add(Text::copy_of(alloc, "h")?)?;
     if names.len() < 2 {

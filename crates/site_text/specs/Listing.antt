@@ -1,5 +1,6 @@
 -- The lines of the listing.
 use Rattle.std.specs.Prelude.{ℕ, List, [], ◌∷◌, ◌++◌, Bool, true, false, codes}
+use Rattle.std.specs.Arc.{arc_value}
 use Rattle.site_base.specs.Data.{Data, null, boolean, number, string, list, dict, Items, no_items, item, Pairs, no_pairs, pair}
 use Rattle.site_base.specs.Numbers.{number_text}
 use Rattle.site_base.specs.Quoted.{quoted}
@@ -35,4 +36,4 @@ abbrev pub listing_line : List ℕ → List ℕ → Data → List ℕ
 listing_line kind name tree = kind ++ 32 ∷ (quoted name ++ 32 ∷ (tree_text tree ++ 10 ∷ []))
 
 abbrev pub object_line : Object → List ℕ
-object_line o = listing_line o.kind o.name (view o.tree)
+object_line o = listing_line o.kind o.name (view (arc_value o.tree))

@@ -3,6 +3,7 @@ use site_base::{ItemNo, OutOfMemory, Place, TargetNo, Text, Tree, copy_tree};
 use site_model::Object;
 use site_text::print_object;
 use std::alloc::Global;
+use std::sync::Arc;
 use std::test::Fail;
 use std::thread::Builder;
 
@@ -46,7 +47,7 @@ fn line(alloc: Global) -> Result<Text, OutOfMemory> {
             key: 0,
         },
         builtin: false,
-        tree: copy_tree(alloc, &tree)?,
+        tree: Arc::new(alloc, copy_tree(alloc, &tree)?)?,
     };
     print_object(alloc, &host)
 }

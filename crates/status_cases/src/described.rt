@@ -1,17 +1,17 @@
 // Checkables as rows describe them.
-use site_base::Text;
+use site_base::{OutOfMemory, Text};
 use site_model::CheckSpec;
 use std::alloc::Global;
 
 /// The checkable that these words describe; `None` where one of them is unknown.
-pub(crate) fn described(alloc: Global, words: &str) -> Option<CheckSpec> {
-    let mut spec = CheckSpec::plain(Text::new(alloc), None);
+pub(crate) fn described(alloc: Global, words: &str) -> Result<Option<CheckSpec>, OutOfMemory> {
+    let mut spec = CheckSpec::plain(alloc, Text::new(alloc), None)?;
     for word in words.split_whitespace() {
         if !describe(&mut spec, word) {
-            return None;
+            return Ok(None);
         }
     }
-    Some(spec)
+    Ok(Some(spec))
 }
 
 /// Whether the word is known.

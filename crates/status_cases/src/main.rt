@@ -36,7 +36,7 @@ fn told(alloc: Global, line: &str) -> Result<Text, OutOfMemory> {
         Some((kind, events)) => (kind, events),
         None => (line, ""),
     };
-    let Some(spec) = described(alloc, kind) else {
+    let Some(spec) = described(alloc, kind)? else {
         out.push_str("no such checkable")?;
         return Ok(out);
     };

@@ -19,7 +19,7 @@ fn checkable(
     host: Option<u32>,
     passive: bool,
 ) -> Result<CheckSpec, OutOfMemory> {
-    let mut spec = CheckSpec::plain(Text::copy_of(alloc, name)?, host);
+    let mut spec = CheckSpec::plain(alloc, Text::copy_of(alloc, name)?, host)?;
     spec.passive = passive;
     Ok(spec)
 }

@@ -5,6 +5,7 @@ use Rattle.std.specs.List.{cons_option, filter}
 use Rattle.std.specs.Option.{option_and_then, option_map, option_to_list}
 use Rattle.std.specs.Str.{bytes_eq}
 use Rattle.std.proofs.lemmas.Slice.Eq.{bytes_eq-Decides}
+use Rattle.std.specs.Arc.{arc_value}
 use Rattle.site_base.specs.View.{items_view, view}
 use Rattle.site_base.specs.declared.tree.Tree.{Tree}
 use Rattle.site_model.specs.Names.{place_of}
@@ -155,7 +156,7 @@ group_step kept more user ts i t n all inside same is each so_far =
     }
 
 pub user_step : (kept more : Members) (users : List (Bor Object)) (i : ℕ) (o : Bor Object) (groups : List (List ℕ)) (all : List (List ℕ × ℕ)) → i < length users → o ≡ get_or users i o
-    → groups ≡ names_at object.User attribute.Groups (view o.now.tree)
+    → groups ≡ names_at object.User attribute.Groups (view (arc_value o.now.tree))
     → ((ms : List (List ℕ × ℕ)) → AreMembers ms kept → AreMembers (ms ++ in_groups i groups) more)
     → AreSoFar kept (memberships_from i (lent_view (drop i users))) all → AreSoFar more (memberships_from (i + 1) (lent_view (drop (i + 1) users))) all
 user_step kept more users i o groups all inside same is each so_far =
@@ -168,7 +169,7 @@ user_step kept more users i o groups all inside same is each so_far =
           append_assoc so_far.now (in_groups i groups) (memberships_from (i + 1) rest)
           ∙ ap (λ ms. so_far.now ++ ms)
           (ap (λ gs. in_groups i gs ++ memberships_from (i + 1) rest) is
-          ∙ ap (λ j. in_groups i (names_at object.User attribute.Groups (view o.now.tree)) ++ memberships_from j rest) plus
+          ∙ ap (λ j. in_groups i (names_at object.User attribute.Groups (view (arc_value o.now.tree))) ++ memberships_from j rest) plus
           ∙ sym (ap (λ os. memberships_from i (lent_view os)) (next users i o inside same)))
           ∙ so_far.whole;
     }

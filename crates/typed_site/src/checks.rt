@@ -2,6 +2,7 @@
 ghost use Rattle.std.specs.Prelude.{◌≡◌, ◌≢◌, ◌++◌, ◌+◌, ◌<◌, ◌^◌, length, map, AllPairs, IfOk, OnOk, None};
 ghost use Rattle.std.specs.Option.{option_map, option_to_list};
 ghost use Rattle.std.specs.List.{flat_map};
+ghost use Rattle.std.specs.Arc.{arc_value};
 ghost use Rattle.site_base.specs.View.{view};
 ghost use Rattle.site_model.specs.PlainSite.{check_view, command_view, object_view};
 ghost use Rattle.object_types.specs.declared.object_type.ObjectType.TheVariants as object;
@@ -11,7 +12,7 @@ ghost use Rattle.typed_site.specs.Checks.{check_made, check_name, command_of, ho
 use crate::listed::{add_name, place_in};
 use object_types::{Attribute, ObjectType};
 use object_values::Attributes;
-use site_base::{OutOfMemory, Row, copy_tree};
+use site_base::{OutOfMemory, Row};
 use site_model::{CheckSpec, CommandSpec, Names, Object};
 use std::alloc::Global;
 
@@ -33,7 +34,7 @@ pub(crate) fn command_specs(
     for command in commands {
         specs.push(CommandSpec {
             name: command.name.clone()?,
-            tree: copy_tree(alloc, &command.tree)?,
+            tree: command.tree.clone()?,
         })?;
     }
     Ok(Row::from(specs))
@@ -133,7 +134,7 @@ fn service_spec(
 
 fn attributes(kind: ObjectType, object: &Object) -> Attributes<'_>
     ensures kind { result.kind ≡ kind }
-    ensures tree { result.tree.now ≡ object.now.tree }
+    ensures tree { result.tree.now ≡ arc_value object.now.tree }
 {
     Attributes {
         kind,
@@ -168,7 +169,7 @@ fn check_spec(
         flapping: set.flag(Attribute::EnableFlapping),
         low: set.thousandths(Attribute::FlappingThresholdLow),
         high: set.thousandths(Attribute::FlappingThresholdHigh),
-        tree: copy_tree(alloc, &object.tree)?,
+        tree: object.tree.clone()?,
     })
 }
 

@@ -2,6 +2,7 @@
 ghost use Rattle.std.specs.Prelude.{◌≡◌, ◌++◌, IfOk, OnOk, length, string_bytes, is_some};
 ghost use Rattle.std.specs.Option.{option_to_list, option_copied};
 ghost use Rattle.std.specs.List.{flat_map};
+ghost use Rattle.std.specs.Arc.{arc_value};
 ghost use Rattle.site_base.specs.View.{view};
 ghost use Rattle.site_model.specs.PlainSite.{object_view};
 ghost use Rattle.typed_site.specs.Listed.{lent_view};
@@ -71,7 +72,7 @@ fn depend_spec(
 
 fn attributes(depend: &Object) -> Attributes<'_>
     ensures kind { result.kind ≡ ObjectType.Dependency }
-    ensures tree { result.tree.now ≡ depend.now.tree }
+    ensures tree { result.tree.now ≡ arc_value depend.now.tree }
 {
     Attributes {
         kind: ObjectType::Dependency,

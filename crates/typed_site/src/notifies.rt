@@ -2,6 +2,7 @@
 ghost use Rattle.std.specs.Prelude.{◌≡◌, ◌++◌, ℕ, List, IfOk, OnOk};
 ghost use Rattle.std.specs.List.{flat_map};
 ghost use Rattle.std.specs.Option.{option_to_list};
+ghost use Rattle.std.specs.Arc.{arc_value};
 ghost use Rattle.site_base.specs.View.{view};
 ghost use Rattle.site_model.specs.PlainSite.{object_view};
 ghost use Rattle.typed_site.specs.Listed.{lent_view};
@@ -80,7 +81,7 @@ fn notify_spec(
 
 fn attributes(notify: &Object) -> Attributes<'_>
     ensures kind { result.kind ≡ ObjectType.Notification }
-    ensures tree { result.tree.now ≡ notify.now.tree }
+    ensures tree { result.tree.now ≡ arc_value notify.now.tree }
 {
     Attributes {
         kind: ObjectType::Notification,

@@ -1,6 +1,7 @@
 // Time periods.
 ghost use Rattle.std.specs.Prelude.{◌≡◌, ◌++◌, map, length, IfOk, OnOk};
 ghost use Rattle.std.specs.Option.{option_to_list, option_copied};
+ghost use Rattle.std.specs.Arc.{arc_value};
 ghost use Rattle.site_base.specs.Data.{Data};
 ghost use Rattle.site_base.specs.View.{view, items_view};
 ghost use Rattle.site_model.specs.PlainSite.{object_view};
@@ -47,7 +48,7 @@ fn own_spans(alloc: Global, periods: &[&Object]) -> Result<Vec<Ranges>, OutOfMem
 
 fn attributes_of(period: &Object) -> Attributes<'_>
     ensures kind { result.kind ≡ ObjectType.TimePeriod }
-    ensures tree { result.tree.now ≡ period.now.tree }
+    ensures tree { result.tree.now ≡ arc_value period.now.tree }
 {
     Attributes {
         kind: ObjectType::TimePeriod,

@@ -1,4 +1,5 @@
 use Rattle.std.proofs.Common.{[], List, map, subst}
+use Rattle.std.specs.Arc.{arc_value}
 use Rattle.site_base.specs.View.{view as tree_view}
 use Rattle.dsl_value.specs.PlainStores.{plain_store}
 use Rattle.eval_meaning.specs.States.{rule}
@@ -21,6 +22,6 @@ returns c =
     let m = c.args.member.now in
     let gs = map plain_group c.args.groups.now in
     let st = plain_store c.args.view.now.store.now in
-    let run = λ (rs : List Read). seen_taken v m.number (type_named m.kind) (tree_view m.tree) gs (fresh st rule rs) in
+    let run = λ (rs : List Read). seen_taken v m.number (type_named m.kind) (tree_view (arc_value m.tree)) gs (fresh st rule rs) in
     gives_answers {X = Taken} {Y = plain.Taken} plain_taken m.number c.take_seen.result (fresh st rule c.take_seen.new.reads.items) (run [])
     (subst (λ (rs : List Read). Gives {X = Taken} {Y = plain.Taken} plain_taken c.take_seen.result (fresh st rule c.take_seen.new.reads.items) (run rs)) c.new-reads.ensures.items c.take_seen.ensures)

@@ -15,5 +15,6 @@ returns-in_ok-telling-in-Some c = λ ms are.
     let names = c.args.known.checkables.now in
     let users = c.args.known.users.now in
     ap Some (c.in_ok-telling-in-Some.ensures ∙ ap (λ us. notify_made periods o us c.in-Some.checkable) (c.in_ok-users-in-Some.ensures ms are))
+    ∙ ap (λ t. Some (notify_made periods o (receivers users ms (view t)) c.in-Some.checkable)) c.deref.ensures
     ∙ sym (ap (option_map (notify_made periods o (receivers users ms o.tree)))
     (sym (c.in_ok-checkable.ensures ∙ ap₂ (λ t d. target_at names t attribute.HostName attribute.ServiceName (view d)) c.attributes-set.ensures.kind c.attributes-set.ensures.tree) ∙ c.in-Some.is))
