@@ -50,6 +50,7 @@ fn grow_pairs(
     let mut list = list_under(alloc, &groups, pairs)?;
     if any_missing(&list, names) {
         add_names(&mut list, names)?;
+        list.shrink_to_fit();
         put_pair(pairs, groups, Tree::List(list))?;
     }
     Ok(())

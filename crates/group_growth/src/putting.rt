@@ -17,7 +17,7 @@ pub(crate) fn put_pair(
 {
     let at = gap(pairs, &key);
     if at < pairs.len() && pairs[at].0 == key {
-        pairs[at] = (key, tree);
+        pairs[at].1 = tree;
     } else {
         pairs.insert(at, (key, tree))?;
     }

@@ -16,12 +16,12 @@ returns-in_ok-put_pair c =
     let key = attribute_name attribute.Groups in
     let names = c.args.names.now in
     let ps = pairs_view c.args.pairs.now.items in
-    let now = c.add_names.new.items in
+    let now = c.shrink_to_fit.new.self in
     let named : c.in_ok-groups.groups ≡ key = c.in_ok-groups.ensures ∙ c.name.ensures in
     let was : items_view c.in_ok-list.list.items ≡ items_under key ps =
     c.in_ok-list.ensures ∙ ap (λ xs. items_under c.in_ok-groups.groups (pairs_view xs)) c.deref.ensures.value ∙ ap (λ k. items_under k ps) named in
     let own : view (trees.List now) ≡ tree.list (items_view now.items) = search (rules, the_lemmas) in
-    let more : view (trees.List now) ≡ tree.list (with_names names (items_under key ps)) = own ∙ ap (λ ds. tree.list ds) (c.in_ok-add_names.ensures ∙ ap (with_names names) was) in
+    let more : view (trees.List now) ≡ tree.list (with_names names (items_under key ps)) = own ∙ ap (λ ds. tree.list ds) (ap items_view c.shrink_to_fit.ensures.items ∙ c.in_ok-add_names.ensures ∙ ap (with_names names) was) in
     let some : any_missing names (items_under key ps) ≡ true =
     sym (c.any_missing.ensures ∙ ap (λ xs. any_missing names (items_view xs)) c.deref-2.ensures.value ∙ ap (any_missing names) was) ∙ c.if-any_missing.true in
     c.in_ok-put_pair.ensures

@@ -2,6 +2,7 @@
 use Rattle.std.proofs.Common.{◌≡◌, ℕ, List, ◌<◌, ◌≤◌, true, false, length, slice_index_or, slice_set, rules, arith, sym, ap, subst, ◌∙◌}
 use Rattle.std.specs.List.{insert}
 use Rattle.std.specs.Str.{bytes_eq}
+use Rattle.std.proofs.lemmas.Slice.Eq.{bytes_eq-Decides}
 use Rattle.site_base.specs.View.{pairs_view}
 use Rattle.site_base.specs.declared.tree.Tree.{Tree}
 use Rattle.group_growth.specs.Adding.{gap_for}
@@ -18,7 +19,10 @@ returns-then-eq c =
     let within : c.gap-at.result < length ps = search rules in
     let hit : bytes_eq (slice_index_or ps (gap_for k ps) d).0 k ≡ true =
     ap (λ i. bytes_eq (slice_index_or ps i d).0 k) (sym at) ∙ ap (λ p. bytes_eq p.0 k) (sym c.index.ensures) ∙ sym c.eq.ensures ∙ c.if-eq.true in
-    ap (λ i. pairs_view (slice_set ps i (k, c.args.tree))) at
+    let one : c.index_mut.result.now ≡ d = c.index_mut.ensures.value ∙ same_at ps c.gap-at.result c.index_mut.result.now d within ∙ sym c.index.ensures in
+    let same : c.index_mut.result.now.0 ≡ k = ap (λ p. p.0) one ∙ (bytes_eq-Decides d.0 k).0 (sym c.eq.ensures ∙ c.if-eq.true) in
+    ap (λ z. pairs_view (slice_set ps c.gap-at.result (z, c.args.tree))) same
+    ∙ ap (λ i. pairs_view (slice_set ps i (k, c.args.tree))) at
     ∙ put_here k c.args.tree d ps (subst (λ i. i < length ps) at within) hit
 
 pub returns-in_ok-insert : goal.returns-in_ok-insert
