@@ -10,6 +10,7 @@ pub mod Keying
 pub mod LastPlaces
 pub mod Leaders
 pub mod Marking
+mod OnCycle
 pub mod Above
 pub mod Ancestors
 pub mod Places

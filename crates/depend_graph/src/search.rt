@@ -27,7 +27,7 @@ pub(crate) fn all_above(alloc: Global, parents: &Lists) -> Result<Lists, OutOfMe
 }
 
 /// The ancestors of one checkable. Each that is found is marked by this mark, which none bears before.
-fn above(
+pub(crate) fn above(
     alloc: Global,
     parents: &Lists,
     checkable: usize,

@@ -74,3 +74,9 @@ quiet s sound free = none_turn s (turning s) free (are_turning s sound)
 
 pub all_told : (s : PlainSite) (xs : List ℕ) → HasParents s → AreOnCycles s xs → cycle_faults s xs ≡ cycle_faults s (turning s)
 all_told s xs sound on = ap (cycle_faults s) (one_turning s xs (turning s) on (are_turning s sound))
+
+-- what is told of dependencies that are on cycles, or are none where none is, is told of those that are calculated
+pub told_of : (s : PlainSite) (xs : List ℕ) → HasParents s → (xs ≢ [] → AreOnCycles s xs) → (xs ≡ [] → All (λ (d : DependSpec). ¬ IsOnCycle s d) s.depends)
+    → cycle_faults s xs ≡ cycle_faults s (turning s)
+told_of s [] sound some none = quiet s sound (none refl)
+told_of s (x ∷ xs) sound some none = all_told s (x ∷ xs) sound (some (λ e. cc))

@@ -8,7 +8,7 @@ ghost use Rattle.depend_graph.specs.Cycles.{IsOnCycle};
 ghost use Rattle.site_phases.specs.CycleFaults.{cycle_faults as faults_of, lent_object, more_names, name_at, number_or_none, place_or_start, turning};
 
 use crate::constants::{NO_ITEM, ROOT_START};
-use depend_graph::{Graph, GraphFault, a_sound_site_has_parents};
+use depend_graph::{a_sound_site_has_parents, depends_on_cycles};
 use object_types::ObjectType;
 use site_base::{Diag, DiagKind, Diags, ItemNo, OutOfMemory, Place, Row, Text, push_quoted};
 use site_model::{Object, Site};
@@ -25,11 +25,8 @@ pub(crate) fn cycle_faults(alloc: Global, site: &Site) -> Result<Diags, OutOfMem
     if site.depends.is_empty() {
         return Ok(Row::new(alloc));
     }
-    match Graph::build(alloc, site) {
-        Ok(_) => Ok(Row::new(alloc)),
-        Err(GraphFault::Cycle { depends }) => Ok(faults_at(alloc, site, depends.as_slice())?),
-        Err(GraphFault::OutOfMemory) => Err(OutOfMemory),
-    }
+    let depends = depends_on_cycles(alloc, site)?;
+    faults_at(alloc, site, depends.as_slice())
 }
 
 /// What is told of these dependencies.
