@@ -14,7 +14,7 @@ use std::alloc::Global;
 
 /// The dependencies of a site whose child is reached from its parent, by steps from child to parent, where a service's host is
 /// a parent too; ascending (Icinga 2 documentation, Monitoring Basics, "Dependencies"). The ancestors of one parent after another
-/// are looked at and dropped, so beside the parents of each checkable it takes no more memory than the longest of them.
+/// are looked at and dropped, so beside the parents of each checkable it takes no more memory than the ancestors of one.
 pub fn depends_on_cycles(alloc: Global, site: &Site) -> Result<Row<u32>, OutOfMemory>
     requires { HasParents (site_view site.now) }
     ensures some { IfOk result (λ ds. ds ≢ [] → AreOnCycles (site_view site.now) ds) }
