@@ -14,10 +14,10 @@ use crate::feed::Feed;
 use crate::starting::started_of;
 use engine_log::turn_lines;
 use run_text::Style;
-use site_base::{Blob, Moment, OutOfMemory, Row, Texts};
+use site_base::{Blob, OutOfMemory, Row, Texts};
 use site_edge::{Order, Turn};
 use std::alloc::Global;
-use turn_engine::Engine;
+use turn_engine::{Engine, later_of};
 
 /// What is told of a turn.
 #[derive(Debug, Drop)]
@@ -74,15 +74,4 @@ fn with_lines(mut before: Vec<Blob>, turn: Turn) -> Result<Turn, OutOfMemory>
         reports: turn.reports,
         lines: Row::from(before),
     })
-}
-
-/// The later of two moments.
-fn later_of(left: Moment, right: Moment) -> Moment
-    ensures { result ≡ max left right }
-{
-    if left.secs() < right.secs() {
-        right
-    } else {
-        left
-    }
 }

@@ -16,5 +16,6 @@ mod turns;
 mod works;
 
 pub use engine::Engine;
+pub use moments::later_of;
 pub use order_out::OrderOut;
 pub use turn_out::TurnOut;

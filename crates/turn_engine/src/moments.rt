@@ -8,7 +8,7 @@ use site_base::Moment;
 use site_model::Entry;
 
 /// The later of two moments.
-pub(crate) fn later_of(left: Moment, right: Moment) -> Moment
+pub fn later_of(left: Moment, right: Moment) -> Moment
     ensures { result ≡ max left right }
 {
     if left.secs() < right.secs() {
