@@ -13,7 +13,8 @@ ghost use Rattle.apply_rules.specs.Plain.{plain_verdict};
 
 use crate::prepared::evaluate;
 use dsl_syntax::{Block, Expr, Stmt, StmtKind};
-use eval_work::{Stop, Work, WorldView, has_assign};
+use eval_work::{Stop, Work, WorldView};
+use load_work::has_assign;
 
 /// Whether some `assign` was true, and whether some `ignore` was.
 #[derive(Clone, Copy)]

@@ -11,7 +11,9 @@ use crate::subject::named_trees;
 use crate::target::{subject_of, target_no};
 use crate::{PresetKeys, Target};
 use dsl_value::Value;
-use eval_work::{Item, Rule, Stop, Work, is_good_name, named_fault};
+use eval_work::{Item, Rule, Stop, Work};
+use load_work::is_good_name;
+use name_work::named_fault;
 use site_base::{DiagKind, ItemNo, OutOfMemory, Place, Text, Tree};
 use std::alloc::Global;
 

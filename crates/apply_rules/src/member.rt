@@ -15,8 +15,9 @@ ghost use Rattle.apply_rules.specs.Seen.{names_of};
 
 use crate::subject::Subject;
 use eval_meaning::Read;
-use eval_work::{Stop, WorldView, find_object, is_absent};
+use eval_work::{Stop, WorldView};
 use item_start::text_of;
+use name_work::{find_object, is_absent};
 use object_types::{Attribute, ObjectType};
 use site_base::{OutOfMemory, Text, Tree};
 use site_model::Object;

@@ -15,8 +15,8 @@ use Rattle.dsl_value.specs.declared.value.Value.TheVariants as value
 use Rattle.eval_meaning.specs.States.{State, gives, faults}
 use Rattle.eval_meaning.specs.Frames.{first_locals}
 use Rattle.eval_meaning.specs.Functions.{bound}
-use Rattle.eval_work.specs.Calling.{IsFunctionAt, captured_at}
-use Rattle.eval_work.specs.Imports.{PlainImported}
+use Rattle.name_work.specs.Calling.{IsFunctionAt, captured_at}
+use Rattle.load_work.specs.Imports.{PlainImported}
 use Rattle.eval_work.specs.Works.{state_of}
 use Rattle.eval_work.specs.declared.work.Work.{Work}
 use Rattle.dsl_eval.specs.Frames.{prepared_by, closure_frame, frame_of}

@@ -29,11 +29,11 @@ use Rattle.eval_meaning.specs.declared.callee.Callee.{Callee}
 use Rattle.eval_meaning.specs.declared.callee.Callee.TheVariants as callee
 use Rattle.eval_meaning.specs.declared.flow.Flow.{Flow}
 use Rattle.eval_meaning.specs.declared.flow.Flow.TheVariants.{On}
-use Rattle.eval_work.specs.Imports.{found_template, found_by}
-use Rattle.eval_work.specs.Orders.{next_number, order_after}
+use Rattle.load_work.specs.Imports.{found_template, found_by}
+use Rattle.load_work.specs.Orders.{next_number, order_after}
 use Rattle.dsl_eval.specs.Values.{maybe_value, or_named, right_with}
 use Rattle.dsl_eval.specs.Frames.{called_of, called_by, prepared_by, closure_frame, frame_of, statements_in, in_call, in_import}
-use Rattle.eval_work.specs.Imports.{PlainImported}
+use Rattle.load_work.specs.Imports.{PlainImported}
 use Rattle.dsl_eval.specs.Visiting.{visited_by, visit_over}
 use Rattle.dsl_eval.specs.Finishing.{valued_with, finished}
 use Rattle.dsl_eval.specs.Loops.{for_turns, turns_of, turns_of_cell, element_turn, pair_turn}

@@ -30,7 +30,7 @@ use Rattle.eval_meaning.specs.declared.flow.Flow.{Flow}
 use Rattle.eval_meaning.specs.declared.flow.Flow.TheVariants as flows
 use Rattle.eval_work.specs.Works.{Gives}
 use Rattle.eval_work.specs.declared.stop.Stop.{Stop}
-use Rattle.eval_work.proofs.Handing.{err_then}
+use Rattle.name_work.proofs.Handing.{err_then}
 use Rattle.dsl_eval.specs.Values.{maybe_value, or_named, key_with}
 use Rattle.dsl_eval.specs.Visiting.{with_item}
 use Rattle.dsl_eval.specs.Loops.{for_turns, turn_set}
@@ -52,9 +52,9 @@ use Rattle.eval_meaning.specs.Flow.{for_with, for_each}
 use Rattle.eval_meaning.specs.Registration.{at_load, apply_rule_with, prefix_with, rule_registered}
 use Rattle.eval_meaning.specs.Templates.{in_item, import_with, imported_by}
 use Rattle.eval_meaning.specs.Files.{with_order, include_with, include_by, run_file}
-use Rattle.eval_work.specs.Imports.{PlainImported, found_by}
-use Rattle.eval_work.specs.Orders.{next_number, order_after, around_order, Begins}
-use Rattle.eval_work.specs.declared.order.Around.{Around}
+use Rattle.load_work.specs.Imports.{PlainImported, found_by}
+use Rattle.load_work.specs.Orders.{next_number, order_after, around_order, Begins}
+use Rattle.load_work.specs.declared.order.Around.{Around}
 use Rattle.dsl_eval.specs.Frames.{in_import, statements_in}
 use Rattle.dsl_eval.specs.Visiting.{visit_with}
 use Rattle.dsl_eval.specs.Loops.{turns_of}

@@ -22,7 +22,7 @@ use Rattle.eval_meaning.specs.Functions.{bound, apply_with}
 use Rattle.eval_meaning.specs.Calls.{library_with}
 use Rattle.eval_meaning.specs.declared.callee.Callee.{Callee}
 use Rattle.eval_meaning.specs.declared.callee.Callee.TheVariants as callee
-use Rattle.eval_work.specs.Imports.{PlainImported}
+use Rattle.load_work.specs.Imports.{PlainImported}
 use Rattle.dsl_eval.specs.declared.calls.Called.{Called}
 use Rattle.dsl_eval.specs.declared.calls.Called.TheVariants as called
 use Rattle.dsl_eval.specs.declared.calls.Prepared.{Prepared}

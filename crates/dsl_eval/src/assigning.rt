@@ -12,6 +12,7 @@ use dsl_syntax::{Base, Expr, SetOp, Step};
 use dsl_value::Value;
 use eval_meaning::Flow;
 use eval_work::{Stop, Work, WorldView};
+use name_work::assign;
 use site_base::Place;
 
 /// Assigns: the keys of the target, then the right side, and only then the target is found.
@@ -33,7 +34,7 @@ pub(crate) fn run_set(
 {
     let keys = eval_keys(view, work, depth, steps)?;
     let value = eval_at(view, work, depth, expr)?;
-    work.assign(place, base, keys, op, value)?;
+    assign(work, place, base, keys, op, value)?;
     Ok(Flow::On)
 }
 

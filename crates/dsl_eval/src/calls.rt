@@ -20,7 +20,11 @@ use dsl_lib::LibraryCall;
 use dsl_syntax::{Expr, ExprKind, Func, Stmt};
 use dsl_value::Value;
 use eval_meaning::Callee;
-use eval_work::{Locals, Stop, Work, WorldView, fault, function_of, takes};
+use eval_work::{Locals, Stop, Work, WorldView, fault};
+use name_work::{
+    call_locals, called_member, called_name, called_part, function_of, read_host, read_service,
+    takes,
+};
 use site_base::{DiagKind, Place};
 use std::alloc::Global;
 use std::sync::Arc;
@@ -90,10 +94,10 @@ fn eval_callee_kind(
 {
     let place = expr.place;
     match &expr.kind {
-        ExprKind::Name(name) => work.called_name(place, name),
+        ExprKind::Name(name) => called_name(work, place, name),
         ExprKind::Member(of, name) => {
             let value = eval_at(view, work, depth, of)?;
-            work.called_member(place, value, name)
+            called_member(work, place, value, name)
         }
         ExprKind::Index(of, key) => eval_called_index(view, work, depth, place, of, key),
         ExprKind::Null
@@ -128,7 +132,7 @@ fn eval_called_index(
 {
     let value = eval_at(view, work, depth, of)?;
     let key = eval_at(view, work, depth, key)?;
-    work.called_part(place, value, &key)
+    called_part(work, place, value, &key)
 }
 
 /// What another expression gives is called with the `this` of the frame.
@@ -226,7 +230,7 @@ fn prepared_function(
     if !takes(&func, args.len()) {
         return Err(fault(work.alloc, place, DiagKind::Arity));
     }
-    let locals = work.call_locals(index, &func, args)?;
+    let locals = call_locals(work, index, &func, args)?;
     Ok(Prepared { func, locals })
 }
 
@@ -273,8 +277,8 @@ fn call_library(
 {
     match call {
         LibraryCall::Plain(call) => work.call_plain(place, call, args),
-        LibraryCall::GetHost => work.read_host(view, place, args),
-        LibraryCall::GetService => work.read_service(view, place, args),
+        LibraryCall::GetHost => read_host(work, view, place, args),
+        LibraryCall::GetService => read_service(work, view, place, args),
         LibraryCall::Map => visit(view, work, depth, place, Method::Map, args),
         LibraryCall::Filter => visit(view, work, depth, place, Method::Filter, args),
         LibraryCall::Any => visit(view, work, depth, place, Method::Any, args),

@@ -12,6 +12,7 @@ use crate::expressions::eval_maybe;
 use dsl_syntax::{Func, Use};
 use dsl_value::Value;
 use eval_work::{Locals, Stop, Work, WorldView};
+use name_work::name_value;
 use site_base::{Place, Text};
 use std::sync::Arc;
 
@@ -65,6 +66,6 @@ fn or_named(work: &Work, place: Place, name: &Text, value: Option<Value>) -> Res
 {
     match value {
         Some(value) => Ok(value),
-        None => work.name_value(place, name),
+        None => name_value(work, place, name),
     }
 }

@@ -18,6 +18,7 @@ use crate::nodes::enter;
 use dsl_syntax::{BinOp, Expr, ExprKind};
 use dsl_value::Value;
 use eval_work::{Stop, Work, WorldView};
+use name_work::name_value;
 use site_base::{Place, Text};
 
 /// The value of an expression, where so many nodes may still be open.
@@ -64,7 +65,7 @@ pub(crate) fn eval_kind(
             let pairs = eval_pairs(view, work, depth, pairs)?;
             work.make_dict(place, pairs)
         }
-        ExprKind::Name(name) => work.name_value(place, name),
+        ExprKind::Name(name) => name_value(work, place, name),
         ExprKind::This => work.this_value(),
         ExprKind::Globals => Ok(Value::Ref(0)),
         ExprKind::Member(of, name) => {

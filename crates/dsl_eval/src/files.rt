@@ -15,6 +15,7 @@ use dsl_syntax::{Expr, Stmt};
 use dsl_value::Value;
 use eval_meaning::Flow;
 use eval_work::{Locals, Stop, Work, WorldView};
+use load_work::{at_load, begin_part, end_part, imported, in_item, next_in_order};
 use site_base::Place;
 
 /// Imports a template into the object whose body is run.
@@ -31,9 +32,9 @@ pub(crate) fn run_import(
     ensures gives { Gives (λ f. f) result (state_of work.new) (import_with (view_of view.now) (parts view.now depth) place (expr_view expr.now) (state_of work.old)) }
     ensures kept { IfOk result (IsFlowKept work.old work.new) }
 {
-    work.in_item(place)?;
+    in_item(work, place)?;
     let value = eval_at(view, work, depth, expr)?;
-    let template = work.imported(view, place, &value)?;
+    let template = imported(work, view, place, &value)?;
     let this = work.this_value()?;
     in_frame(
         view,
@@ -60,8 +61,8 @@ pub(crate) fn run_include(
     ensures gives { Gives (λ f. f) result (state_of work.new) (include_with (view_of view.now) (parts view.now depth) place (state_of work.old)) }
     ensures kept { IfOk result (IsFlowKept work.old work.new) }
 {
-    work.at_load(place)?;
-    let count = work.next_in_order().unwrap_or(0);
+    at_load(work, place)?;
+    let count = next_in_order(work).unwrap_or(0);
     for _ in 0..count {
         run_file(view, work, depth)?;
     }
@@ -76,13 +77,13 @@ pub(crate) fn run_file(view: &WorldView, work: &mut Work, depth: u32) -> Result<
     ensures gives { Gives (λ v. v) result (state_of work.new) (file_with (view_of view.now) (parts view.now depth) (loading (state_of work.old)).order (state_of work.old)) }
     ensures kept { IfOk result (IsKept work.old work.new) }
 {
-    let Some((index, around)) = work.begin_part()? else {
+    let Some((index, around)) = begin_part(work)? else {
         return Ok(Value::Null);
     };
     let locals = Locals::new(work.alloc);
     let statements = statements_of(view, index);
     let value = in_frame(view, work, depth, Value::Ref(0), locals, true, statements)?;
-    work.end_part(around);
+    end_part(work, around);
     Ok(value)
 }
 

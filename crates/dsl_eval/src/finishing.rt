@@ -12,7 +12,9 @@ use crate::expressions::eval_maybe;
 use dsl_syntax::Expr;
 use dsl_value::Value;
 use eval_meaning::Flow;
-use eval_work::{Stop, Work, WorldView, thrown};
+use eval_work::{Stop, Work, WorldView};
+use load_work::{at_load, set_constant};
+use name_work::thrown;
 use site_base::{Place, Text};
 
 /// What is done with the value.
@@ -50,7 +52,7 @@ fn admit(work: &Work, place: Place, then: Then) -> Result<(), Stop>
     ensures { Gives (λ _. tt) result (state_of work.now) (admitted place then.entry (state_of work.now)) }
 {
     match then {
-        Then::Constant(_) => work.at_load(place),
+        Then::Constant(_) => at_load(work, place),
         _ => Ok(()),
     }
 }
@@ -72,7 +74,7 @@ fn finish(work: &mut Work, place: Place, then: Then, value: Option<Value>) -> Re
             Ok(Flow::On)
         }
         Then::Constant(name) => {
-            work.set_constant(place, name, value)?;
+            set_constant(work, place, name, value)?;
             Ok(Flow::On)
         }
     }

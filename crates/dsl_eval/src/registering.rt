@@ -15,6 +15,7 @@ use dsl_syntax::{Block, Each, Expr, Use};
 use dsl_value::Value;
 use eval_meaning::Flow;
 use eval_work::{Locals, Stop, Work, WorldView};
+use load_work::{add_item, add_rule, add_template, at_load, object_name, rule_name};
 use site_base::{Place, Text};
 use std::sync::Arc;
 
@@ -43,9 +44,9 @@ pub(crate) fn run_named(
     ensures gives { Gives (λ f. f) result (state_of work.new) (named_with (view_of view.now) (parts view.now depth) sort place kind.now (expr_view name.now) (uses_view uses.now) (block_view (arc_value body.now)) (state_of work.old)) }
     ensures kept { IfOk result (IsFlowKept work.old work.new) }
 {
-    work.at_load(place)?;
+    at_load(work, place)?;
     let value = eval_at(view, work, depth, name)?;
-    let name = work.object_name(name.place, value)?;
+    let name = object_name(work, name.place, value)?;
     let captured = eval_captures(view, work, depth, place, uses)?;
     register(view, work, place, sort, kind, name, captured, body)
 }
@@ -69,11 +70,11 @@ pub(crate) fn run_apply(
     ensures gives { Gives (λ f. f) result (state_of work.new) (apply_rule_with (parts view.now depth) place kind.now (maybe_expr_view name.now) to.now (maybe_each_view each.now) (uses_view uses.now) (block_view (arc_value body.now)) (state_of work.old)) }
     ensures kept { IfOk result (IsFlowKept work.old work.new) }
 {
-    work.at_load(place)?;
+    at_load(work, place)?;
     let value = eval_maybe(view, work, depth, name.as_ref())?;
     let prefix = rule_prefix(work, name, value)?;
     let captured = eval_captures(view, work, depth, place, uses)?;
-    work.add_rule(place, kind, prefix, to, each, captured, body)?;
+    add_rule(work, place, kind, prefix, to, each, captured, body)?;
     Ok(Flow::On)
 }
 
@@ -94,8 +95,8 @@ fn register(
     ensures kept { IfOk result (IsFlowKept work.old work.new) }
 {
     match sort {
-        Sort::Object => work.add_item(view, place, kind, name, captured, body)?,
-        Sort::Template => work.add_template(view, place, kind, name, captured, body)?,
+        Sort::Object => add_item(work, view, place, kind, name, captured, body)?,
+        Sort::Template => add_template(work, view, place, kind, name, captured, body)?,
     }
     Ok(Flow::On)
 }
@@ -109,7 +110,7 @@ fn rule_prefix(
     ensures { Gives (option_map placed_name) result (state_of work.now) (prefix_of (maybe_expr_view name.now) value (state_of work.now)) }
 {
     match (name, value) {
-        (Some(name), Some(value)) => work.rule_name(name.place, value),
+        (Some(name), Some(value)) => rule_name(work, name.place, value),
         _ => Ok(None),
     }
 }

@@ -19,6 +19,7 @@ use crate::registering::{Sort, run_apply, run_named};
 use dsl_syntax::{Arm, Stmt, StmtKind};
 use eval_meaning::Flow;
 use eval_work::{Stop, Work, WorldView};
+use load_work::define;
 use site_base::Place;
 
 /// Runs statements, one after another.
@@ -145,7 +146,7 @@ fn run_kind(
         }
         StmtKind::Define { name, func } => {
             let value = make_function(view, work, depth, place, func)?;
-            work.define(place, name, value)?;
+            define(work, place, name, value)?;
             Ok(Flow::On)
         }
         StmtKind::If { arms, other } => run_arms(view, work, depth, arms, other),

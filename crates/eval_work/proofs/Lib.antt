@@ -1,11 +1,7 @@
 pub mod Later
-pub mod Registrations
 pub mod Named
 pub mod Charged
 pub mod Called
-pub mod Handing
-pub mod Reading
-pub mod Writing
 pub mod Found
 pub mod Placed
 pub mod Searching

@@ -118,8 +118,8 @@ fn name_order(a: &str, b: &str) -> Ordering
     }
 }
 
-/// The value of a name.
-pub(crate) fn value_of<'a>(pairs: &'a [(Text, Value)], name: &str) -> Option<&'a Value>
+/// The value of a name among pairs by rising names.
+pub fn value_of<'a>(pairs: &'a [(Text, Value)], name: &str) -> Option<&'a Value>
     requires { T (is_sorted pairs.now) }
     ensures found { IfSome result (λ v. find name.now pairs.now ≡ Some v.now) }
     ensures absent { IfNone result (find name.now pairs.now ≡ None) }

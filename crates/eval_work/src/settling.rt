@@ -139,7 +139,7 @@ pub(crate) fn lib_stop(alloc: Global, place: Place, why: LibFault) -> Stop
 }
 
 /// Why a member isn't read or written, at a place.
-pub(crate) fn member_stop(alloc: Global, place: Place, why: MemberFault) -> Stop
+pub fn member_stop(alloc: Global, place: Place, why: MemberFault) -> Stop
     ensures { IsMemberStop result place why }
 {
     match why {

@@ -20,8 +20,8 @@ use Rattle.eval_meaning.specs.Registration.{loading, apply_rule_with}
 use Rattle.eval_meaning.specs.declared.callee.Callee.{Callee}
 use Rattle.eval_meaning.specs.declared.flow.Flow.{Flow}
 use Rattle.eval_meaning.specs.declared.flow.Flow.TheVariants as flow
-use Rattle.eval_work.specs.Orders.{Begins, next_number}
-use Rattle.eval_work.specs.Imports.{plain_imported}
+use Rattle.load_work.specs.Orders.{Begins, next_number}
+use Rattle.load_work.specs.Imports.{plain_imported}
 use Rattle.eval_work.specs.Works.{placed_name}
 use Rattle.dsl_eval.specs.Values.{maybe_value}
 use Rattle.dsl_eval.specs.Frames.{plain_prepared}
@@ -40,7 +40,7 @@ use Rattle.eval_meaning.specs.Files.{files_with}
 use Rattle.eval_meaning.specs.Visits.{mapped, filtered}
 use Rattle.eval_work.specs.Works.{state_of, view_of}
 use Rattle.eval_work.specs.Kept.{Named, NamedAll}
-use Rattle.eval_work.proofs.Handing.{handed_on}
+use Rattle.name_work.proofs.Handing.{handed_on}
 use Rattle.eval_work.proofs.Later.{names_later, all_later, pairs_later, told_later, later_later}
 use Rattle.dsl_eval.specs.Nodes.{parts}
 use Rattle.dsl_eval.proofs.Chains.{goes_on, goes_to, by_same, as_stop}
@@ -214,10 +214,10 @@ registering::run_named-eval_captures-requires t c =
 pub files::run_file-returns-in_err-value-clause-gives : goal.files::run_file-returns-in_err-value-clause-gives
 files::run_file-returns-in_err-value-clause-gives t c =
     let part : c.in_ok-index.field-0 ≡ Some (c.in-Some.index, c.in-Some.around) = cc in
-    let begun : Begins (loading (state_of c.args.work.now)).order (state_of c.args.work.now) (state_of c.begin_part.new.self) (Some (c.in-Some.index, c.in-Some.around)) = subst (Begins (loading (state_of c.args.work.now)).order (state_of c.args.work.now) (state_of c.begin_part.new.self)) part c.in_ok-index.ensures.part in
-    let framing = ap (λ ls. framed (value.Ref 0) ls true (block_with (parts c.args.view.now c.args.depth) (stmts_view c.statements_of-statements.result.now)) (state_of c.begin_part.new.self)) c.new-locals.ensures ∙ ap (λ b. framed (value.Ref 0) [] true (block_with (parts c.args.view.now c.args.depth) b) (state_of c.begin_part.new.self)) c.statements_of-statements.ensures in
+    let begun : Begins (loading (state_of c.args.work.now)).order (state_of c.args.work.now) (state_of c.begin_part.new.work) (Some (c.in-Some.index, c.in-Some.around)) = subst (Begins (loading (state_of c.args.work.now)).order (state_of c.args.work.now) (state_of c.begin_part.new.work)) part c.in_ok-index.ensures.part in
+    let framing = ap (λ ls. framed (value.Ref 0) ls true (block_with (parts c.args.view.now c.args.depth) (stmts_view c.statements_of-statements.result.now)) (state_of c.begin_part.new.work)) c.new-locals.ensures ∙ ap (λ b. framed (value.Ref 0) [] true (block_with (parts c.args.view.now c.args.depth) b) (state_of c.begin_part.new.work)) c.statements_of-statements.ensures in
     handed_on _ c.from_residual-in_err-value.result c.in_err-value.field-0.0 (state_of c.in_frame.new.work) _ c.from_residual-in_err-value.ensures.1
-    (stopped (λ (v : Value). v) (λ (v : Value). v) _ _ _ _ _ _ (file_turn (view_of c.args.view.now) (parts c.args.view.now c.args.depth) (loading (state_of c.args.work.now)).order (state_of c.args.work.now) (state_of c.begin_part.new.self) c.in-Some.index c.in-Some.around begun) refl (by_same (λ (v : Value). v) _ _ (Err c.in_err-value.field-0.0) (state_of c.in_frame.new.work) (sym framing) c.in_err-value.ensures.gives))
+    (stopped (λ (v : Value). v) (λ (v : Value). v) _ _ _ _ _ _ (file_turn (view_of c.args.view.now) (parts c.args.view.now c.args.depth) (loading (state_of c.args.work.now)).order (state_of c.args.work.now) (state_of c.begin_part.new.work) c.in-Some.index c.in-Some.around begun) refl (by_same (λ (v : Value). v) _ _ (Err c.in_err-value.field-0.0) (state_of c.in_frame.new.work) (sym framing) c.in_err-value.ensures.gives))
 
 pub files::run_import-returns-in_err-template-clause-gives : goal.files::run_import-returns-in_err-template-clause-gives
 files::run_import-returns-in_err-template-clause-gives t c =
@@ -253,7 +253,7 @@ files::run_import-returns-clause-gives t c =
 
 pub files::run_include-loop-init : goal.files::run_include-loop-init
 files::run_include-loop-init t c =
-    let s = state_of c.next_in_order.new.self in
+    let s = state_of c.next_in_order.new.work in
     let n = unwrap_or (next_number (loading (state_of c.args.work.now)).order) 0 in
     let none : c.unwrap_or-count.result - 0 ≡ c.unwrap_or-count.result = omega arith in (
       ap (λ k. files_with (view_of c.args.view.now) (parts c.args.view.now c.args.depth) k s) (none ∙ c.unwrap_or-count.ensures ∙ ap (λ o. unwrap_or o 0) c.next_in_order.ensures.number)
@@ -365,8 +365,8 @@ registering::run_apply-returns-in_err-add_rule-clause-gives t c =
     let name = goes_to _ _ _ c.in_ok-value.value (state_of w) (prefix_same (parts c.args.view.now c.args.depth) n (state_of c.args.work.now)) value ∙ c.in_ok-prefix.ensures in
     let p = option_map placed_name c.in_ok-prefix.prefix in
     let turn = rule_turn (parts c.args.view.now c.args.depth) c.args.place c.args.kind.now c.args.to.now (maybe_each_view c.args.each.now) us b p (state_of w) in
-    handed_on _ c.from_residual-in_err-add_rule.result c.in_err-add_rule.field-0.0 (state_of c.add_rule.new.self) _ c.from_residual-in_err-add_rule.ensures.1
-    (goes_on (λ (f : Flow). f) _ _ _ _ _ (Err c.in_err-add_rule.field-0.0) (state_of c.add_rule.new.self) start name (goes_on (λ (f : Flow). f) _ _ _ _ _ (Err c.in_err-add_rule.field-0.0) (state_of c.add_rule.new.self) turn c.in_ok-captured.ensures.gives (as_stop (λ (_ : Unit {0}). flow.On) (λ (f : Flow). f) _ _ _ c.in_err-add_rule.ensures.gives)))
+    handed_on _ c.from_residual-in_err-add_rule.result c.in_err-add_rule.field-0.0 (state_of c.add_rule.new.work) _ c.from_residual-in_err-add_rule.ensures.1
+    (goes_on (λ (f : Flow). f) _ _ _ _ _ (Err c.in_err-add_rule.field-0.0) (state_of c.add_rule.new.work) start name (goes_on (λ (f : Flow). f) _ _ _ _ _ (Err c.in_err-add_rule.field-0.0) (state_of c.add_rule.new.work) turn c.in_ok-captured.ensures.gives (as_stop (λ (_ : Unit {0}). flow.On) (λ (f : Flow). f) _ _ _ c.in_err-add_rule.ensures.gives)))
 
 pub registering::run_apply-returns-clause-gives : goal.registering::run_apply-returns-clause-gives
 registering::run_apply-returns-clause-gives t c =

@@ -5,7 +5,7 @@ use Rattle.dsl_syntax.specs.declared.expr_kind.ExprKind.TheViews.{out-Func}
 use Rattle.eval_meaning.specs.States.{gives}
 use Rattle.eval_meaning.specs.Frames.{first_locals}
 use Rattle.eval_meaning.specs.Functions.{bound}
-use Rattle.eval_work.specs.Calling.{captured_at}
+use Rattle.name_work.specs.Calling.{captured_at}
 use Rattle.eval_work.specs.Works.{state_of}
 use Rattle.dsl_eval.specs.Frames.{frame_with}
 use Rattle.dsl_eval.proofs.Called.{call_taken, call_refused}

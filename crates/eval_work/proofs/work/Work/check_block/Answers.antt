@@ -1,5 +1,0 @@
-use Rattle.dsl_syntax.proofs.SyntaxRows.{block_fields}
-use Rattle.eval_work.proofs.work.Work.check_block.Goals as goal
-
-pub returns : goal.returns
-returns c = rw (block_fields c.args.body.now, ← c.deref.ensures.value) c.check_body.ensures

@@ -1,0 +1,4 @@
+pub mod Lasting
+pub mod Handing
+pub mod Reading
+pub mod Writing
