@@ -1,8 +1,5 @@
--- How nodes are entered, and how their parts are evaluated over a view.
-use Rattle.std.specs.Prelude.{ℕ, zero, suc}
-use Rattle.site_base.specs.declared.place.Place.{Place}
-use Rattle.site_base.specs.declared.diag_kind.DiagKind.TheVariants.{DepthLimit}
-use Rattle.eval_meaning.specs.States.{State, Outcome, gives, ◌>>=◌, fault, step}
+-- How nodes are evaluated over a view.
+use Rattle.std.specs.Prelude.{ℕ}
 use Rattle.eval_meaning.specs.Parts.{Parts}
 use Rattle.eval_meaning.specs.Evaluation.{evaluated}
 use Rattle.eval_work.specs.Works.{view_of}
@@ -11,12 +8,3 @@ use Rattle.eval_work.specs.declared.view.WorldView.{WorldView}
 -- how nodes are evaluated over a view where so many of them may still be open
 abbrev pub parts : WorldView → ℕ → Parts
 parts v d = evaluated (view_of v) d
-
--- a node takes one of those that may still be open, and so many are left to its parts
-abbrev pub opened : ℕ → Place → State → Outcome ℕ
-opened zero l s = fault l DepthLimit s
-opened (suc d) l s = gives d s
-
--- a node is entered: its step is counted first
-abbrev pub node : ℕ → Place → State → Outcome ℕ
-node d l s = step l s >>= λ _ s1. opened d l s1

@@ -1,11 +1,11 @@
 // Assignments.
-ghost use Rattle.std.specs.Prelude.{◌≡◌, IfOk, []};
+ghost use Rattle.std.specs.Prelude.{IfOk, []};
 ghost use Rattle.dsl_syntax.specs.SyntaxView.{expr_view, steps_view, base_view, step_view};
 ghost use Rattle.eval_meaning.specs.Targets.{keys_with, set_with};
 ghost use Rattle.eval_work.specs.Works.{state_of, Gives};
-ghost use Rattle.eval_work.specs.Kept.{NamedAll, IsFit, IsKept, AreKept, IsFlowKept, IsTold};
+ghost use Rattle.eval_work.specs.Kept.{IsFit, IsKept, AreKept, IsFlowKept, IsTold};
 ghost use Rattle.dsl_eval.specs.Nodes.{parts};
-ghost use Rattle.dsl_eval.specs.Values.{key_with};
+ghost use Rattle.eval_steps.specs.Values.{key_with};
 
 use crate::expressions::eval_at;
 use dsl_syntax::{Base, Expr, SetOp, Step};

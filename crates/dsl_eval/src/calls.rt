@@ -1,47 +1,26 @@
 // Calls.
-ghost use Rattle.std.specs.Prelude.{◌≡◌, IfOk, IfErr, [], ◌∷◌, false};
+ghost use Rattle.std.specs.Prelude.{IfOk};
 ghost use Rattle.dsl_syntax.specs.SyntaxView.{expr_view, exprs_view, stmts_view};
 ghost use Rattle.eval_meaning.specs.Evaluation.{expression_with};
-ghost use Rattle.eval_meaning.specs.Calls.{callee_with, call_with, called_index_with, value_called, library_with, own_value};
+ghost use Rattle.eval_meaning.specs.Calls.{callee_with, call_with, called_index_with, value_called, library_with};
 ghost use Rattle.eval_meaning.specs.Flow.{block_with};
 ghost use Rattle.eval_meaning.specs.Frames.{in_frame as framed};
 ghost use Rattle.eval_meaning.specs.Functions.{apply_with};
 ghost use Rattle.eval_work.specs.Works.{state_of, view_of, Gives};
-ghost use Rattle.eval_work.specs.Kept.{Named, NamedAll, PairsNamed, CalleeNamed, IsFit, IsKept, IsCalleeKept, IsTold};
+ghost use Rattle.eval_work.specs.Kept.{Named, NamedAll, PairsNamed, IsFit, IsKept, IsCalleeKept, IsTold};
 ghost use Rattle.dsl_eval.specs.Nodes.{parts};
-ghost use Rattle.dsl_eval.specs.Frames.{called_of, prepared_by, plain_prepared};
-ghost use Rattle.dsl_eval.specs.Named.{CalledNamed};
 
 use crate::expressions::{eval_at, eval_kind, eval_values};
-use crate::nodes::enter;
 use crate::statements::run_block;
-use crate::visits::{Method, visit};
+use crate::visits::visit;
 use dsl_lib::LibraryCall;
-use dsl_syntax::{Expr, ExprKind, Func, Stmt};
+use dsl_syntax::{Expr, ExprKind, Stmt};
 use dsl_value::Value;
 use eval_meaning::Callee;
-use eval_work::{Locals, Stop, Work, WorldView, fault};
-use name_work::{
-    call_locals, called_member, called_name, called_part, function_of, read_host, read_service,
-    takes,
-};
-use site_base::{DiagKind, Place};
-use std::alloc::Global;
-use std::sync::Arc;
-
-/// What is called, without a method's own value, which is one of the arguments.
-#[derive(Drop)]
-pub(crate) enum Called {
-    Value { value: Value, this: Value },
-    Library(LibraryCall),
-}
-
-/// A function that is called, and the locals that its frame begins with.
-#[derive(Drop)]
-pub(crate) struct Prepared {
-    pub(crate) func: Arc<Func>,
-    pub(crate) locals: Locals,
-}
+use eval_steps::{Called, Method, enter, parted, prepare};
+use eval_work::{Locals, Stop, Work, WorldView};
+use name_work::{called_member, called_name, called_part, read_host, read_service};
+use site_base::Place;
 
 /// The expression that is called, then the arguments, and then the call.
 #[cycle(eval)]
@@ -153,23 +132,6 @@ fn eval_called_value(
     Ok(Callee::Value { value, this })
 }
 
-/// A method's own value, as the first of the arguments.
-fn parted(alloc: Global, callee: Callee) -> Result<(Called, Vec<Value>), Stop>
-    ensures called { IfOk result (λ p. p.0 ≡ called_of callee) }
-    ensures own { IfOk result (λ p. p.1.items ≡ own_value callee) }
-    ensures memory { IfErr result (λ e. e ≡ Stop.Memory) }
-{
-    let mut own = Vec::new(alloc);
-    match callee {
-        Callee::Value { value, this } => Ok((Called::Value { value, this }, own)),
-        Callee::Function(call) => Ok((Called::Library(call), own)),
-        Callee::Method(call, value) => {
-            own.push(value)?;
-            Ok((Called::Library(call), own))
-        }
-    }
-}
-
 /// Calls a value.
 #[cycle(eval)]
 pub(crate) fn apply(
@@ -199,39 +161,6 @@ pub(crate) fn apply(
         false,
         &call.func.block,
     )
-}
-
-/// The function that a value names, and the locals that its frame begins with.
-fn prepare(work: &Work, place: Place, value: &Value, args: Vec<Value>) -> Result<Prepared, Stop>
-    requires value { Named work.now.store value.now }
-    requires args { NamedAll work.now.store args.items }
-    ensures gives { Gives plain_prepared result (state_of work.now) (prepared_by place value.now args.items (state_of work.now)) }
-    ensures named { IfOk result (λ p. PairsNamed work.now.store p.locals) }
-{
-    match value {
-        Value::Func(index) => prepared_function(work, place, *index, args),
-        _ => Err(fault(work.alloc, place, DiagKind::WrongType)),
-    }
-}
-
-/// The same of a function of the store.
-fn prepared_function(
-    work: &Work,
-    place: Place,
-    index: u32,
-    args: Vec<Value>,
-) -> Result<Prepared, Stop>
-    requires index { Named work.now.store (Value.Func index) }
-    requires args { NamedAll work.now.store args.items }
-    ensures gives { Gives plain_prepared result (state_of work.now) (prepared_by place (Value.Func index) args.items (state_of work.now)) }
-    ensures named { IfOk result (λ p. PairsNamed work.now.store p.locals) }
-{
-    let func = function_of(&work.store, index)?;
-    if !takes(&func, args.len()) {
-        return Err(fault(work.alloc, place, DiagKind::Arity));
-    }
-    let locals = call_locals(work, index, &func, args)?;
-    Ok(Prepared { func, locals })
 }
 
 /// Runs statements in a frame of their own.

@@ -1,19 +1,18 @@
 // What functions and bodies capture.
-ghost use Rattle.std.specs.Prelude.{◌≡◌, IfOk, IfErr, [], Option, ℕ};
+ghost use Rattle.std.specs.Prelude.{IfOk, []};
 ghost use Rattle.std.specs.Arc.{arc_value};
 ghost use Rattle.dsl_syntax.specs.SyntaxView.{uses_view, func_view};
 ghost use Rattle.eval_meaning.specs.Functions.{captured_with, function_with};
 ghost use Rattle.eval_work.specs.Works.{state_of, Gives};
-ghost use Rattle.eval_work.specs.Kept.{Named, IsFit, IsKept, ArePairsKept, IsTold};
+ghost use Rattle.eval_work.specs.Kept.{IsFit, IsKept, ArePairsKept, IsTold};
 ghost use Rattle.dsl_eval.specs.Nodes.{parts};
-ghost use Rattle.dsl_eval.specs.Values.{or_named as named_or, MaybeNamed};
 
 use crate::expressions::eval_maybe;
 use dsl_syntax::{Func, Use};
 use dsl_value::Value;
+use eval_steps::or_named;
 use eval_work::{Locals, Stop, Work, WorldView};
-use name_work::name_value;
-use site_base::{Place, Text};
+use site_base::Place;
 use std::sync::Arc;
 
 /// The names of a `use` list with their values.
@@ -55,17 +54,4 @@ pub(crate) fn make_function(
 {
     let captured = eval_captures(view, work, depth, place, &func.uses)?;
     work.make_function(func, captured)
-}
-
-/// What a name of a `use` list captures: the value of its expression, or its own.
-fn or_named(work: &Work, place: Place, name: &Text, value: Option<Value>) -> Result<Value, Stop>
-    requires fit { IsFit work.now }
-    requires value { MaybeNamed work.now.store value }
-    ensures gives { Gives (λ v. v) result (state_of work.now) (named_or place name.now value (state_of work.now)) }
-    ensures named { IfOk result (Named work.now.store) }
-{
-    match value {
-        Some(value) => Ok(value),
-        None => name_value(work, place, name),
-    }
 }

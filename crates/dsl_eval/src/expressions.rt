@@ -1,22 +1,22 @@
 // Expressions.
-ghost use Rattle.std.specs.Prelude.{◌≡◌, IfOk, [], Option, Some, None};
+ghost use Rattle.std.specs.Prelude.{IfOk, []};
 ghost use Rattle.std.specs.Option.{option_copied};
-ghost use Rattle.std.specs.Arc.{arc_value};
 ghost use Rattle.dsl_syntax.specs.SyntaxView.{expr_view, exprs_view, entries_view, maybe_expr_view};
 ghost use Rattle.eval_meaning.specs.Evaluation.{expression_with};
 ghost use Rattle.eval_meaning.specs.Literals.{values_with, pairs_with};
-ghost use Rattle.eval_meaning.specs.Members.{index_with, part_value};
+ghost use Rattle.eval_meaning.specs.Members.{index_with};
 ghost use Rattle.eval_meaning.specs.Operators.{binary_with};
 ghost use Rattle.eval_work.specs.Works.{state_of, view_of, Gives};
 ghost use Rattle.eval_work.specs.Kept.{Named, NamedAll, IsFit, IsKept, AreKept, ArePairsKept, IsTold};
 ghost use Rattle.dsl_eval.specs.Nodes.{parts};
-ghost use Rattle.dsl_eval.specs.Values.{maybe_value, right_with, IsMaybeKept};
+ghost use Rattle.eval_steps.specs.Values.{maybe_value, right_with};
+ghost use Rattle.dsl_eval.specs.Values.{IsMaybeKept};
 
 use crate::calls::eval_call;
 use crate::captures::make_function;
-use crate::nodes::enter;
 use dsl_syntax::{BinOp, Expr, ExprKind};
 use dsl_value::Value;
+use eval_steps::{enter, member};
 use eval_work::{Stop, Work, WorldView};
 use name_work::name_value;
 use site_base::{Place, Text};
@@ -230,14 +230,4 @@ pub(crate) fn eval_maybe(
         }
         None => Ok(None),
     }
-}
-
-/// What a value has under a name.
-fn member(work: &Work, place: Place, value: &Value, name: &Text) -> Result<Value, Stop>
-    requires { Named work.now.store value.now }
-    ensures gives { Gives (λ v. v) result (state_of work.now) (part_value place value.now (Value.Str name.now) (state_of work.now)) }
-    ensures named { IfOk result (Named work.now.store) }
-{
-    let key = Value::Str(name.clone()?);
-    work.part(place, value, &key)
 }

@@ -1,19 +1,19 @@
 // Files that are included, and templates that are imported.
-ghost use Rattle.std.specs.Prelude.{◌≡◌, IfOk, slice_get};
-ghost use Rattle.dsl_syntax.specs.SyntaxView.{expr_view, stmts_view};
+ghost use Rattle.std.specs.Prelude.{IfOk};
+ghost use Rattle.dsl_syntax.specs.SyntaxView.{expr_view};
 ghost use Rattle.eval_meaning.specs.Files.{file_with, include_with};
 ghost use Rattle.eval_meaning.specs.Registration.{loading};
 ghost use Rattle.eval_meaning.specs.Templates.{import_with};
 ghost use Rattle.eval_work.specs.Works.{state_of, view_of, Gives};
 ghost use Rattle.eval_work.specs.Kept.{IsFit, IsKept, IsFlowKept, IsTold};
 ghost use Rattle.dsl_eval.specs.Nodes.{parts};
-ghost use Rattle.dsl_eval.specs.Frames.{statements_in};
 
 use crate::calls::in_frame;
 use crate::expressions::eval_at;
-use dsl_syntax::{Expr, Stmt};
+use dsl_syntax::Expr;
 use dsl_value::Value;
 use eval_meaning::Flow;
+use eval_steps::statements_of;
 use eval_work::{Locals, Stop, Work, WorldView};
 use load_work::{at_load, begin_part, end_part, imported, in_item, next_in_order};
 use site_base::Place;
@@ -85,14 +85,4 @@ pub(crate) fn run_file(view: &WorldView, work: &mut Work, depth: u32) -> Result<
     let value = in_frame(view, work, depth, Value::Ref(0), locals, true, statements)?;
     end_part(work, around);
     Ok(value)
-}
-
-/// The statements of a file.
-fn statements_of<'a>(view: &'a WorldView, index: u32) -> &'a [Stmt]
-    ensures { stmts_view result.now ≡ statements_in (slice_get (view_of view.now).files index) }
-{
-    match view.files.get(index as usize) {
-        Some(file) => &file.file.statements,
-        None => &[],
-    }
 }

@@ -1,10 +1,9 @@
 //! The evaluator of the language.
 //!
 //! Its functions lead back into each other, and each of them is what the definition says of its kind of node. In reading order:
-//! how a node is entered (`nodes`), expressions (`expressions`), what is captured (`captures`), calls (`calls`), the methods that
-//! call a function for each element (`visits`), statements (`statements`), statements that end with a value (`finishing`),
-//! loops (`loops`), assignments (`assigning`), what registers (`registering`), files and templates (`files`), and what callers
-//! take (`evaluating`).
+//! expressions (`expressions`), what is captured (`captures`), calls (`calls`), the methods that call a function for each element
+//! (`visits`), statements (`statements`), statements that end with a value (`finishing`), loops (`loops`), assignments
+//! (`assigning`), what registers (`registering`), files and templates (`files`), and what callers take (`evaluating`).
 #![tactic(auto)]
 
 mod assigning;
@@ -15,7 +14,6 @@ mod expressions;
 mod files;
 mod finishing;
 mod loops;
-mod nodes;
 mod registering;
 mod statements;
 mod visits;

@@ -1,9 +1,8 @@
 // Statements.
-ghost use Rattle.std.specs.Prelude.{◌≡◌, IfOk, [], Some, None};
-ghost use Rattle.std.specs.Arc.{arc_value};
-ghost use Rattle.dsl_syntax.specs.SyntaxView.{expr_view, stmt_view, stmt_kind_view, stmts_view, arms_view};
+ghost use Rattle.std.specs.Prelude.{IfOk};
+ghost use Rattle.dsl_syntax.specs.SyntaxView.{stmt_view, stmt_kind_view, stmts_view, arms_view};
 ghost use Rattle.eval_meaning.specs.Evaluation.{statement_kind_with};
-ghost use Rattle.eval_meaning.specs.Flow.{block_with, statement_with, arms_with, is_passed as passed_kind};
+ghost use Rattle.eval_meaning.specs.Flow.{block_with, statement_with, arms_with};
 ghost use Rattle.eval_work.specs.Works.{state_of, view_of, Gives};
 ghost use Rattle.eval_work.specs.Kept.{IsFit, IsFlowKept, IsTold};
 ghost use Rattle.dsl_eval.specs.Nodes.{parts};
@@ -12,12 +11,12 @@ use crate::assigning::run_set;
 use crate::captures::make_function;
 use crate::expressions::eval_at;
 use crate::files::{run_import, run_include};
-use crate::finishing::{Then, run_value};
+use crate::finishing::run_value;
 use crate::loops::{run_for, run_while};
-use crate::nodes::enter;
-use crate::registering::{Sort, run_apply, run_named};
+use crate::registering::{run_apply, run_named};
 use dsl_syntax::{Arm, Stmt, StmtKind};
 use eval_meaning::Flow;
+use eval_steps::{Sort, Then, enter, is_passed};
 use eval_work::{Stop, Work, WorldView};
 use load_work::define;
 use site_base::Place;
@@ -63,13 +62,6 @@ fn run_statement(
     }
     let below = enter(work, depth, statement.place)?;
     run_kind(view, work, below, statement.place, &statement.kind)
-}
-
-/// Whether a statement is passed over, as `assign` and `ignore` are.
-fn is_passed(kind: &StmtKind) -> bool
-    ensures { result ≡ passed_kind (stmt_kind_view kind.now) }
-{
-    matches!(kind, StmtKind::Assign { .. } | StmtKind::Ignore { .. })
 }
 
 /// Runs a statement whose step is counted.

@@ -1,32 +1,16 @@
 // The methods of arrays that call a function for each element.
-ghost use Rattle.std.specs.Prelude.{◌≡◌, IfOk, IfErr, OnOk, [], ◌∷◌};
+ghost use Rattle.std.specs.Prelude.{IfOk, []};
 ghost use Rattle.eval_meaning.specs.Visits.{mapped, filtered, found, visits_by};
 ghost use Rattle.eval_work.specs.Works.{state_of, Gives};
 ghost use Rattle.eval_work.specs.Kept.{Named, NamedAll, IsFit, IsKept, AreKept, IsStill, IsTold};
 ghost use Rattle.dsl_eval.specs.Nodes.{parts};
-ghost use Rattle.dsl_eval.specs.Visiting.{plain_visited, visited_by, visit_with, with_item};
-ghost use Rattle.dsl_eval.specs.Named.{IsVisitedNamed};
+ghost use Rattle.eval_steps.specs.Visiting.{visit_with};
 
 use crate::calls::apply;
 use dsl_value::Value;
-use eval_work::{Stop, Work, WorldView, fault};
-use site_base::{DiagKind, Place};
-
-/// The methods.
-#[derive(Clone, Copy, Debug, PartialEq, Eq)]
-pub(crate) enum Method {
-    Map,
-    Filter,
-    Any,
-    All,
-}
-
-/// A function, and the elements for which it is called.
-#[derive(Drop)]
-pub(crate) struct Visited {
-    pub(crate) func: Value,
-    pub(crate) items: Vec<Value>,
-}
+use eval_steps::{Method, Visited, for_item, push_if, visit_of};
+use eval_work::{Stop, Work, WorldView};
+use site_base::Place;
 
 /// Calls a method. What stands in the array once the argument was evaluated is gone over.
 #[cycle(eval)]
@@ -143,43 +127,4 @@ fn find_value(
         }
     }
     Ok(false)
-}
-
-/// The function and the elements of a method's arguments.
-fn visit_of(work: &Work, place: Place, args: &[Value]) -> Result<Visited, Stop>
-    requires { NamedAll work.now.store args.now }
-    ensures gives { Gives plain_visited result (state_of work.now) (visited_by place args.now (state_of work.now)) }
-    ensures named { IfOk result (IsVisitedNamed work.now.store) }
-{
-    match args {
-        [of, Value::Func(func)] => {
-            let func = Value::Func(*func);
-            let items = work.elements(of)?;
-            Ok(Visited { func, items })
-        }
-        [_, _] => Err(fault(work.alloc, place, DiagKind::WrongType)),
-        _ => Err(fault(work.alloc, place, DiagKind::Arity)),
-    }
-}
-
-/// The `this` of the frame, and an element as the one argument.
-fn for_item(work: &Work, item: &Value) -> Result<(Value, Vec<Value>), Stop>
-    ensures this { IfOk result (λ p. p.0 ≡ work.now.this) }
-    ensures args { IfOk result (λ p. p.1.items ≡ item.now ∷ []) }
-    ensures memory { IfErr result (λ e. e ≡ Stop.Memory) }
-{
-    let mut args = Vec::with_capacity(work.alloc, 1)?;
-    args.push(item.clone()?)?;
-    Ok((work.this_value()?, args))
-}
-
-/// Adds an element where it is kept.
-fn push_if(all: &mut Vec<Value>, kept: bool, item: &Value) -> Result<(), Stop>
-    ensures items { OnOk result (all.new.items ≡ with_item kept item.now all.old.items) }
-    ensures memory { IfErr result (λ e. e ≡ Stop.Memory) }
-{
-    if kept {
-        all.push(item.clone()?)?;
-    }
-    Ok(())
 }

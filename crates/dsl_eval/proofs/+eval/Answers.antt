@@ -23,14 +23,14 @@ use Rattle.eval_meaning.specs.declared.flow.Flow.TheVariants as flow
 use Rattle.load_work.specs.Orders.{Begins, next_number}
 use Rattle.load_work.specs.Imports.{plain_imported}
 use Rattle.eval_work.specs.Works.{placed_name}
-use Rattle.dsl_eval.specs.Values.{maybe_value}
-use Rattle.dsl_eval.specs.Frames.{plain_prepared}
-use Rattle.dsl_eval.specs.Named.{CalledNamed}
-use Rattle.dsl_eval.specs.Visiting.{plain_visited, visit_with, with_item}
-use Rattle.dsl_eval.specs.Registering.{named_with}
-use Rattle.dsl_eval.specs.declared.calls.Called.TheVariants as called
-use Rattle.dsl_eval.specs.declared.loops.Turn.{Turn}
-use Rattle.dsl_eval.specs.declared.registering.Sort.TheVariants as sorts
+use Rattle.eval_steps.specs.Values.{maybe_value}
+use Rattle.eval_steps.specs.Frames.{plain_prepared}
+use Rattle.eval_steps.specs.Named.{CalledNamed}
+use Rattle.eval_steps.specs.Visiting.{plain_visited, visit_with, with_item}
+use Rattle.eval_steps.specs.Registering.{named_with}
+use Rattle.eval_steps.specs.declared.calls.Called.TheVariants as called
+use Rattle.eval_steps.specs.declared.loops.Turn.{Turn}
+use Rattle.eval_steps.specs.declared.registering.Sort.TheVariants as sorts
 use Rattle.eval_meaning.specs.Evaluation.{expression_with, statement_kind_with}
 use Rattle.eval_meaning.specs.Literals.{values_with, pairs_with}
 use Rattle.eval_meaning.specs.Functions.{captured_with, apply_with}
@@ -43,11 +43,11 @@ use Rattle.eval_work.specs.Kept.{Named, NamedAll}
 use Rattle.name_work.proofs.Handing.{handed_on}
 use Rattle.eval_work.proofs.Later.{names_later, all_later, pairs_later, told_later, later_later}
 use Rattle.dsl_eval.specs.Nodes.{parts}
-use Rattle.dsl_eval.proofs.Chains.{goes_on, goes_to, by_same, as_stop}
-use Rattle.dsl_eval.proofs.Entering.{value_node, callee_node, statement_node}
-use Rattle.dsl_eval.proofs.Same.{apply_same, visits_same, const_same, object_same, template_same, prefix_same}
-use Rattle.dsl_eval.proofs.Turns.{at_turn, turned, stopped, values_turn, pairs_turn, captured_turn, keys_turn, arm_turn, used_gives, used_stops_behind, mapped_turn, filtered_turn, while_turn, files_turn, array_turn, dict_turn, function_turn, arm_taken, arm_left, map_turn, filter_turn, any_turn, all_turn, for_start, rule_start, rule_turn, import_start, import_turn, include_start, file_turn}
-use Rattle.dsl_eval.proofs.Held.{kept_pushed, kept_filtered, pairs_pushed, named_at, own_named, called_named}
+use Rattle.eval_steps.proofs.Chains.{goes_on, goes_to, by_same, as_stop}
+use Rattle.eval_steps.proofs.Entering.{value_node, callee_node, statement_node}
+use Rattle.eval_steps.proofs.Same.{apply_same, visits_same, const_same, object_same, template_same, prefix_same}
+use Rattle.eval_steps.proofs.Turns.{at_turn, turned, stopped, values_turn, pairs_turn, captured_turn, keys_turn, arm_turn, used_gives, used_stops_behind, mapped_turn, filtered_turn, while_turn, files_turn, array_turn, dict_turn, function_turn, arm_taken, arm_left, map_turn, filter_turn, any_turn, all_turn, for_start, rule_start, rule_turn, import_start, import_turn, include_start, file_turn}
+use Rattle.eval_steps.proofs.Held.{kept_pushed, kept_filtered, pairs_pushed, named_at, own_named, called_named}
 use Rattle.dsl_eval.proofs.+eval.Goals as goal
 
 pub expressions::eval_at-returns-in_err-below-clause-gives : goal.expressions::eval_at-returns-in_err-below-clause-gives

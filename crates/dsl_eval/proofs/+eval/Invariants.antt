@@ -11,8 +11,8 @@ use Rattle.eval_meaning.specs.Visits.{mapped, filtered, found}
 use Rattle.eval_work.specs.Works.{state_of, view_of}
 use Rattle.eval_work.specs.Kept.{IsFit, IsLater, AreKept, ArePairsKept}
 use Rattle.dsl_eval.specs.Nodes.{parts}
-use Rattle.dsl_eval.specs.Loops.{for_turns}
-use Rattle.dsl_eval.specs.Named.{TurnsNamed}
+use Rattle.eval_steps.specs.Loops.{for_turns}
+use Rattle.eval_steps.specs.Named.{TurnsNamed}
 use Rattle.dsl_eval.proofs.+eval.Given as goal
 
 abbrev pub decreases-expressions::eval_at : goal.decreases-expressions::eval_at

@@ -31,10 +31,10 @@ use Rattle.eval_meaning.specs.declared.flow.Flow.TheVariants as flows
 use Rattle.eval_work.specs.Works.{Gives}
 use Rattle.eval_work.specs.declared.stop.Stop.{Stop}
 use Rattle.name_work.proofs.Handing.{err_then}
-use Rattle.dsl_eval.specs.Values.{maybe_value, or_named, key_with}
-use Rattle.dsl_eval.specs.Visiting.{with_item}
-use Rattle.dsl_eval.specs.Loops.{for_turns, turn_set}
-use Rattle.dsl_eval.specs.declared.loops.Turn.{Turn}
+use Rattle.eval_steps.specs.Values.{maybe_value, or_named, key_with}
+use Rattle.eval_steps.specs.Visiting.{with_item}
+use Rattle.eval_steps.specs.Loops.{for_turns, turn_set}
+use Rattle.eval_steps.specs.declared.loops.Turn.{Turn}
 use Rattle.std.specs.Prelude.{slice_get, unwrap_or, not}
 use Rattle.dsl_syntax.specs.Syntax.{Expressions, Entries, Uses, MaybeLoop, loop}
 use Rattle.dsl_syntax.specs.SyntaxView.{func_view}
@@ -55,12 +55,12 @@ use Rattle.eval_meaning.specs.Files.{with_order, include_with, include_by, run_f
 use Rattle.load_work.specs.Imports.{PlainImported, found_by}
 use Rattle.load_work.specs.Orders.{next_number, order_after, around_order, Begins}
 use Rattle.load_work.specs.declared.order.Around.{Around}
-use Rattle.dsl_eval.specs.Frames.{in_import, statements_in}
-use Rattle.dsl_eval.specs.Visiting.{visit_with}
-use Rattle.dsl_eval.specs.Loops.{turns_of}
-use Rattle.dsl_eval.specs.declared.visits.Method.{Method}
-use Rattle.dsl_eval.specs.declared.visits.Method.TheVariants as methods
-use Rattle.dsl_eval.proofs.Same.{used_same, each_same, import_same, include_same, file_same}
+use Rattle.eval_steps.specs.Frames.{in_import, statements_in}
+use Rattle.eval_steps.specs.Visiting.{visit_with}
+use Rattle.eval_steps.specs.Loops.{turns_of}
+use Rattle.eval_steps.specs.declared.visits.Method.{Method}
+use Rattle.eval_steps.specs.declared.visits.Method.TheVariants as methods
+use Rattle.eval_steps.proofs.Same.{used_same, each_same, import_same, include_same, file_same}
 
 -- what stands in a list at an index, and behind it
 pub at_turn : {A : Type 0} (xs : List A) (i : ℕ) (x y : A) → drop i xs ≡ x ∷ drop (i + 1) xs → y ≡ x → drop i xs ≡ y ∷ drop (i + 1) xs

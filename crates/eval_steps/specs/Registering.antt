@@ -11,8 +11,8 @@ use Rattle.eval_meaning.specs.Parts.{Parts, place_of}
 use Rattle.eval_meaning.specs.Functions.{captured_with}
 use Rattle.eval_meaning.specs.Registration.{at_load, name_by, prefix_by, item_registered, template_registered}
 use Rattle.eval_meaning.specs.declared.flow.Flow.{Flow}
-use Rattle.dsl_eval.specs.declared.registering.Sort.{Sort}
-use Rattle.dsl_eval.specs.declared.registering.Sort.TheVariants as sorts
+use Rattle.eval_steps.specs.declared.registering.Sort.{Sort}
+use Rattle.eval_steps.specs.declared.registering.Sort.TheVariants as sorts
 
 abbrev pub registered : View → Sort → Place → List ℕ → List ℕ → Pairs → Statements → State → Outcome Flow
 registered view sorts.Object l kind n ps b s = item_registered view l kind n ps b s

@@ -10,13 +10,13 @@ use Rattle.eval_meaning.specs.Calls.{own_value}
 use Rattle.eval_meaning.specs.declared.callee.Callee.{Callee}
 use Rattle.eval_meaning.specs.declared.callee.Callee.TheVariants as callees
 use Rattle.eval_work.specs.Kept.{CalleeNamed}
-use Rattle.dsl_eval.specs.Frames.{called_of}
-use Rattle.dsl_eval.specs.Named.{CalledNamed}
-use Rattle.dsl_eval.specs.Visiting.{with_item}
-use Rattle.dsl_eval.specs.Loops.{element_turn, pair_turn}
-use Rattle.dsl_eval.specs.Named.{IsTurnNamed, TurnsNamed}
-use Rattle.dsl_eval.specs.Values.{MaybeNamed}
-use Rattle.dsl_eval.specs.declared.loops.Turn.{Turn}
+use Rattle.eval_steps.specs.Frames.{called_of}
+use Rattle.eval_steps.specs.Named.{CalledNamed}
+use Rattle.eval_steps.specs.Visiting.{with_item}
+use Rattle.eval_steps.specs.Loops.{element_turn, pair_turn}
+use Rattle.eval_steps.specs.Named.{IsTurnNamed, TurnsNamed}
+use Rattle.eval_steps.specs.Values.{MaybeNamed}
+use Rattle.eval_steps.specs.declared.loops.Turn.{Turn}
 
 one_more : (c : Contents) (vs : List Value) (v : Value) → NamedAll c vs → Named c v → NamedAll c (vs ++ v ∷ [])
 one_more c [] v a h = (h, tt)

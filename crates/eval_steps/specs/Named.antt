@@ -2,11 +2,11 @@
 use Rattle.std.specs.Prelude.{List, [], ◌∷◌}
 use Rattle.dsl_value.specs.Contents.{Contents}
 use Rattle.eval_work.specs.Kept.{Named, NamedAll}
-use Rattle.dsl_eval.specs.Values.{MaybeNamed}
-use Rattle.dsl_eval.specs.declared.calls.Called.{Called}
-use Rattle.dsl_eval.specs.declared.calls.Called.TheVariants as called
-use Rattle.dsl_eval.specs.declared.loops.Turn.{Turn}
-use Rattle.dsl_eval.specs.declared.visits.Visited.{Visited}
+use Rattle.eval_steps.specs.Values.{MaybeNamed}
+use Rattle.eval_steps.specs.declared.calls.Called.{Called}
+use Rattle.eval_steps.specs.declared.calls.Called.TheVariants as called
+use Rattle.eval_steps.specs.declared.loops.Turn.{Turn}
+use Rattle.eval_steps.specs.declared.visits.Visited.{Visited}
 
 abbrev pub CalledNamed : Contents → Called → Type 0
 CalledNamed c (called.Value v this) = Named c v × Named c this

@@ -7,9 +7,9 @@ use Rattle.eval_meaning.specs.Frames.{first_locals}
 use Rattle.eval_meaning.specs.Functions.{bound}
 use Rattle.name_work.specs.Calling.{captured_at}
 use Rattle.eval_work.specs.Works.{state_of}
-use Rattle.dsl_eval.specs.Frames.{frame_with}
-use Rattle.dsl_eval.proofs.Called.{call_taken, call_refused}
-use Rattle.dsl_eval.proofs.calls.prepared_function.Goals as goal
+use Rattle.eval_steps.specs.Frames.{frame_with}
+use Rattle.eval_steps.proofs.Called.{call_taken, call_refused}
+use Rattle.eval_steps.proofs.calls.prepared_function.Goals as goal
 
 pub returns-then-not-takes-clause-gives : goal.returns-then-not-takes-clause-gives
 returns-then-not-takes-clause-gives c =

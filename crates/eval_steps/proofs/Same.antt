@@ -31,16 +31,16 @@ use Rattle.eval_meaning.specs.declared.flow.Flow.{Flow}
 use Rattle.eval_meaning.specs.declared.flow.Flow.TheVariants.{On}
 use Rattle.load_work.specs.Imports.{found_template, found_by}
 use Rattle.load_work.specs.Orders.{next_number, order_after}
-use Rattle.dsl_eval.specs.Values.{maybe_value, or_named, right_with}
-use Rattle.dsl_eval.specs.Frames.{called_of, called_by, prepared_by, closure_frame, frame_of, statements_in, in_call, in_import}
+use Rattle.eval_steps.specs.Values.{maybe_value, or_named, right_with}
+use Rattle.eval_steps.specs.Frames.{called_of, called_by, prepared_by, closure_frame, frame_of, statements_in, in_call, in_import}
 use Rattle.load_work.specs.Imports.{PlainImported}
-use Rattle.dsl_eval.specs.Visiting.{visited_by, visit_over}
-use Rattle.dsl_eval.specs.Finishing.{valued_with, finished}
-use Rattle.dsl_eval.specs.Loops.{for_turns, turns_of, turns_of_cell, element_turn, pair_turn}
-use Rattle.dsl_eval.specs.Registering.{named_with, prefix_of}
-use Rattle.dsl_eval.specs.declared.finishing.Then.TheVariants as thens
-use Rattle.dsl_eval.specs.declared.registering.Sort.TheVariants as sorts
-use Rattle.dsl_eval.proofs.Chains.{one_after, same_after, same_end}
+use Rattle.eval_steps.specs.Visiting.{visited_by, visit_over}
+use Rattle.eval_steps.specs.Finishing.{valued_with, finished}
+use Rattle.eval_steps.specs.Loops.{for_turns, turns_of, turns_of_cell, element_turn, pair_turn}
+use Rattle.eval_steps.specs.Registering.{named_with, prefix_of}
+use Rattle.eval_steps.specs.declared.finishing.Then.TheVariants as thens
+use Rattle.eval_steps.specs.declared.registering.Sort.TheVariants as sorts
+use Rattle.eval_steps.proofs.Chains.{one_after, same_after, same_end}
 
 -- ---- operators
 

@@ -9,8 +9,8 @@ use Rattle.eval_meaning.specs.Calls.{callee_with}
 use Rattle.eval_meaning.specs.Flow.{statement_with, is_passed}
 use Rattle.eval_meaning.specs.Evaluation.{evaluated, expression_with, statement_kind_with}
 use Rattle.eval_meaning.specs.declared.flow.Flow.TheVariants.{On}
-use Rattle.dsl_eval.specs.Nodes.{node, opened}
-use Rattle.dsl_eval.proofs.Chains.{one_after}
+use Rattle.eval_steps.specs.Nodes.{node, opened}
+use Rattle.eval_steps.proofs.Chains.{one_after}
 
 pub value_node : (view : View) (d : ℕ) (e : Expression) (s : State) → (evaluated view d).value e s ≡ (node d (place_of e) s >>= λ m s1. expression_with view (evaluated view m) e s1)
 unfolding evaluated

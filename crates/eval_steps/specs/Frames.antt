@@ -23,9 +23,9 @@ use Rattle.eval_meaning.specs.Calls.{library_with}
 use Rattle.eval_meaning.specs.declared.callee.Callee.{Callee}
 use Rattle.eval_meaning.specs.declared.callee.Callee.TheVariants as callee
 use Rattle.load_work.specs.Imports.{PlainImported}
-use Rattle.dsl_eval.specs.declared.calls.Called.{Called}
-use Rattle.dsl_eval.specs.declared.calls.Called.TheVariants as called
-use Rattle.dsl_eval.specs.declared.calls.Prepared.{Prepared}
+use Rattle.eval_steps.specs.declared.calls.Called.{Called}
+use Rattle.eval_steps.specs.declared.calls.Called.TheVariants as called
+use Rattle.eval_steps.specs.declared.calls.Prepared.{Prepared}
 
 -- what is called, without a method's own value
 abbrev pub called_of : Callee → Called

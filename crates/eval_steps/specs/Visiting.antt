@@ -7,9 +7,9 @@ use Rattle.dsl_value.specs.declared.value.Value.TheVariants as value
 use Rattle.eval_meaning.specs.States.{State, Outcome, gives, fault}
 use Rattle.eval_meaning.specs.Parts.{Parts}
 use Rattle.eval_meaning.specs.Visits.{elements, map_with, filter_with, any_with, all_with}
-use Rattle.dsl_eval.specs.declared.visits.Method.{Method}
-use Rattle.dsl_eval.specs.declared.visits.Method.TheVariants as visit
-use Rattle.dsl_eval.specs.declared.visits.Visited.{Visited}
+use Rattle.eval_steps.specs.declared.visits.Method.{Method}
+use Rattle.eval_steps.specs.declared.visits.Method.TheVariants as visit
+use Rattle.eval_steps.specs.declared.visits.Visited.{Visited}
 
 -- a function, and the elements for which it is called
 pub record PlainVisited : Type 0 where

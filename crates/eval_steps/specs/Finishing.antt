@@ -10,9 +10,9 @@ use Rattle.eval_meaning.specs.Flow.{thrown}
 use Rattle.eval_meaning.specs.Registration.{at_load, constant_set}
 use Rattle.eval_meaning.specs.declared.flow.Flow.{Flow}
 use Rattle.eval_meaning.specs.declared.flow.Flow.TheVariants as flow
-use Rattle.dsl_eval.specs.Values.{maybe_value, or_null}
-use Rattle.dsl_eval.specs.declared.finishing.Then.{Then}
-use Rattle.dsl_eval.specs.declared.finishing.Then.TheVariants as thens
+use Rattle.eval_steps.specs.Values.{maybe_value, or_null}
+use Rattle.eval_steps.specs.declared.finishing.Then.{Then}
+use Rattle.eval_steps.specs.declared.finishing.Then.TheVariants as thens
 
 -- what is looked at before the expression
 abbrev pub admitted : Place → Then → State → Outcome (Unit {0})

@@ -12,7 +12,7 @@ use Rattle.eval_meaning.specs.Frames.{set_local}
 use Rattle.eval_meaning.specs.Flow.{block_with, loop_end, around}
 use Rattle.eval_meaning.specs.declared.flow.Flow.{Flow}
 use Rattle.eval_meaning.specs.declared.flow.Flow.TheVariants.{On}
-use Rattle.dsl_eval.specs.declared.loops.Turn.{Turn}
+use Rattle.eval_steps.specs.declared.loops.Turn.{Turn}
 
 -- one turn over an array has an element, and one over a dictionary a key and its value
 abbrev pub element_turn : Value → Turn

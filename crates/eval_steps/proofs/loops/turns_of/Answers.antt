@@ -4,11 +4,11 @@ use Rattle.dsl_value.specs.Contents.{Contents, plain}
 use Rattle.dsl_value.specs.Whole.{Stands}
 use Rattle.eval_work.specs.Kept.{NamedAll, PairsNamed}
 use Rattle.eval_work.specs.declared.stop.Stop.{Stop}
-use Rattle.dsl_eval.specs.Loops.{element_turn, pair_turn}
-use Rattle.dsl_eval.specs.Named.{TurnsNamed}
-use Rattle.dsl_eval.specs.declared.loops.Turn.{Turn}
-use Rattle.dsl_eval.proofs.Held.{elements_named, pairs_named}
-use Rattle.dsl_eval.proofs.loops.turns_of.Goals as goal
+use Rattle.eval_steps.specs.Loops.{element_turn, pair_turn}
+use Rattle.eval_steps.specs.Named.{TurnsNamed}
+use Rattle.eval_steps.specs.declared.loops.Turn.{Turn}
+use Rattle.eval_steps.proofs.Held.{elements_named, pairs_named}
+use Rattle.eval_steps.proofs.loops.turns_of.Goals as goal
 
 turns_named : (r : Result (Vec Turn Global) Stop) (c : Contents) (ts : List Turn) → IfOk r (λ v. v.items ≡ ts) → TurnsNamed c ts → IfOk r (λ v. TurnsNamed c v.items)
 turns_named (Ok v) c ts e h = subst (TurnsNamed c) (sym e) h

@@ -19,7 +19,7 @@ use Rattle.name_work.specs.Calling.{IsFunctionAt, captured_at}
 use Rattle.load_work.specs.Imports.{PlainImported}
 use Rattle.eval_work.specs.Works.{state_of}
 use Rattle.eval_work.specs.declared.work.Work.{Work}
-use Rattle.dsl_eval.specs.Frames.{prepared_by, closure_frame, frame_of}
+use Rattle.eval_steps.specs.Frames.{prepared_by, closure_frame, frame_of}
 
 frame_at : (w : Work) (l : Place) (k : ℕ) (f : Func) (vs : List Value) → IsFunctionAt w.store k f → prepared_by l (value.Func k) vs (state_of w) ≡ frame_of l (func_view f) (captured_at w.store k) vs (state_of w)
 frame_at w l k f vs h = ap (λ o. closure_frame l o vs (state_of w)) (slice_get-map closure w.store.functions k ∙ ap (option_map closure) h)
