@@ -22,9 +22,10 @@ ghost use Rattle.apply_rules.specs.Preparations.{IsPreparedTarget};
 
 mod lawful;
 
-use apply_rules::{GroupAnswer, PreparedTarget, RuleAnswer, Target, group_members, instances};
+use apply_rules::{PreparedTarget, RuleAnswer, Target, instances};
 use case_loads::{NoAnswer, are_named, is_lawful, scene_of, view_over};
 use eval_work::{Item, Locals, Rule, WorldView};
+use group_rules::{GroupAnswer, group_members};
 use lawful::are_groups_named;
 use site_base::{ItemNo, OutOfMemory, Place, TargetNo, Text, Tree};
 use site_model::Object;

@@ -1,7 +1,5 @@
 -- What is answered stays over each view that shows more.
-use Rattle.std.proofs.Common.{◌≡◌, ℕ, List, subst}
-use Rattle.site_model.specs.PlainSite.{PlainObject}
-use Rattle.commit_meaning.specs.Groups.{group_members, member_run, settled}
+use Rattle.std.proofs.Common.{◌≡◌, List, subst}
 use Rattle.eval_meaning.specs.Registered.{PlainItem, PlainRule}
 use Rattle.eval_meaning.specs.Views.{View, IsPart}
 use Rattle.commit_meaning.specs.Answers.{Answer, answered}
@@ -13,7 +11,3 @@ use Rattle.commit_meaning.proofs.ViewAnswers.{answers_stay}
 pub rule_lasts : (v world : View) (r : PlainRule) (t : Target) (x : Answer (List PlainItem)) → IsPart v world → answered (pair_number r t) (rule_run v r t) ≡ x → Stays x (instances world r t)
 unfolding instances
 rule_lasts v world r t x part e = subst (λ y. Stays y (instances world r t)) e ((answers_stay v world part).rules r t)
-
-pub groups_last : (v world : View) (gs : List PlainItem) (o : PlainObject) (x : Answer (List (List ℕ))) → IsPart v world → settled (answered o.number (member_run v gs o)) ≡ x → Stays x (group_members world gs o)
-unfolding group_members
-groups_last v world gs o x part e = subst (λ y. Stays y (group_members world gs o)) e ((answers_stay v world part).members gs o)

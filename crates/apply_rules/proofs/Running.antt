@@ -17,7 +17,7 @@ use Rattle.eval_work.specs.Works.{state_of}
 use Rattle.eval_work.specs.declared.work.Work.{Work}
 use Rattle.eval_work.specs.declared.stop.Stop.{Stop}
 use Rattle.eval_work.specs.declared.view.WorldView.{WorldView}
-use Rattle.eval_work.specs.Kept.{IsFit, IsKept, IsLater, IsTold, PairsNamed}
+use Rattle.eval_work.specs.Kept.{IsFit, IsLater, IsTold, PairsNamed}
 use Rattle.eval_work.proofs.Later.{told_later}
 use Rattle.item_start.specs.Ready.{IsReady}
 use Rattle.eval_meaning.specs.Load.{most_open}
@@ -32,13 +32,9 @@ use Rattle.commit_meaning.specs.Rules.{Element, of_value, in_rule, looped, eleme
 use Rattle.commit_meaning.specs.Starts.{Trees, fresh, values_of, tree_by, tree_at, trees_at}
 use Rattle.item_start.specs.Bound.{Bound, bound_in}
 use Rattle.item_start.proofs.Bindings.{values_are_bound}
-use Rattle.dsl_value.specs.PlainStores.{plain_store}
-use Rattle.eval_meaning.specs.declared.read.Read.{Read}
-use Rattle.apply_rules.specs.Preparations.{IsPrepared}
-use Rattle.apply_rules.specs.Seen.{names_of}
-use Rattle.apply_rules.specs.declared.prepared.Prepared.{Prepared}
-use Rattle.apply_rules.specs.Judging.{in_rule_with, judged_element, unframed, looped_items}
-use Rattle.apply_rules.specs.Looped.{elements_by}
+use Rattle.rule_expressions.specs.Framed.{in_rule_with}
+use Rattle.rule_expressions.specs.Looped.{elements_by}
+use Rattle.apply_rules.specs.Judging.{judged_element, unframed, looped_items}
 
 bind_same : {A B : Type 0} (o : Outcome A) (f g : A → State → Outcome B) → ((a : A) (s : State) → f a s ≡ g a s) → (o >>= f) ≡ (o >>= g)
 bind_same (gives a s) f g h = h a s
@@ -70,11 +66,6 @@ pub ready_entered : {X E : Type 0} (this : Value) (locals : Pairs) (in_file : Bo
     → OnOk r (new ≡ record mid { this = this; locals = locals; in_file = in_file }) → OnOk r (IsFit new) → OnOk r (IsReady v new)
 ready_entered this locals in_file (Ok x) v w mid new h l d e f = record { fit = f; told = subst (λ u. IsTold v u.store) (sym e) (told_later v w.store mid.store l h.told); depth = ap (λ u. u.depth) e ∙ (d ∙ h.depth) }
 ready_entered this locals in_file (Err x) v w mid new h l d e f = tt
-
--- a work after a value was evaluated
-pub ready_kept : (r : Result Value Stop) (v : WorldView) (w new : Work) → IsReady v w → IfOk r (IsKept w new) → new.depth ≡ w.depth → OnOk r (IsReady v new)
-ready_kept (Ok x) v w new h k d = record { fit = k.fit; told = told_later v w.store new.store k.later h.told; depth = d ∙ h.depth }
-ready_kept (Err x) v w new h k d = tt
 
 -- ---- one element
 
@@ -140,13 +131,9 @@ loop_is v r t x h =
     looped_is : (x : Loop) → looped v r (target_names t) x (fresh v.store rule []) ≡ elements_by v x (first_state v r t)
     looped_is (loop k o e) = ap (λ y. y >>= λ bound s1. (value_of v most_open e (in_rule r.captured bound s1) >>= λ w s2. or_wrong (place_of e) (of_value s2.cells k o w) s2)) (values_are_bound (target_names t) [] (fresh v.store rule []))
 
--- ---- what was prepared
+-- ---- a work that was begun
 
--- the frame of expressions in a prepared store
-pub prepared_is : (s : Contents) (p : Prepared) (names : Trees) (captured : Pairs) (reads : List Read) → IsPrepared s p → names_of p.subject ≡ names → in_rule captured p.bound.items (fresh (plain_store p.store) rule reads) ≡ in_rule_with captured names (fresh (plain_store s) rule reads)
-prepared_is s p names captured reads h e = rw (h.bound, h.store, e) refl
-
--- a work that was begun, in this state
+-- in this state
 pub begun_at : (r : Result Work Stop) (x y : State) → x ≡ y → IfOk r (λ w. state_of w ≡ x) → IfOk r (λ w. state_of w ≡ y)
 begun_at (Ok w) x y e h = h ∙ e
 begun_at (Err s) x y e h = tt

@@ -1,7 +1,6 @@
 -- An element of a rule, in the parts in which it is evaluated.
 use Rattle.std.specs.Prelude.{ℕ, List, [], ◌++◌, false, if◌then◌else◌}
 use Rattle.dsl_syntax.specs.Syntax.{Loop}
-use Rattle.dsl_value.specs.Pairs.{Pairs}
 use Rattle.dsl_value.specs.declared.value.Value.TheVariants as value
 use Rattle.eval_meaning.specs.Frames.{entered}
 use Rattle.eval_meaning.specs.Registered.{PlainItem, PlainRule}
@@ -9,14 +8,9 @@ use Rattle.eval_meaning.specs.States.{State, Outcome, gives, ◌>>=◌}
 use Rattle.eval_meaning.specs.Views.{View}
 use Rattle.commit_meaning.specs.Conditions.{no_verdict, judged, is_kept}
 use Rattle.commit_meaning.specs.Names.{Target}
-use Rattle.commit_meaning.specs.Rules.{in_rule, named_instance, prefix, elements_run}
+use Rattle.commit_meaning.specs.Rules.{named_instance, prefix, elements_run}
 use Rattle.commit_meaning.specs.Starts.{Trees}
-use Rattle.item_start.specs.Bound.{bound_in}
-use Rattle.apply_rules.specs.Looped.{elements_by}
-
--- the frame of a rule's expressions, with values of these names that are made behind the cells
-abbrev pub in_rule_with : Pairs → Trees → State → State
-in_rule_with captured names s = in_rule captured (bound_in names [] s.cells).pairs (record s { cells = (bound_in names [] s.cells).cells })
+use Rattle.rule_expressions.specs.Looped.{elements_by}
 
 -- an element with this key, once its frame is entered
 abbrev pub judged_element : View → PlainRule → Target → ℕ → List ℕ → Trees → State → Outcome (List PlainItem)

@@ -1,10 +1,5 @@
--- What rules and groups have to be so that they are evaluated over a view.
-use Rattle.std.specs.Prelude.{List}
-use Rattle.std.specs.Borrow.{Bor}
-use Rattle.std.specs.List.{AllByRecursion}
-use Rattle.dsl_value.specs.Contents.{Contents}
+-- What rules have to be so that they are evaluated over a view.
 use Rattle.eval_work.specs.Kept.{PairsNamed}
-use Rattle.eval_work.specs.declared.item.Item.{Item}
 use Rattle.eval_work.specs.declared.rule.Rule.{Rule}
 use Rattle.eval_work.specs.declared.view.WorldView.{WorldView}
 use Rattle.item_start.specs.Ready.{IsLawfulView}
@@ -16,7 +11,3 @@ pub record IsApplicable (v : WorldView) (r : Rule) (t : PreparedTarget) : Type 0
   pub view : IsLawfulView v
   pub captured : PairsNamed v.store.now r.captured.items
   pub target : IsPreparedTarget v.store.now t
-
--- what each group captured names cells and functions of a store
-abbrev pub GroupsNamed : Contents → List (Bor Item) → Type 0
-GroupsNamed c gs = AllByRecursion (λ g. PairsNamed c g.now.captured.items) gs

@@ -1,10 +1,5 @@
 pub mod Judging
 pub mod Keys
 pub mod Lawful
-pub mod Looped
-pub mod Named
 pub mod Plain
 pub mod Preparations
-pub mod ReadsLeft
-pub mod Seen
-pub mod Taking

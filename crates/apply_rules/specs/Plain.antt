@@ -1,25 +1,16 @@
--- The plain values of what rules and groups work with.
+-- The plain values of what rules work with.
 use Rattle.std.specs.Prelude.{ℕ, List, [], ◌∷◌, ◌++◌, map, Option, Some, None, Vec}
-use Rattle.std.specs.Borrow.{Bor}
 use Rattle.std.specs.declared.alloc.Global.{Global}
 use Rattle.site_base.specs.declared.item_no.ItemNo.{ItemNo}
 use Rattle.site_model.specs.PlainSite.{object_view}
 use Rattle.eval_meaning.specs.Registered.{PlainItem, PlainRule}
-use Rattle.eval_work.specs.Works.{plain_item, plain_pair, plain_rule}
-use Rattle.eval_work.specs.declared.item.Item.{Item}
+use Rattle.eval_work.specs.Works.{plain_pair, plain_rule}
 use Rattle.commit_meaning.specs.Answers as answer
 use Rattle.commit_meaning.specs.Answers.{Answer}
-use Rattle.commit_meaning.specs.Conditions as conditions
-use Rattle.commit_meaning.specs.Groups as groups
 use Rattle.commit_meaning.specs.Names as names
 use Rattle.commit_meaning.specs.Rules as rules
 use Rattle.commit_meaning.specs.Starts.{Trees}
-use Rattle.apply_rules.specs.declared.conditions.Verdict.{Verdict}
-use Rattle.apply_rules.specs.declared.elements.Element.{Element}
-use Rattle.apply_rules.specs.declared.group_answer.GroupAnswer.{GroupAnswer}
-use Rattle.apply_rules.specs.declared.group_answer.GroupAnswer.TheVariants as group_answers
 use Rattle.apply_rules.specs.declared.instance.Instance.{Instance}
-use Rattle.apply_rules.specs.declared.taking.Taken.{Taken}
 use Rattle.apply_rules.specs.declared.rule_answer.RuleAnswer.{RuleAnswer}
 use Rattle.apply_rules.specs.declared.rule_answer.RuleAnswer.TheVariants as rule_answers
 use Rattle.apply_rules.specs.declared.target.Target.{Target}
@@ -28,17 +19,6 @@ use Rattle.apply_rules.specs.declared.target.Target.TheVariants as target
 abbrev pub plain_target : Target → names.Target
 plain_target (target.Host h) = names.host (object_view h.now)
 plain_target (target.Service h s) = names.service (object_view h.now) (object_view s.now)
-
-abbrev pub plain_verdict : Verdict → conditions.Verdict
-plain_verdict v = record { assigned = v.assigned; ignored = v.ignored }
-
--- ---- rules
-
-abbrev pub plain_element : Element → rules.Element
-plain_element e = record { key = e.key; bound = e.bound.items }
-
-abbrev pub plain_elements : Vec Element Global → List rules.Element
-plain_elements es = map plain_element es.items
 
 -- the item of a rule at a target, with this number and name, in which the names of the target and these are bound
 abbrev pub item_at : ItemNo → PlainRule → names.Target → List ℕ → Trees → PlainItem
@@ -59,16 +39,3 @@ abbrev pub rule_answer : RuleAnswer → Answer (List PlainItem)
 rule_answer (rule_answers.Instances is) = answer.made (plain_items is)
 rule_answer (rule_answers.Diag d) = answer.diagnosed (d ∷ [])
 rule_answer (rule_answers.Blocked r) = answer.blocked r
-
--- ---- groups
-
-abbrev pub plain_group : Bor Item → PlainItem
-plain_group g = plain_item g.now
-
-abbrev pub plain_taken : Taken → groups.Taken
-plain_taken t = record { names = t.names; diags = t.diags }
-
-abbrev pub group_answer : GroupAnswer → Answer (List (List ℕ))
-group_answer (group_answers.Names ns) = answer.made ns
-group_answer (group_answers.Diags ds) = answer.diagnosed ds
-group_answer (group_answers.Blocked r) = answer.blocked r

@@ -11,18 +11,19 @@ ghost use Rattle.commit_meaning.specs.Rules.{rule_run, pair_number, elements_run
 ghost use Rattle.eval_work.specs.Kept.{HasGlobals, IsFit, PairsNamed};
 ghost use Rattle.item_start.specs.Answers.{Answers};
 ghost use Rattle.item_start.specs.Ready.{IsReady};
-ghost use Rattle.apply_rules.specs.Judging.{in_rule_with, judged_element, looped_items, unframed};
+ghost use Rattle.rule_expressions.specs.Framed.{in_rule_with};
+ghost use Rattle.rule_expressions.specs.Named.{ElementsNamed};
+ghost use Rattle.rule_expressions.specs.Plain.{plain_element};
+ghost use Rattle.apply_rules.specs.Judging.{judged_element, looped_items, unframed};
 ghost use Rattle.apply_rules.specs.Lawful.{IsApplicable};
-ghost use Rattle.apply_rules.specs.Named.{ElementsNamed};
-ghost use Rattle.apply_rules.specs.Plain.{plain_target, plain_element, plain_instance, plain_items, plain_kept};
+ghost use Rattle.apply_rules.specs.Plain.{plain_target, plain_instance, plain_items, plain_kept};
 
-use crate::elements::{Element, elements};
 use crate::keeping::{element_item, judged_item};
-use crate::prepared::begin_expressions;
 use crate::{Instance, PreparedTarget, Target};
 use dsl_syntax::Each;
 use dsl_value::{Store, Value};
 use eval_work::{Locals, Rule, Stop, Task, Work, WorldView};
+use rule_expressions::{Element, begin_expressions, elements};
 use site_base::{OutOfMemory, Text};
 use std::alloc::Global;
 use std::mem;

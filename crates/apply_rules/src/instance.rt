@@ -7,13 +7,13 @@ ghost use Rattle.apply_rules.specs.Keys.{AreKeys};
 ghost use Rattle.apply_rules.specs.Plain.{item_at, plain_instance, plain_kept, plain_target};
 
 use crate::presets::presets;
-use crate::subject::named_trees;
 use crate::target::{subject_of, target_no};
 use crate::{PresetKeys, Target};
 use dsl_value::Value;
 use eval_work::{Item, Rule, Stop, Work};
 use load_work::is_good_name;
 use name_work::named_fault;
+use rule_expressions::named_trees;
 use site_base::{DiagKind, ItemNo, OutOfMemory, Place, Text, Tree};
 use std::alloc::Global;
 

@@ -6,18 +6,18 @@ ghost use Rattle.commit_meaning.specs.Names.{target_names};
 ghost use Rattle.commit_meaning.specs.Rules.{element_run};
 ghost use Rattle.eval_work.specs.declared.view.WorldView.{WorldView as WorldData};
 ghost use Rattle.item_start.specs.Ready.{IsReady};
-ghost use Rattle.apply_rules.specs.Judging.{judged_element, in_rule_with};
-ghost use Rattle.apply_rules.specs.Plain.{plain_target, plain_element, plain_kept};
+ghost use Rattle.rule_expressions.specs.Framed.{in_rule_with};
+ghost use Rattle.rule_expressions.specs.Plain.{plain_element};
+ghost use Rattle.apply_rules.specs.Judging.{judged_element};
+ghost use Rattle.apply_rules.specs.Plain.{plain_target, plain_kept};
 
-use crate::conditions::{is_kept, judge};
-use crate::elements::Element;
 use crate::instance::named_instance;
-use crate::subject::bind_subject;
 use crate::target::subject_of;
 use crate::{Instance, Target};
 use dsl_value::Value;
 use eval_work::{Rule, Stop, Work, WorldView};
 use item_start::{bind_trees, enter_frame, trees_at};
+use rule_expressions::{Element, bind_subject, is_kept, judge};
 use site_base::{Text, Tree};
 
 /// The instance for an element of a `for`, if it is kept. What the `for` binds goes through its trees before the conditions are

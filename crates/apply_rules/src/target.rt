@@ -2,13 +2,12 @@
 ghost use Rattle.std.specs.Prelude.{◌≡◌, IfOk};
 ghost use Rattle.eval_work.specs.Kept.{HasGlobals};
 ghost use Rattle.commit_meaning.specs.Names.{target_no as number_of_target, target_number, target_names};
+ghost use Rattle.rule_expressions.specs.Seen.{names_of};
 ghost use Rattle.apply_rules.specs.Plain.{plain_target};
 ghost use Rattle.apply_rules.specs.Preparations.{IsPreparedTarget};
-ghost use Rattle.apply_rules.specs.Seen.{names_of};
 
-use crate::prepared::{Prepared, prepare};
-use crate::subject::Subject;
 use dsl_value::Store;
+use rule_expressions::{Prepared, Subject, prepare};
 use site_base::{ItemNo, OutOfMemory, TargetNo};
 use site_model::Object;
 use std::alloc::Global;

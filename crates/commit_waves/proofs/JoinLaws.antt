@@ -13,8 +13,8 @@ use Rattle.eval_work.specs.declared.item.Item.{Item}
 use Rattle.std.specs.Borrow.{Bor}
 use Rattle.commit_meaning.specs.Groups.{group_members}
 use Rattle.commit_meaning.specs.Waves.{groups_of, group_type}
-use Rattle.apply_rules.specs.Lawful.{GroupsNamed}
-use Rattle.apply_rules.specs.Plain.{plain_group}
+use Rattle.group_rules.specs.Lawful.{GroupsNamed}
+use Rattle.group_rules.specs.Plain.{plain_group}
 use Rattle.commit_waves.specs.Members.{AreLists, ListsNamed, list_for, members_at, members_in}
 use Rattle.commit_waves.specs.declared.joining.GroupLists.{GroupLists}
 use Rattle.commit_waves.proofs.NoGroups.{IsAsBefore, no_groups}

@@ -3,9 +3,9 @@ ghost use Rattle.item_start.specs.Ready.{IsLawfulView};
 
 use crate::lawful::are_groups_named;
 use crate::shown::{begin_answer, push_fault, push_head};
-use apply_rules::{GroupAnswer, group_members};
 use case_loads::{NoAnswer, Scene, push_read};
 use eval_work::{Item, Locals, WorldView};
+use group_rules::{GroupAnswer, group_members};
 use site_base::{OutOfMemory, Text, push_quoted};
 use site_model::Object;
 use std::alloc::Global;

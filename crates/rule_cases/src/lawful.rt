@@ -1,7 +1,7 @@
 // Whether groups name what is there.
 ghost use Rattle.std.specs.Prelude.{All, IsTrue};
 ghost use Rattle.eval_work.specs.Kept.{PairsNamed};
-ghost use Rattle.apply_rules.specs.Lawful.{GroupsNamed};
+ghost use Rattle.group_rules.specs.Lawful.{GroupsNamed};
 
 use case_loads::are_named;
 use dsl_value::Store;

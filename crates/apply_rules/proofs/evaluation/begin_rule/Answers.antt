@@ -6,8 +6,9 @@ use Rattle.eval_work.proofs.Later.{pairs_later, told_later}
 use Rattle.commit_meaning.specs.Names.{target_names}
 use Rattle.commit_meaning.specs.Rules.{in_rule}
 use Rattle.commit_meaning.specs.Starts.{fresh}
+use Rattle.rule_expressions.proofs.Evaluating.{prepared_is}
 use Rattle.apply_rules.specs.Plain.{plain_target}
-use Rattle.apply_rules.proofs.Running.{begun_at, begun_named, prepared_is}
+use Rattle.apply_rules.proofs.Running.{begun_at, begun_named}
 use Rattle.apply_rules.proofs.evaluation.begin_rule.Goals as goal
 
 pub begin_expressions-requires-clause-told : goal.begin_expressions-requires-clause-told

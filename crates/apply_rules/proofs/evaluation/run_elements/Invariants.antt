@@ -2,9 +2,10 @@ use Rattle.std.proofs.Common.{◌≡◌, ◌+◌, [], drop, map}
 use Rattle.eval_work.specs.Works.{state_of, view_of, plain_rule}
 use Rattle.commit_meaning.specs.Rules.{elements_run}
 use Rattle.item_start.specs.Ready.{IsReady}
+use Rattle.rule_expressions.specs.Named.{ElementsNamed}
+use Rattle.rule_expressions.specs.Plain.{plain_element}
 use Rattle.apply_rules.specs.Judging.{unframed}
-use Rattle.apply_rules.specs.Named.{ElementsNamed}
-use Rattle.apply_rules.specs.Plain.{plain_element, plain_instance, plain_target}
+use Rattle.apply_rules.specs.Plain.{plain_instance, plain_target}
 use Rattle.apply_rules.proofs.evaluation.run_elements.Given as goal
 
 abbrev pub invariant-loop-element : goal.invariant-loop-element

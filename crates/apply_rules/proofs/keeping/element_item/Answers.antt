@@ -6,8 +6,10 @@ use Rattle.apply_rules.specs.declared.instance.Instance.{Instance}
 use Rattle.commit_meaning.specs.Names.{target_names}
 use Rattle.commit_meaning.specs.Rules.{element_judged, element_run}
 use Rattle.commit_meaning.specs.Starts.{trees_at}
-use Rattle.apply_rules.specs.Judging.{judged_element, in_rule_with}
-use Rattle.apply_rules.specs.Plain.{plain_target, plain_element, plain_kept}
+use Rattle.rule_expressions.specs.Framed.{in_rule_with}
+use Rattle.rule_expressions.specs.Plain.{plain_element}
+use Rattle.apply_rules.specs.Judging.{judged_element}
+use Rattle.apply_rules.specs.Plain.{plain_target, plain_kept}
 use Rattle.apply_rules.proofs.Running.{element_is}
 use Rattle.apply_rules.proofs.keeping.element_item.Goals as goal
 

@@ -1,7 +1,7 @@
 -- The groups so far, and those of the type that are left, are all.
 use Rattle.std.proofs.Common.{◌≡◌, ◌++◌, drop, map, Some}
-use Rattle.apply_rules.specs.Lawful.{GroupsNamed}
-use Rattle.apply_rules.specs.Plain.{plain_group}
+use Rattle.group_rules.specs.Lawful.{GroupsNamed}
+use Rattle.group_rules.specs.Plain.{plain_group}
 use Rattle.commit_meaning.specs.Waves.{groups_of}
 use Rattle.eval_work.specs.Works.{plain_item}
 use Rattle.commit_waves.specs.Captured.{AreNamed}

@@ -1,5 +1,0 @@
-use Rattle.dsl_syntax.proofs.SyntaxRows.{block_fields}
-use Rattle.apply_rules.proofs.conditions.has_conditions.Goals as goal
-
-pub returns : goal.returns
-returns c = rw (block_fields c.args.body.now, ← c.deref.ensures.value) c.has_conditions_in.ensures

@@ -1,8 +1,0 @@
-use Rattle.std.proofs.Common.{◌≡◌, drop, map}
-use Rattle.commit_meaning.specs.Rules.{of_strings}
-use Rattle.apply_rules.specs.Plain.{plain_element}
-use Rattle.apply_rules.proofs.Looping.{after}
-use Rattle.apply_rules.proofs.elements.strings.Given as goal
-
-abbrev pub invariant-loop-item : goal.invariant-loop-item
-invariant-loop-item l = after (map plain_element l.elements.items) (of_strings l.name (drop l.item-index l.items)) ≡ of_strings l.name l.items

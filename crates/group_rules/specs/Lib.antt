@@ -1,0 +1,4 @@
+pub mod Lawful
+pub mod Plain
+pub mod ReadsLeft
+pub mod Taking

@@ -1,0 +1,4 @@
+pub mod Evaluating
+pub mod Judged
+pub mod Looping
+pub mod Tasks
