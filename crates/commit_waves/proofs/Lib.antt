@@ -1,8 +1,4 @@
 pub mod ViewLaws
-pub mod TargetLaws
-pub mod ApplyLaws
-pub mod NoGroups
-pub mod JoinLaws
 pub mod TellLaws
 pub mod NamedLaws
 pub mod WaveLaws

@@ -1,22 +1,19 @@
 -- What templates, the items of a wave and the groups captured names cells and functions of the load's store.
 use Rattle.std.proofs.Common.{◌≡◌, ℕ, List, [], ◌∷◌, map, sym, ap, ◌∙◌, subst}
-use Rattle.std.specs.List.{AllByRecursion, filter}
 use Rattle.dsl_value.specs.Contents.{Contents}
 use Rattle.dsl_load.specs.Loads.{IsLoad, plain_parts}
 use Rattle.dsl_load.specs.declared.load_parts.LoadParts.{LoadParts}
-use Rattle.eval_meaning.specs.Registered.{PlainRule}
 use Rattle.eval_meaning.specs.Views.{template_in}
-use Rattle.eval_work.specs.Kept.{HasGlobals, ItemsNamed, PairsNamed, RulesNamed}
-use Rattle.eval_work.specs.Works.{plain_item, plain_rule, plain_template}
+use Rattle.eval_work.specs.Kept.{HasGlobals, ItemsNamed, PairsNamed}
+use Rattle.eval_work.specs.Works.{plain_item, plain_template}
 use Rattle.eval_work.specs.declared.item.Item.{Item}
-use Rattle.eval_work.specs.declared.rule.Rule.{Rule}
 use Rattle.eval_work.specs.declared.view.WorldView.{WorldView}
 use Rattle.item_start.specs.Ready.{IsLawfulView}
-use Rattle.commit_meaning.specs.Waves.{is_in_wave, wave_groups, wave_items}
+use Rattle.commit_meaning.specs.Waves.{wave_groups, wave_items}
 use Rattle.commit_meaning.specs.Worlds.{World}
 use Rattle.commit_meaning.proofs.Captured.{groups_have, items_have}
-use Rattle.commit_meaning.proofs.Lists.{all_kept}
-use Rattle.commit_waves.specs.Captured.{AreNamed}
+use Rattle.wave_objects.specs.Captured.{AreNamed}
+use Rattle.wave_objects.proofs.NamedRules.{rules_named}
 use Rattle.commit_waves.proofs.TellLaws.{told}
 
 pub items_named : (c : Contents) (is : List Item) → ItemsNamed c is → AreNamed c (map plain_item is)
@@ -26,14 +23,6 @@ items_named c (i ∷ is) h = (h.0, items_named c is h.1)
 pub named_items : (c : Contents) (is : List Item) → AreNamed c (map plain_item is) → ItemsNamed c is
 named_items c [] h = tt
 named_items c (i ∷ is) h = (h.0, named_items c is h.1)
-
-rules_named : (c : Contents) (rs : List Rule) → RulesNamed c rs → AllByRecursion (λ (r : PlainRule). PairsNamed c r.captured) (map plain_rule rs)
-rules_named c [] h = tt
-rules_named c (r ∷ rs) h = (h.0, rules_named c rs h.1)
-
--- what the rules of a wave captured
-pub kept_named : (c : Contents) (w : ℕ) (rs : List Rule) → RulesNamed c rs → AllByRecursion (λ (r : PlainRule). PairsNamed c r.captured) (filter (λ r. is_in_wave w r.kind) (map plain_rule rs))
-kept_named c w rs h = all_kept (λ (r : PlainRule). PairsNamed c r.captured) (λ r. is_in_wave w r.kind) (map plain_rule rs) (rules_named c rs h)
 
 module _ (p : LoadParts) (l : IsLoad p) (before : World) (w : ℕ) where
   pub wave_named : AreNamed p.store (wave_items (plain_parts p) before w)

@@ -10,7 +10,7 @@ use Rattle.eval_work.specs.Works.{plain_item}
 use Rattle.eval_work.specs.declared.item.Item.{Item}
 use Rattle.commit_meaning.specs.Waves.{is_in_wave, wave_of_kind}
 use Rattle.commit_meaning.proofs.Lists.{all_kept}
-use Rattle.commit_waves.specs.Captured.{AreNamed}
+use Rattle.wave_objects.specs.Captured.{AreNamed}
 use Rattle.commit_waves.proofs.NamedLaws.{items_named}
 
 -- ---- what is kept of what was kept

@@ -19,10 +19,10 @@ use Rattle.commit_meaning.specs.Waves.{diag_number, group_made, limited, most_it
 use Rattle.wave_order.specs.WaveItems.{plain_pending}
 use Rattle.wave_order.specs.declared.pending.Pending.{Pending}
 use Rattle.eval_work.specs.declared.item.Item.{Item}
-use Rattle.commit_waves.specs.Captured.{AreNamed}
-use Rattle.commit_waves.specs.Members.{members_at}
+use Rattle.wave_objects.specs.Captured.{AreNamed}
+use Rattle.wave_objects.specs.Members.{members_at}
 use Rattle.commit_waves.specs.Plain.{plain_world}
-use Rattle.commit_waves.specs.Steps.{over}
+use Rattle.wave_objects.specs.Steps.{over}
 use Rattle.commit_waves.proofs.NamedLaws.{groups_named, wave_named}
 use Rattle.commit_waves.proofs.WaveLaws.{IsMade, diags_are, groups_are, items_stay, too_many, world_is}
 

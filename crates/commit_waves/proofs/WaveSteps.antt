@@ -8,7 +8,7 @@ use Rattle.commit_meaning.specs.Commits.{committed}
 use Rattle.commit_meaning.specs.Waves.{wave_diags, wave_world, world_after}
 use Rattle.eval_work.specs.Works.{plain_item}
 use Rattle.eval_work.specs.declared.item.Item.{Item}
-use Rattle.commit_waves.specs.Captured.{AreNamed}
+use Rattle.wave_objects.specs.Captured.{AreNamed}
 use Rattle.commit_waves.specs.Plain.{plain_world}
 use Rattle.commit_waves.proofs.CommitLaws.{last_told, nothing_told, something_told, told_from}
 

@@ -1,6 +1,2 @@
 pub mod Plain
-pub mod Captured
 pub mod Globals
-pub mod Applying
-pub mod Steps
-pub mod Members

@@ -9,9 +9,10 @@ ghost use Rattle.commit_meaning.specs.Commits.{commit, committed, first_told, wa
 ghost use Rattle.commit_meaning.specs.Waves.{diags_of, wave_diags, wave_world};
 ghost use Rattle.site_phases.specs.Constants.{AreBadBytes, globals_view, settings_of};
 ghost use Rattle.site_phases.specs.Phases.{FilesStay, IfSite, IsReady, answer_view, last_part, phases, site_made};
-ghost use Rattle.commit_waves.specs.Captured.{AreNamed};
+ghost use Rattle.wave_objects.specs.Captured.{AreNamed};
 ghost use Rattle.commit_waves.specs.Globals.{globals_of};
-ghost use Rattle.commit_waves.specs.Plain.{plain_world, with_items};
+ghost use Rattle.wave_objects.specs.Plain.{with_items};
+ghost use Rattle.commit_waves.specs.Plain.{plain_world};
 
 use crate::Loaded;
 use crate::site_globals::site_globals;

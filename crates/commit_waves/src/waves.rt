@@ -6,18 +6,17 @@ ghost use Rattle.eval_work.specs.Works.{plain_item};
 ghost use Rattle.dsl_load.specs.Loads.{IsLoad, plain_parts};
 ghost use Rattle.commit_meaning.specs.Waves.{limited, wave_world, wave_diags};
 ghost use Rattle.wave_order.specs.WaveItems.{plain_pending};
-ghost use Rattle.commit_waves.specs.Captured.{AreNamed};
-ghost use Rattle.commit_waves.specs.Plain.{plain_world, with_items};
+ghost use Rattle.wave_objects.specs.Captured.{AreNamed};
+ghost use Rattle.wave_objects.specs.Plain.{with_items};
+ghost use Rattle.commit_waves.specs.Plain.{plain_world};
 
-use crate::gathering::{Gathered, gather};
-use crate::joining::join_groups;
-use crate::making::{add_diags, make_objects};
 use crate::world::{add_groups, add_objects, view_before};
 use dsl_load::LoadParts;
 use eval_work::{Committed, Item, Known};
 use site_base::{Diag, DiagKind, Diags, OutOfMemory, Row, Text};
 use site_model::Object;
 use std::alloc::Global;
+use wave_objects::{Gathered, add_diags, gather, join_groups, make_objects};
 use wave_order::{Pending, diags_by_number};
 
 /// A wave has so many items at most.

@@ -5,8 +5,9 @@ use Rattle.site_model.specs.PlainSite.{PlainObject, object_view}
 use Rattle.site_phases.proofs.PhaseLaws.{nothing}
 use Rattle.dsl_load.specs.Loads.{plain_parts}
 use Rattle.eval_work.specs.Works.{plain_item}
-use Rattle.commit_waves.specs.Captured.{AreNamed}
-use Rattle.commit_waves.specs.Plain.{plain_world, with_items}
+use Rattle.wave_objects.specs.Captured.{AreNamed}
+use Rattle.wave_objects.specs.Plain.{with_items}
+use Rattle.commit_waves.specs.Plain.{plain_world}
 use Rattle.commit_waves.proofs.NamedLaws.{named_items}
 use Rattle.commit_waves.proofs.SplitLaws.{all_left, fewer_left, these, these_named}
 use Rattle.commit_waves.proofs.WaveLaws.{same_diags, same_world}

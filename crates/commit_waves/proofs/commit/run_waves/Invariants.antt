@@ -1,5 +1,5 @@
 use Rattle.std.proofs.Common.{◌-◌}
-use Rattle.commit_waves.specs.Plain.{with_items}
+use Rattle.wave_objects.specs.Plain.{with_items}
 use Rattle.commit_waves.proofs.SplitLaws.{IsLeft}
 use Rattle.commit_waves.proofs.WaveSteps.{IsAfter}
 use Rattle.commit_waves.proofs.commit.run_waves.Given as goal

@@ -4,8 +4,8 @@ use Rattle.eval_work.specs.Works.{view_of, plain_item}
 use Rattle.site_model.specs.PlainSite.{object_view}
 use Rattle.commit_meaning.specs.Groups.{grown}
 use Rattle.commit_meaning.specs.Waves.{most_items}
-use Rattle.commit_waves.specs.Members.{members_at}
-use Rattle.commit_waves.specs.Plain.{with_items}
+use Rattle.wave_objects.specs.Members.{members_at}
+use Rattle.wave_objects.specs.Plain.{with_items}
 use Rattle.commit_waves.proofs.NamedLaws.{lawful}
 use Rattle.commit_waves.proofs.WaveRuns.{groups_known, items_named, limit_told, still_named, wave_told, world_then}
 use Rattle.commit_waves.proofs.waves.make_wave.Goals as goal

@@ -1,0 +1,6 @@
+pub mod TargetLaws
+pub mod ApplyLaws
+pub mod NoGroups
+pub mod JoinLaws
+pub mod NamedRules
+pub mod GatherLaws

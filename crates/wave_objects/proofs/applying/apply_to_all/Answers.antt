@@ -1,0 +1,40 @@
+-- One object after another, until none is left.
+use Rattle.std.proofs.Common.{◌≡◌, ◌<◌, ◌≤◌, List, length, get_or, map, refl, ap, ◌∙◌, subst}
+use Rattle.std.proofs.lemmas.List.{drop_all}
+use Rattle.site_model.specs.PlainSite.{object_view}
+use Rattle.site_model.specs.declared.object.Object.{Object}
+use Rattle.eval_work.specs.Works.{view_of}
+use Rattle.wave_objects.specs.Applying.{AreApplied, targets_of_one}
+use Rattle.wave_objects.proofs.ApplyLaws.{new_applied, next_applied, same_rules, still_applied_named}
+use Rattle.wave_objects.proofs.applying.apply_to_all.Goals as goal
+
+pub loop-object-init : goal.loop-object-init
+loop-object-init c = record {
+  applied = new_applied (view_of c.args.view.now) (map object_view c.args.objects.now) c.args.rules.items c.requires.new;
+  rules = refl;
+  named = c.requires.named;
+}
+
+pub loop-object-preserved : goal.loop-object-preserved
+loop-object-preserved c =
+    let view = view_of c.args.view.now in
+    let os = c.args.objects.now in
+    let i = c.loop-object.object-index in
+    let o = c.object-item.result in
+    let ts = targets_of_one (map object_view os) (object_view o) in
+    let before = c.loop-object.rules.items in
+    let after = c.in_ok-rules.rules.items in
+    let so_far = c.loop-object.invariant in
+    let within : i < length os = subst (λ (xs : List Object). i < length xs) c.as_slice-object-items.ensures c.loop-object-test.true in
+    let here : o ≡ get_or os i o = c.object-item.is ∙ ap (λ (xs : List Object). get_or xs i o) c.as_slice-object-items.ensures in
+    record {
+      applied = next_applied view os i o before after within here so_far.applied c.in_ok-rules.ensures;
+      rules = same_rules view o.kind ts before after c.in_ok-rules.ensures ∙ so_far.rules;
+      named = still_applied_named c.args.view.now.store.now view o.kind ts before after c.in_ok-rules.ensures so_far.named;
+    }
+
+pub returns-clause-applied : goal.returns-clause-applied
+returns-clause-applied c =
+    let os = c.args.objects.now in
+    let past : length os ≤ c.loop-object.object-index = rw (← c.as_slice-object-items.ensures) c.loop-object-test.false in
+    subst (λ left. AreApplied (view_of c.args.view.now) (map object_view os) (map object_view left) c.loop-object.rules.items) (drop_all c.loop-object.object-index os past) c.loop-object.invariant.applied

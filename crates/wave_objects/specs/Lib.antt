@@ -1,0 +1,5 @@
+pub mod Plain
+pub mod Captured
+pub mod Applying
+pub mod Steps
+pub mod Members

@@ -1,0 +1,16 @@
+//! The objects of one wave: its items, what they come to, and the groups that take them.
+//!
+//! In reading order: the targets of rules (`targets`), what rules make at them (`applying`), the items of a wave (`gathering`), their
+//! objects (`making`), and the groups of these (`joining`). What they have to come to is `wave_items`, `item_answer` and
+//! `group_members` (commit_meaning), in words in docs/OBJECTS.md.
+#![tactic(auto)]
+
+mod applying;
+mod gathering;
+mod joining;
+mod making;
+mod targets;
+
+pub use gathering::{Gathered, gather};
+pub use joining::join_groups;
+pub use making::{Objects, add_diags, make_objects};
