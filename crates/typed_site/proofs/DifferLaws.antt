@@ -9,7 +9,7 @@ use Rattle.std.proofs.lemmas.Slice.Eq.{bytes_eq-Decides}
 use Rattle.site_model.specs.PlainSite.{PlainObject}
 use Rattle.site_model.specs.Sound.{AreDistinct}
 use Rattle.conf_check.specs.Keys.{name_of}
-use Rattle.typed_site.specs.Listed.{firsts_behind}
+use Rattle.object_lists.specs.Listed.{firsts_behind}
 
 pub no_items : {A : Type 0} (P : A → Type 0) → All P []
 no_items P k d h = absurd (omega arith)

@@ -1,9 +1,4 @@
 pub mod DifferLaws
-pub mod ListedLaws
-pub mod MemberLaws
 pub mod NameSteps
-pub mod NewLaws
-pub mod PeriodLaws
 pub mod SiteLaws
 pub mod SoundLaws
-pub mod Steps

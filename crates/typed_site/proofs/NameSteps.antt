@@ -4,9 +4,9 @@ use Rattle.site_model.specs.Names.{with_name}
 use Rattle.site_model.specs.PlainSite.{check_view}
 use Rattle.site_model.specs.Sound.{AreDistinct}
 use Rattle.site_model.specs.declared.check_spec.CheckSpec.{CheckSpec}
+use Rattle.object_lists.proofs.Steps.{next}
 use Rattle.typed_site.specs.Checks.{check_name}
 use Rattle.typed_site.proofs.DifferLaws.{new_name}
-use Rattle.typed_site.proofs.Steps.{next}
 
 pub name_step : (specs : List CheckSpec) (i : ℕ) (spec : CheckSpec) (names more all : List (List ℕ)) → i < length specs → spec ≡ get_or specs i spec → AreDistinct all
     → more ≡ with_name spec.name names → names ++ map check_name (map check_view (drop i specs)) ≡ all → more ++ map check_name (map check_view (drop (i + 1) specs)) ≡ all

@@ -12,13 +12,13 @@ use Rattle.site_model.specs.declared.notify_spec.NotifySpec.{NotifySpec}
 use Rattle.site_model.specs.declared.object.Object.{Object}
 use Rattle.site_model.specs.declared.user_spec.UserSpec.{UserSpec}
 use Rattle.object_types.specs.declared.object_type.ObjectType.TheVariants as object
+use Rattle.object_lists.specs.Listed.{lent_view, listed, listed_names}
+use Rattle.object_lists.specs.Periods.{periods}
+use Rattle.object_lists.specs.Users.{memberships, memberships_from, user_of, users}
 use Rattle.typed_site.specs.Checks.{check_name, checkables, commands, host_check, hosts, service_check, services}
 use Rattle.typed_site.specs.Depends.{depend_of, depends}
-use Rattle.typed_site.specs.Listed.{lent_view, listed, listed_names}
 use Rattle.typed_site.specs.Notifies.{notifies, notify_of}
-use Rattle.typed_site.specs.Periods.{periods}
 use Rattle.typed_site.specs.TypedSite.{PlainSettings, typed_site}
-use Rattle.typed_site.specs.Users.{memberships, memberships_from, user_of, users}
 use Rattle.typed_site.proofs.DifferLaws.{all_cons, no_items}
 use Rattle.typed_site.proofs.SoundLaws.{all_distinct, few_checks, hosts_are_distinct, sound}
 

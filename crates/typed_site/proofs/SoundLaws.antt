@@ -23,15 +23,16 @@ use Rattle.object_types.proofs.TypeLaws.{type_found}
 use Rattle.object_values.specs.Values.{count_at, names_at, text_at}
 use Rattle.conf_check.specs.Keys.{is_of, name_of, of_type}
 use Rattle.conf_check.proofs.PlaceLaws.{place_below}
+use Rattle.object_lists.specs.Listed.{both, firsts_behind, listed, listed_names, place_at}
+use Rattle.object_lists.specs.Periods.{own_spans, period_of, periods, periods_among}
+use Rattle.object_lists.specs.Receivers.{members_named, receivers, users_named, with_new}
+use Rattle.object_lists.specs.Users.{in_groups, members, memberships, memberships_from, user_name, user_of, users}
+use Rattle.object_lists.proofs.NewLaws.{new_all, new_once}
 use Rattle.typed_site.specs.Checks.{check_made, check_name, checkables, command_of, commands, host_check, hosts, one_at_least, service_check, service_made, services}
 use Rattle.typed_site.specs.Depends.{depend_made, depend_name, depend_of, depends, full_name, target_at}
-use Rattle.typed_site.specs.Listed.{both, firsts_behind, listed, listed_names, place_at}
-use Rattle.typed_site.specs.Notifies.{members_named, notifies, notify_made, notify_name, notify_of, receivers, users_named, with_new}
-use Rattle.typed_site.specs.Periods.{own_spans, period_of, periods, periods_among}
+use Rattle.typed_site.specs.Notifies.{notifies, notify_made, notify_name, notify_of}
 use Rattle.typed_site.specs.TypedSite.{PlainSettings, typed_site}
-use Rattle.typed_site.specs.Users.{in_groups, members, memberships, memberships_from, user_name, user_of, users}
 use Rattle.typed_site.proofs.DifferLaws.{Apart, Differ, Lacks, all_cons, append_differ, distinct, firsts_differ, kept_differ, no_items}
-use Rattle.typed_site.proofs.NewLaws.{new_all, new_once}
 
 -- ---- what holds of each element that is made
 

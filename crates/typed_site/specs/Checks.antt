@@ -8,7 +8,7 @@ use Rattle.object_types.specs.declared.attribute.Attribute.TheVariants as attrib
 use Rattle.object_types.specs.declared.object_type.ObjectType.{ObjectType}
 use Rattle.object_types.specs.declared.object_type.ObjectType.TheVariants as object
 use Rattle.object_values.specs.Values.{count_at, flag_at, seconds_at, thousandths_at}
-use Rattle.typed_site.specs.Listed.{both, listed, listed_names, place_at}
+use Rattle.object_lists.specs.Listed.{both, listed, listed_names, place_at}
 
 abbrev pub command_of : PlainObject → PlainCommand
 command_of o = record { name = o.name; tree = o.tree }

@@ -12,8 +12,8 @@ use Rattle.object_types.specs.declared.object_type.ObjectType.{ObjectType}
 use Rattle.object_types.specs.declared.object_type.ObjectType.TheVariants as object
 use Rattle.object_values.specs.Filters.{states_through}
 use Rattle.object_values.specs.Values.{flag_at, text_at}
+use Rattle.object_lists.specs.Listed.{both, listed, listed_names, place_at}
 use Rattle.typed_site.specs.Checks.{check_name, checkables}
-use Rattle.typed_site.specs.Listed.{both, listed, listed_names, place_at}
 
 -- the full name of a host, or of a service of it
 abbrev pub full_name : List ℕ → Option (List ℕ) → List ℕ

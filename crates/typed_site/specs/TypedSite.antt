@@ -3,11 +3,11 @@ use Rattle.std.specs.Prelude.{ℕ, List, Option, map}
 use Rattle.site_base.specs.Data.{Data}
 use Rattle.site_base.specs.View.{view}
 use Rattle.site_model.specs.PlainSite.{PlainObject, PlainSite}
+use Rattle.object_lists.specs.Periods.{periods}
+use Rattle.object_lists.specs.Users.{users}
 use Rattle.typed_site.specs.Checks.{check_name, checkables, commands}
 use Rattle.typed_site.specs.Depends.{depends}
 use Rattle.typed_site.specs.Notifies.{notifies}
-use Rattle.typed_site.specs.Periods.{periods}
-use Rattle.typed_site.specs.Users.{users}
 use Rattle.typed_site.specs.declared.settings.Settings.{Settings}
 
 -- `Settings` with the plain value of its tree

@@ -6,10 +6,10 @@ ghost use Rattle.std.specs.Arc.{arc_value};
 ghost use Rattle.site_base.specs.View.{view};
 ghost use Rattle.site_model.specs.PlainSite.{check_view, command_view, object_view};
 ghost use Rattle.object_types.specs.declared.object_type.ObjectType.TheVariants as object;
-ghost use Rattle.typed_site.specs.Listed.{lent_view};
+ghost use Rattle.object_lists.specs.Listed.{lent_view};
 ghost use Rattle.typed_site.specs.Checks.{check_made, check_name, command_of, host_check, one_at_least as at_least_one, service_check};
 
-use crate::listed::{add_name, place_in};
+use object_lists::{add_name, place_in};
 use object_types::{Attribute, ObjectType};
 use object_values::Attributes;
 use site_base::{OutOfMemory, Row};

@@ -5,10 +5,10 @@ ghost use Rattle.std.specs.List.{flat_map};
 ghost use Rattle.std.specs.Arc.{arc_value};
 ghost use Rattle.site_base.specs.View.{view};
 ghost use Rattle.site_model.specs.PlainSite.{object_view};
-ghost use Rattle.typed_site.specs.Listed.{lent_view};
+ghost use Rattle.object_lists.specs.Listed.{lent_view};
 ghost use Rattle.typed_site.specs.Depends.{depend_made, depend_of, full_name as full_of, target_at};
 
-use crate::listed::place_in;
+use object_lists::place_in;
 use object_types::{Attribute, ObjectType};
 use object_values::Attributes;
 use site_base::{OutOfMemory, Row, Text};

@@ -5,14 +5,12 @@ ghost use Rattle.std.specs.Option.{option_to_list};
 ghost use Rattle.std.specs.Arc.{arc_value};
 ghost use Rattle.site_base.specs.View.{view};
 ghost use Rattle.site_model.specs.PlainSite.{object_view};
-ghost use Rattle.typed_site.specs.Listed.{lent_view};
-ghost use Rattle.typed_site.specs.Members.{AreMembers};
+ghost use Rattle.object_lists.specs.Listed.{lent_view};
+ghost use Rattle.object_lists.specs.Members.{AreMembers};
 ghost use Rattle.typed_site.specs.Notifies.{notify_made, notify_of};
 
 use crate::depends::target_in;
-use crate::listed::place_in;
-use crate::members::Members;
-use crate::receivers::receivers;
+use object_lists::{Members, place_in, receivers};
 use object_types::{Attribute, ObjectType};
 use object_values::Attributes;
 use site_base::{OutOfMemory, Row};

@@ -3,22 +3,19 @@ ghost use Rattle.std.specs.Prelude.{◌≡◌, ◌≤◌, ◌<◌, ◌^◌, ◌-
 ghost use Rattle.site_model.specs.PlainSite.{check_view, command_view, object_view, site_view};
 ghost use Rattle.site_model.specs.Sound.{IsSound};
 ghost use Rattle.object_types.specs.declared.object_type.ObjectType.TheVariants as object;
+ghost use Rattle.object_lists.specs.Listed.{listed_names};
+ghost use Rattle.object_lists.specs.Periods.{periods};
+ghost use Rattle.object_lists.specs.Users.{users};
 ghost use Rattle.typed_site.specs.Checks.{check_name, checkables, checkables as checkables_in, commands, hosts as hosts_in};
 ghost use Rattle.typed_site.specs.Depends.{depends};
-ghost use Rattle.typed_site.specs.Listed.{listed_names};
 ghost use Rattle.typed_site.specs.Notifies.{notifies};
-ghost use Rattle.typed_site.specs.Periods.{periods};
-ghost use Rattle.typed_site.specs.Users.{users};
 ghost use Rattle.typed_site.specs.TypedSite.{settings_view, typed_site as site_of};
 
 use crate::Settings;
 use crate::checks::{Known, add_names, command_specs, host_specs, service_specs};
 use crate::depends::depend_specs;
-use crate::listed::all_of;
-use crate::members::members_of;
 use crate::notifies::{Told, notify_specs};
-use crate::periods::period_specs;
-use crate::users::user_specs;
+use object_lists::{all_of, members_of, period_specs, user_specs};
 use object_types::ObjectType;
 use site_base::{OutOfMemory, PeriodSpec, Row, Texts};
 use site_model::{CheckSpec, CommandSpec, DependSpec, Names, NotifySpec, Object, Site, UserSpec};
@@ -96,7 +93,7 @@ pub fn typed_site(
     })
 }
 
-#[tactic(auto, unfolding(crate::specs::Checks::commands, crate::specs::Periods::periods))]
+#[tactic(auto, unfolding(crate::specs::Checks::commands, object_lists::specs::Periods::periods))]
 fn bases_of(alloc: Global, objects: &[Object]) -> Result<Bases, OutOfMemory>
     ensures commands { IfOk result (λ b. map command_view b.commands ≡ commands (map object_view objects.now)) }
     ensures command_names { IfOk result (λ b. b.command_names ≡ listed_names object.CheckCommand (map object_view objects.now)) }
@@ -171,7 +168,7 @@ fn with_services(
 }
 
 /// The users, notifications and dependencies.
-#[tactic(auto, unfolding(crate::specs::Users::users, crate::specs::Users::memberships, crate::specs::Notifies::notifies, crate::specs::Depends::depends))]
+#[tactic(auto, unfolding(object_lists::specs::Users::users, object_lists::specs::Users::memberships, crate::specs::Notifies::notifies, crate::specs::Depends::depends))]
 fn around_of(
     alloc: Global,
     periods: &Names,

@@ -1,8 +1,8 @@
 -- The commands so far, and those that are left, are all.
 use Rattle.std.proofs.Common.{◌≡◌, ◌++◌, map, drop}
 use Rattle.site_model.specs.PlainSite.{command_view}
+use Rattle.object_lists.specs.Listed.{lent_view}
 use Rattle.typed_site.specs.Checks.{command_of}
-use Rattle.typed_site.specs.Listed.{lent_view}
 use Rattle.typed_site.proofs.checks.command_specs.Given as goal
 
 abbrev pub invariant-loop-command : goal.invariant-loop-command

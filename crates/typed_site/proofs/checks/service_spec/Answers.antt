@@ -4,9 +4,9 @@ use Rattle.site_model.specs.Names.{place_of}
 use Rattle.site_model.specs.PlainSite.{object_view}
 use Rattle.object_types.specs.declared.attribute.Attribute.TheVariants as attribute
 use Rattle.object_types.specs.declared.object_type.ObjectType.TheVariants as object
+use Rattle.object_lists.specs.Listed.{both, place_at}
+use Rattle.object_lists.proofs.ListedLaws.{is_taken}
 use Rattle.typed_site.specs.Checks.{service_made}
-use Rattle.typed_site.specs.Listed.{both, place_at}
-use Rattle.typed_site.proofs.ListedLaws.{is_taken}
 use Rattle.typed_site.proofs.checks.service_spec.Goals as goal
 
 pub returns-then-is_some : goal.returns-then-is_some

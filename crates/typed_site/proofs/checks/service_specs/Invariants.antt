@@ -3,8 +3,8 @@ use Rattle.std.proofs.Common.{◌≡◌, ◌++◌, map, drop}
 use Rattle.std.specs.List.{flat_map}
 use Rattle.std.specs.Option.{option_to_list}
 use Rattle.site_model.specs.PlainSite.{check_view}
+use Rattle.object_lists.specs.Listed.{lent_view}
 use Rattle.typed_site.specs.Checks.{service_check}
-use Rattle.typed_site.specs.Listed.{lent_view}
 use Rattle.typed_site.proofs.checks.service_specs.Given as goal
 
 abbrev pub invariant-loop-service : goal.invariant-loop-service

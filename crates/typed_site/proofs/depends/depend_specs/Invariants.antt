@@ -2,8 +2,8 @@
 use Rattle.std.proofs.Common.{◌≡◌, ◌++◌, drop}
 use Rattle.std.specs.List.{flat_map}
 use Rattle.std.specs.Option.{option_to_list}
+use Rattle.object_lists.specs.Listed.{lent_view}
 use Rattle.typed_site.specs.Depends.{depend_of}
-use Rattle.typed_site.specs.Listed.{lent_view}
 use Rattle.typed_site.proofs.depends.depend_specs.Given as goal
 
 abbrev pub invariant-loop-depend : goal.invariant-loop-depend

@@ -4,8 +4,9 @@ use Rattle.site_base.specs.View.{view}
 use Rattle.site_model.specs.PlainSite.{object_view}
 use Rattle.object_types.specs.declared.attribute.Attribute.TheVariants as attribute
 use Rattle.object_types.specs.declared.object_type.ObjectType.TheVariants as object
+use Rattle.object_lists.specs.Receivers.{receivers}
 use Rattle.typed_site.specs.Depends.{target_at}
-use Rattle.typed_site.specs.Notifies.{notify_made, receivers}
+use Rattle.typed_site.specs.Notifies.{notify_made}
 use Rattle.typed_site.proofs.notifies.notify_spec.Goals as goal
 
 pub returns-in_ok-telling-in-Some : goal.returns-in_ok-telling-in-Some

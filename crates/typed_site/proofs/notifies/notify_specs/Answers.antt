@@ -3,8 +3,8 @@ use Rattle.std.specs.Borrow.{Bor}
 use Rattle.std.specs.Option.{option_to_list}
 use Rattle.site_model.specs.PlainSite.{object_view}
 use Rattle.site_model.specs.declared.object.Object.{Object}
+use Rattle.object_lists.proofs.Steps.{flat_end, flat_step}
 use Rattle.typed_site.specs.Notifies.{notify_of}
-use Rattle.typed_site.proofs.Steps.{flat_end, flat_step}
 use Rattle.typed_site.proofs.notifies.notify_specs.Goals as goal
 
 pub loop-notify-preserved : goal.loop-notify-preserved

@@ -2,8 +2,8 @@
 use Rattle.std.proofs.Common.{◌≡◌, ◌++◌, ℕ, List, drop}
 use Rattle.std.specs.List.{flat_map}
 use Rattle.std.specs.Option.{option_to_list}
-use Rattle.typed_site.specs.Listed.{lent_view}
-use Rattle.typed_site.specs.Members.{AreMembers}
+use Rattle.object_lists.specs.Listed.{lent_view}
+use Rattle.object_lists.specs.Members.{AreMembers}
 use Rattle.typed_site.specs.Notifies.{notify_of}
 use Rattle.typed_site.proofs.notifies.notify_specs.Given as goal
 

@@ -1,6 +1,6 @@
 use Rattle.std.proofs.Common.{map, ap, ◌∙◌}
 use Rattle.site_model.specs.PlainSite.{object_view}
-use Rattle.typed_site.specs.Listed.{lent_view}
+use Rattle.object_lists.specs.Listed.{lent_view}
 use Rattle.typed_site.proofs.SiteLaws.{depends_from, memberships_are, notifies_from}
 use Rattle.typed_site.proofs.sites.around_of.Goals as goal
 

@@ -1,11 +1,11 @@
 use Rattle.std.proofs.Common.{map, ap, ◌∙◌, arith}
 use Rattle.site_model.specs.PlainSite.{check_view, object_view}
+use Rattle.object_lists.specs.Periods.{periods}
+use Rattle.object_lists.specs.Users.{users}
 use Rattle.typed_site.specs.Checks.{check_name, checkables, commands}
 use Rattle.typed_site.specs.Depends.{depends}
 use Rattle.typed_site.specs.Notifies.{notifies}
-use Rattle.typed_site.specs.Periods.{periods}
 use Rattle.typed_site.specs.TypedSite.{settings_view}
-use Rattle.typed_site.specs.Users.{users}
 use Rattle.typed_site.proofs.SiteLaws.{are_few, is_sound, same_site}
 use Rattle.typed_site.proofs.sites.typed_site.Goals as goal
 

@@ -1,8 +1,0 @@
--- The spans so far, and those of the periods that are left, are all.
-use Rattle.std.proofs.Common.{◌≡◌, ◌++◌, map, drop}
-use Rattle.typed_site.specs.Listed.{lent_view}
-use Rattle.typed_site.specs.Periods.{own_spans}
-use Rattle.typed_site.proofs.periods.own_spans.Given as goal
-
-abbrev pub invariant-loop-period : goal.invariant-loop-period
-invariant-loop-period l = l.own.items ++ map own_spans (lent_view (drop l.period-index l.periods)) ≡ map own_spans (lent_view l.periods)

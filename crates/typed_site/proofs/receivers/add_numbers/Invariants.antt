@@ -1,7 +1,0 @@
--- What is told so far, with the users that are left, is all.
-use Rattle.std.proofs.Common.{◌≡◌, drop}
-use Rattle.typed_site.specs.Notifies.{with_new}
-use Rattle.typed_site.proofs.receivers.add_numbers.Given as goal
-
-abbrev pub invariant-loop-user : goal.invariant-loop-user
-invariant-loop-user l = with_new l.told.keys (drop l.user-index l.users) ≡ with_new l.initial.told.keys l.users
