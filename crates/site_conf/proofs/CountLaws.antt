@@ -3,8 +3,8 @@ use Rattle.std.proofs.Common.{◌≡◌, ℕ, suc, cond, List, ◌++◌, length,
 use Rattle.std.specs.Option.{option_to_list}
 use Rattle.dsl_syntax.specs.Syntax as syntax
 use Rattle.walk_order.specs.Orders.{is_inclusion, inclusion_count}
-use Rattle.site_conf.specs.Inclusions.{inclusion_of, inclusions}
-use Rattle.site_conf.specs.declared.inclusion.Inclusion.{Inclusion}
+use Rattle.conf_sources.specs.Inclusions.{inclusion_of, inclusions}
+use Rattle.conf_sources.specs.declared.inclusion.Inclusion.{Inclusion}
 
 counted_by : (k : syntax.StatementKind) (n : ℕ) (more : List Inclusion) → length more ≡ n → length (option_to_list (inclusion_of k) ++ more) ≡ cond (is_inclusion k) (suc n) n
 counted_by (syntax.object x0 x1 x2 x3) n more e = e

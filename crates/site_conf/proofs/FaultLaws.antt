@@ -20,13 +20,13 @@ use Rattle.dsl_lexer.specs.Places.{start_of}
 use Rattle.dsl_lexer.specs.declared.token.Token.{Token}
 use Rattle.dsl_grammar.specs.Files.{Outcome, tree_found, fault_at, deep_at_place, file_outcome, Holds}
 use Rattle.site_conf.specs.Findings.{IsOwn, IsFinding}
-use Rattle.site_conf.specs.Reading.{Kept, diag_at, in_file, kept_none, kept_outcome, kept_tokens, kept_bytes, kept_content}
-use Rattle.site_conf.specs.Sources.{full_name, source_at, same_source, content_of}
-use Rattle.site_conf.specs.Walks.{Told, WalkState, empty_state, Entered, stays, stopped, entered, met, met_by, settled, with_number, with_length, with_fault, with_count, with_end, with_kept, walked}
-use Rattle.site_conf.specs.declared.holding.Holding.{Holding}
-use Rattle.site_conf.specs.declared.holding.Holding.TheVariants.{Missing, TooLong, Broken, Whole}
-use Rattle.site_conf.specs.declared.source.Source.{Source}
-use Rattle.site_conf.specs.declared.source.Source.TheVariants.{File, Library}
+use Rattle.conf_sources.specs.Reading.{Kept, diag_at, in_file, kept_none, kept_outcome, kept_tokens, kept_bytes, kept_content}
+use Rattle.conf_sources.specs.Sources.{Told, full_name, source_at, same_source, content_of}
+use Rattle.site_conf.specs.Walks.{WalkState, empty_state, Entered, stays, stopped, entered, met, met_by, settled, with_number, with_length, with_fault, with_count, with_end, with_kept, walked}
+use Rattle.conf_sources.specs.declared.holding.Holding.{Holding}
+use Rattle.conf_sources.specs.declared.holding.Holding.TheVariants.{Missing, TooLong, Broken, Whole}
+use Rattle.conf_sources.specs.declared.source.Source.{Source}
+use Rattle.conf_sources.specs.declared.source.Source.TheVariants.{File, Library}
 use Rattle.site_conf.proofs.Through.{Stays, walked_stays}
 use Rattle.site_conf.proofs.SoundLaws.{one_all, none_all}
 use Rattle.site_conf.proofs.TreeLaws.{AreTokens, AreOutcomes, AreKept, kept_of, holding_of, kept_at, kept_length, last_at, begins_kept, order_kept, count_kept, met_kept_by, entered_kept, walk_keeps}

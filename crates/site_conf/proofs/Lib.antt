@@ -1,12 +1,5 @@
-pub mod NameLaws
-pub mod ListingLaws
-pub mod Toldness
-pub mod KeyLaws
-pub mod KnownLaws
-pub mod NamingLaws
 pub mod WalkLaws
 pub mod SoundLaws
-pub mod Outcomes
 pub mod CountLaws
 pub mod OrderLaws
 pub mod ReadLaws

@@ -5,7 +5,7 @@ use Rattle.std.proofs.lemmas.List.{set_at, get_or_append_left}
 use Rattle.std.proofs.lemmas.Option.{slice_get_within, slice_get-map, slice_get-get_or, get_or_from_slice_get}
 use Rattle.dsl_syntax.specs.Syntax.{Statements, no_statements}
 use Rattle.walk_order.specs.Orders.{inclusion_count, AreMany, IsFile, IsInclusion, AreInclusions, IsPartBy, IsPart, IsOrder}
-use Rattle.site_conf.specs.Inclusions.{inclusions as inclusions_of}
+use Rattle.conf_sources.specs.Inclusions.{inclusions as inclusions_of}
 use Rattle.site_conf.specs.Sound.{IsClear, IsSound, Grows, IsLater, IsFound, a_part, a_file, some_files, an_inclusion, some_inclusions, IsStretch, IsWalked, IsOver}
 use Rattle.site_conf.specs.Walks.{WalkState, empty_state, with_number, with_length, or_nothing}
 use Rattle.site_conf.proofs.CountLaws.{counted}

@@ -8,16 +8,16 @@ use Rattle.site_base.specs.declared.diag_kind.DiagKind.{DiagKind}
 use Rattle.site_base.specs.declared.diag_kind.DiagKind.TheVariants as kind
 use Rattle.site_base.specs.declared.place.Place.{Place}
 use Rattle.site_edge.specs.Lists.{Adds}
-use Rattle.site_conf.specs.Reading.{Kept}
-use Rattle.site_conf.specs.Reads.{file_name, file_names, HaveRead, flagged_as, IsReadOnce}
-use Rattle.site_conf.specs.Sources.{full_name, is_library, same_source}
+use Rattle.conf_sources.specs.Reading.{Kept}
+use Rattle.site_conf.specs.Reads.{file_names, HaveRead, flagged_as, IsReadOnce}
+use Rattle.conf_sources.specs.Sources.{file_name, full_name, is_library, same_source}
 use Rattle.site_conf.specs.Sound.{IsSound}
 use Rattle.site_conf.specs.Views.{IsEntered}
 use Rattle.site_conf.specs.Walks.{WalkState, empty_state, stays, with_number, with_length, with_fault, with_count, with_end, with_kept, settled}
-use Rattle.site_conf.specs.declared.holding.Holding.{Holding}
-use Rattle.site_conf.specs.declared.holding.Holding.TheVariants.{Missing, TooLong, Broken, Whole}
-use Rattle.site_conf.specs.declared.source.Source.{Source}
-use Rattle.site_conf.specs.declared.source.Source.TheVariants.{File, Library}
+use Rattle.conf_sources.specs.declared.holding.Holding.{Holding}
+use Rattle.conf_sources.specs.declared.holding.Holding.TheVariants.{Missing, TooLong, Broken, Whole}
+use Rattle.conf_sources.specs.declared.source.Source.{Source}
+use Rattle.conf_sources.specs.declared.source.Source.TheVariants.{File, Library}
 use Rattle.site_conf.proofs.SoundLaws.{stays_is, follows_is}
 
 -- What is added to a list that is told.

@@ -16,17 +16,17 @@ use Rattle.site_base.specs.Quoted.{quoted}
 use Rattle.dsl_syntax.specs.Syntax.{Statements}
 use Rattle.dsl_lexer.specs.Lexing.{Lexed, all, bad, file_tokens}
 use Rattle.dsl_grammar.specs.Files.{Outcome, tree_found, fault_at, deep_at_place, file_outcome}
-use Rattle.site_conf.specs.Inclusions.{inclusions as inclusions_of}
-use Rattle.site_conf.specs.Reading.{Kept, diag_at, in_file, kept_none, kept_fault, kept_tree, kept_outcome, kept_tokens, kept_bytes, kept_content}
-use Rattle.site_conf.specs.Sources.{full_name, is_library, source_at, same_source}
+use Rattle.conf_sources.specs.Inclusions.{inclusions as inclusions_of}
+use Rattle.conf_sources.specs.Reading.{Kept, diag_at, in_file, kept_none, kept_fault, kept_tree, kept_outcome, kept_tokens, kept_bytes, kept_content}
+use Rattle.conf_sources.specs.Sources.{full_name, is_library, source_at, same_source}
 use Rattle.site_conf.specs.Sound.{AreIn, IsClear, IsSound, Grows, IsLater, IsOneMore, IsAdded, IsFound, MayStand}
 use Rattle.site_conf.specs.Views.{IsEntered}
 use Rattle.site_conf.specs.Walks.{WalkState, empty_state, Entered, follows, stays, with_number, with_length, with_fault, with_count, with_end, with_kept, settled}
-use Rattle.site_conf.specs.declared.holding.Holding.{Holding}
-use Rattle.site_conf.specs.declared.holding.Holding.TheVariants.{Missing, TooLong, Broken, Whole}
-use Rattle.site_conf.specs.declared.source.Source.{Source}
-use Rattle.site_conf.specs.declared.source.Source.TheVariants.{File, Library}
-use Rattle.site_conf.proofs.KeyLaws.{absent}
+use Rattle.conf_sources.specs.declared.holding.Holding.{Holding}
+use Rattle.conf_sources.specs.declared.holding.Holding.TheVariants.{Missing, TooLong, Broken, Whole}
+use Rattle.conf_sources.specs.declared.source.Source.{Source}
+use Rattle.conf_sources.specs.declared.source.Source.TheVariants.{File, Library}
+use Rattle.conf_sources.proofs.KeyLaws.{absent}
 
 -- Lists.
 

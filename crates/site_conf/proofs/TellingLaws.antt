@@ -8,15 +8,15 @@ use Rattle.site_base.specs.declared.diag.Diag.{Diag}
 use Rattle.site_base.specs.declared.diag_kind.DiagKind.{DiagKind}
 use Rattle.site_base.specs.declared.diag_kind.DiagKind.TheVariants as kind
 use Rattle.site_base.specs.declared.place.Place.{Place}
-use Rattle.site_conf.specs.Reading.{Kept, diag_at, kept_content}
-use Rattle.site_conf.specs.Sources.{full_name, source_at, content_of}
+use Rattle.conf_sources.specs.Reading.{Kept, diag_at, kept_content}
+use Rattle.conf_sources.specs.Sources.{Told, full_name, source_at, content_of}
 use Rattle.site_conf.specs.Sound.{Grows}
 use Rattle.site_conf.specs.Telling.{following, StandInOrder}
-use Rattle.site_conf.specs.Walks.{Told, WalkState, Entered, follows, stays, stopped, entered, met, met_by, settled, with_number, with_length, with_fault, with_count, with_end, with_kept, each_inclusion, one_inclusion, onward_by, onward_at, part}
-use Rattle.site_conf.specs.declared.holding.Holding.{Holding}
-use Rattle.site_conf.specs.declared.holding.Holding.TheVariants.{Missing, TooLong, Broken, Whole}
-use Rattle.site_conf.specs.declared.inclusion.Inclusion.{Inclusion}
-use Rattle.site_conf.specs.declared.source.Source.{Source}
+use Rattle.site_conf.specs.Walks.{WalkState, Entered, follows, stays, stopped, entered, met, met_by, settled, with_number, with_length, with_fault, with_count, with_end, with_kept, each_inclusion, one_inclusion, onward_by, onward_at, part}
+use Rattle.conf_sources.specs.declared.holding.Holding.{Holding}
+use Rattle.conf_sources.specs.declared.holding.Holding.TheVariants.{Missing, TooLong, Broken, Whole}
+use Rattle.conf_sources.specs.declared.inclusion.Inclusion.{Inclusion}
+use Rattle.conf_sources.specs.declared.source.Source.{Source}
 use Rattle.site_conf.proofs.SoundLaws.{grows_on}
 use Rattle.site_conf.proofs.Through.{Stays, StaysOnward, inclusions_stay, part_stays}
 

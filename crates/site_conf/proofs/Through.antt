@@ -2,13 +2,13 @@
 use Rattle.std.proofs.Common.{◌≡◌, ℕ, zero, suc, Bool, true, false, cond, List, [], ◌∷◌, length, slice_get}
 use Rattle.dsl_lexer.specs.Places.{start_of}
 use Rattle.site_base.specs.declared.place.Place.{Place}
-use Rattle.site_conf.specs.Inclusions.{place_of}
-use Rattle.site_conf.specs.Reading.{in_file}
-use Rattle.site_conf.specs.Sources.{sources_of}
-use Rattle.site_conf.specs.Walks.{Told, WalkState, Entered, follows, stays, stopped, entered, met, with_number, with_length, each_source, one_inclusion, each_inclusion, part_with, onward_by, part, walked, or_nothing, empty_state}
-use Rattle.site_conf.specs.declared.inclusion.Inclusion.{Inclusion}
-use Rattle.site_conf.specs.declared.source.Source.{Source}
-use Rattle.site_conf.specs.declared.source.Source.TheVariants.{File}
+use Rattle.conf_sources.specs.Inclusions.{place_of}
+use Rattle.conf_sources.specs.Reading.{in_file}
+use Rattle.conf_sources.specs.Sources.{Told, sources_of}
+use Rattle.site_conf.specs.Walks.{WalkState, Entered, follows, stays, stopped, entered, met, with_number, with_length, each_source, one_inclusion, each_inclusion, part_with, onward_by, part, walked, or_nothing, empty_state}
+use Rattle.conf_sources.specs.declared.inclusion.Inclusion.{Inclusion}
+use Rattle.conf_sources.specs.declared.source.Source.{Source}
+use Rattle.conf_sources.specs.declared.source.Source.TheVariants.{File}
 
 -- it stays over numbers of the order, and over each inclusion and what is met there
 pub record Stays (all : Told) (P : WalkState → Type 0) : Type 0 where

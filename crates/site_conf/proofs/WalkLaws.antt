@@ -1,6 +1,7 @@
 -- Parts of the walk.
 use Rattle.std.proofs.Common.{◌≡◌, ℕ, zero, suc, ◌-◌, ◌<◌, refl, ap, arith}
-use Rattle.site_conf.specs.Walks.{Told, WalkState, follows, part, part_with, onward_at}
+use Rattle.conf_sources.specs.Sources.{Told}
+use Rattle.site_conf.specs.Walks.{WalkState, follows, part, part_with, onward_at}
 
 -- the part of a file, by what follows its inclusions
 pub part_is : (files : Told) (left index : ℕ) (s : WalkState) → part files left index s ≡ part_with files (onward_at files left) left index s

@@ -9,10 +9,10 @@ use Rattle.site_base.specs.Quoted.{quoted}
 use Rattle.site_base.specs.declared.diag.Diag.{Diag}
 use Rattle.site_base.specs.declared.diag_kind.DiagKind.TheVariants as kind
 use Rattle.site_base.specs.declared.place.Place.{Place}
-use Rattle.site_conf.specs.Reading.{diag_at, in_file}
-use Rattle.site_conf.specs.Sources.{full_name, content_of}
-use Rattle.site_conf.specs.Walks.{Told, WalkState}
-use Rattle.site_conf.specs.declared.source.Source.{Source}
+use Rattle.conf_sources.specs.Reading.{diag_at, in_file}
+use Rattle.conf_sources.specs.Sources.{Told, full_name, content_of}
+use Rattle.site_conf.specs.Walks.{WalkState}
+use Rattle.conf_sources.specs.declared.source.Source.{Source}
 
 -- these bytes, as those of the file with this index, have tokens, and the tree is the only one that the tokens have; none stands too deep
 pub record IsTreeOf (file : ℕ) (bytes : List ℕ) (tree : Statements) : Type 0 where

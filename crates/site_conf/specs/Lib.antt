@@ -1,12 +1,3 @@
-pub mod SourceKeys
-pub mod Faults
-pub mod Names
-pub mod Listings
-pub mod Known
-pub mod Library
-pub mod Inclusions
-pub mod Sources
-pub mod Reading
 pub mod Walks
 pub mod Views
 pub mod Sound

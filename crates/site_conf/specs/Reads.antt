@@ -4,16 +4,11 @@ use Rattle.std.specs.Bool.{beq}
 use Rattle.std.specs.List.{IsDistinct}
 use Rattle.std.specs.Str.{bytes_eq}
 use Rattle.site_edge.specs.Lists.{Adds}
+use Rattle.conf_sources.specs.Sources.{file_name}
 use Rattle.site_conf.specs.Walks.{WalkState}
-use Rattle.site_conf.specs.declared.source.Source.{Source}
-use Rattle.site_conf.specs.declared.source.Source.TheVariants.{File, Library}
+use Rattle.conf_sources.specs.declared.source.Source.{Source}
 use Rattle.site_conf.specs.declared.walk_answer.WalkAnswer.{WalkAnswer}
 use Rattle.site_conf.specs.declared.walk_answer.WalkAnswer.TheVariants as answer
-
--- what is read of it: a file, and nothing for a part of the library
-abbrev pub file_name : Source → List (List ℕ)
-file_name (File name) = name ∷ []
-file_name (Library name) = []
 
 -- the names of the files among these
 abbrev pub file_names : List Source → List (List ℕ)

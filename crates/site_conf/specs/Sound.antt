@@ -6,11 +6,11 @@ use Rattle.dsl_syntax.specs.SyntaxView.{file_view}
 use Rattle.site_base.specs.declared.diag.Diag.{Diag}
 use Rattle.site_base.specs.declared.place.Place.{Place}
 use Rattle.walk_order.specs.Orders.{IsPart, IsFile, IsInclusion, AreMany, IsOrder}
-use Rattle.site_conf.specs.Inclusions.{inclusions as inclusions_of}
-use Rattle.site_conf.specs.Sources.{source_at, same_source, full_name, is_library}
+use Rattle.conf_sources.specs.Inclusions.{inclusions as inclusions_of}
+use Rattle.conf_sources.specs.Sources.{source_at, same_source, full_name, is_library}
 use Rattle.site_conf.specs.Walks.{WalkState}
-use Rattle.site_conf.specs.declared.holding.Holding.TheVariants.{Broken}
-use Rattle.site_conf.specs.declared.source.Source.{Source}
+use Rattle.conf_sources.specs.declared.holding.Holding.TheVariants.{Broken}
+use Rattle.conf_sources.specs.declared.source.Source.{Source}
 use Rattle.site_conf.specs.declared.walk_answer.WalkAnswer.{WalkAnswer}
 use Rattle.site_conf.specs.declared.walk_answer.WalkAnswer.TheVariants as answer
 

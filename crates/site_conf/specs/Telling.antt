@@ -4,8 +4,9 @@ use Rattle.dsl_syntax.specs.Syntax.{Statements}
 use Rattle.site_base.specs.declared.diag.Diag.{Diag}
 use Rattle.site_conf.specs.Findings.{IsTreeOf, IsOwn}
 use Rattle.site_conf.specs.Sound.{Grows}
-use Rattle.site_conf.specs.Walks.{Told, WalkState, each_inclusion, onward_at}
-use Rattle.site_conf.specs.declared.inclusion.Inclusion.{Inclusion}
+use Rattle.conf_sources.specs.Sources.{Told}
+use Rattle.site_conf.specs.Walks.{WalkState, each_inclusion, onward_at}
+use Rattle.conf_sources.specs.declared.inclusion.Inclusion.{Inclusion}
 
 -- what stands once these inclusions of a file were followed, where so many may still stand in one another
 abbrev pub following : Told → ℕ → ℕ → List ℕ → List Inclusion → WalkState → WalkState

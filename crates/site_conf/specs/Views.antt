@@ -1,15 +1,10 @@
 -- The plain values that the code's own stand for.
 use Rattle.std.specs.Prelude.{ℕ, ◌≡◌, map, Option, Some, None, ⊤}
 use Rattle.dsl_syntax.specs.SyntaxView.{file_view}
-use Rattle.site_conf.specs.Reading.{Kept as KeptValue}
 use Rattle.site_conf.specs.Walks.{WalkState, Entered, follows, stays, WalkOutcome, site, faults}
-use Rattle.site_conf.specs.declared.kept.Kept.{Kept}
 use Rattle.site_conf.specs.declared.progress.Progress.{Progress}
 use Rattle.site_conf.specs.declared.walk_answer.WalkAnswer.{WalkAnswer}
 use Rattle.site_conf.specs.declared.walk_answer.WalkAnswer.TheVariants as answer
-
-abbrev pub kept_view : Kept → KeptValue
-kept_view k = record { holding = k.holding; tree = file_view k.tree; inclusions = k.inclusions.items; faults = k.faults.items }
 
 abbrev pub state_view : Progress → WalkState
 state_view p = record {

@@ -7,18 +7,14 @@ use Rattle.site_base.specs.declared.diag_kind.DiagKind.{DiagKind}
 use Rattle.site_base.specs.declared.diag_kind.DiagKind.TheVariants as kind
 use Rattle.site_base.specs.declared.place.Place.{Place}
 use Rattle.dsl_lexer.specs.Places.{start_of}
-use Rattle.site_conf.specs.Inclusions.{place_of}
-use Rattle.site_conf.specs.Sources.{full_name, is_library, source_at, content_of, sources_of}
-use Rattle.site_conf.specs.Reading.{Kept, diag_at, in_file, kept_content}
-use Rattle.site_conf.specs.declared.holding.Holding.{Holding}
-use Rattle.site_conf.specs.declared.holding.Holding.TheVariants.{Missing, TooLong, Broken, Whole}
-use Rattle.site_conf.specs.declared.inclusion.Inclusion.{Inclusion}
-use Rattle.site_conf.specs.declared.source.Source.{Source}
-use Rattle.site_conf.specs.declared.source.Source.TheVariants.{File}
-
--- the names and bytes of all files
-abbrev pub Told : Type 0
-Told = List (List ℕ × List ℕ)
+use Rattle.conf_sources.specs.Inclusions.{place_of}
+use Rattle.conf_sources.specs.Sources.{Told, full_name, is_library, source_at, content_of, sources_of}
+use Rattle.conf_sources.specs.Reading.{Kept, diag_at, in_file, kept_content}
+use Rattle.conf_sources.specs.declared.holding.Holding.{Holding}
+use Rattle.conf_sources.specs.declared.holding.Holding.TheVariants.{Missing, TooLong, Broken, Whole}
+use Rattle.conf_sources.specs.declared.inclusion.Inclusion.{Inclusion}
+use Rattle.conf_sources.specs.declared.source.Source.{Source}
+use Rattle.conf_sources.specs.declared.source.Source.TheVariants.{File}
 
 -- What stands at one moment of the walk: of each file that was met what it was named, its name, whether it is
 -- a part of the built-in library, what it holds, its tree and

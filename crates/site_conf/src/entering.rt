@@ -1,18 +1,18 @@
 // One inclusion of the walk.
 ghost use Rattle.std.specs.Prelude.{◌≡◌, ◌≤◌, ◌<◌, List, ℕ, Option, Some, None, IfOk, OnOk, IfSome, IsErrOf, length, slice_get, ◌≢◌, Err};
 ghost use Rattle.site_edge.specs.Told.{Rose};
-ghost use Rattle.site_conf.specs.Sources.{source_at, content_of, full_name as full_name_of};
-ghost use Rattle.site_conf.specs.Reading.{kept_content};
+ghost use Rattle.conf_sources.specs.Sources.{Told, source_at, content_of, full_name as full_name_of};
+ghost use Rattle.conf_sources.specs.Reading.{kept_content};
 ghost use Rattle.site_conf.specs.Reads.{HaveRead};
 ghost use Rattle.site_conf.specs.Sound.{IsSound, IsFound, IsOneMore, MayStand};
 ghost use Rattle.site_conf.specs.Views.{state_view, IsEntered};
-ghost use Rattle.site_conf.specs.Walks.{Told, entered, met, settled, follows, with_number, with_fault, with_kept};
+ghost use Rattle.site_conf.specs.Walks.{entered, met, settled, follows, with_number, with_fault, with_kept};
 
-use crate::LoadFault;
-use crate::holding::Holding;
 use crate::progress::Progress;
-use crate::reading::{content, kept};
-use crate::source::{Source, full_name};
+use conf_sources::LoadFault;
+use conf_sources::holding::Holding;
+use conf_sources::reading::{content, kept};
+use conf_sources::source::{Source, full_name};
 use site_base::{Blob, DiagKind, OutOfMemory, Place};
 use site_edge::Files;
 use std::alloc::Global;

@@ -1,12 +1,12 @@
 // What always holds of walks over files that are told.
 ghost use Rattle.std.specs.Prelude.{◌≡◌, ℕ, List, Some, All, map, slice_get};
 ghost use Rattle.site_conf.specs.Findings.{IsTold, IsFinding};
-ghost use Rattle.site_conf.specs.Sources.{content_of, full_name, is_library};
+ghost use Rattle.conf_sources.specs.Sources.{Told, content_of, full_name, is_library};
 ghost use Rattle.site_conf.specs.Sound.{IsClear};
 ghost use Rattle.site_conf.specs.Telling.{IsAnswered, StandInOrder};
-ghost use Rattle.site_conf.specs.Walks.{Told, WalkState, walked};
-ghost use Rattle.site_conf.specs.declared.inclusion.Inclusion.{Inclusion};
-ghost use Rattle.site_conf.specs.declared.source.Source.{Source};
+ghost use Rattle.site_conf.specs.Walks.{WalkState, walked};
+ghost use Rattle.conf_sources.specs.declared.inclusion.Inclusion.{Inclusion};
+ghost use Rattle.conf_sources.specs.declared.source.Source.{Source};
 
 use dsl_grammar::files_have_one_outcome;
 use dsl_lexer::what_is_read_are_the_tokens;

@@ -1,15 +1,16 @@
 // What stands at a moment of the walk.
 ghost use Rattle.std.specs.Prelude.{◌≡◌, None, IfOk, OnOk, length, slice_get};
-ghost use Rattle.site_conf.specs.Sources.{source_at};
-ghost use Rattle.site_conf.specs.Views.{state_view, kept_view};
+ghost use Rattle.conf_sources.specs.Sources.{source_at};
+ghost use Rattle.conf_sources.specs.Views.{kept_view};
+ghost use Rattle.site_conf.specs.Views.{state_view};
 ghost use Rattle.site_conf.specs.Walks.{empty_state, with_number, with_length, with_fault, with_kept, or_nothing};
 
-use crate::holding::Holding;
-use crate::inclusion::Inclusion;
-use crate::kept::Kept;
-use crate::reading::diag;
-use crate::source::{Source, full_name, is_library};
-use crate::sources::Sources;
+use conf_sources::holding::Holding;
+use conf_sources::inclusion::Inclusion;
+use conf_sources::kept::Kept;
+use conf_sources::reading::diag;
+use conf_sources::source::{Source, full_name, is_library};
+use conf_sources::sources::Sources;
 use dsl_syntax::File;
 use site_base::{Diag, DiagKind, OutOfMemory, Place, Row, Text, Texts, quote};
 use std::alloc::Global;

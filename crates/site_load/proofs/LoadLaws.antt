@@ -1,6 +1,6 @@
 -- What the run of the files comes to.
 use Rattle.std.proofs.Common.{◌≡◌, ℕ, List, sym, ap, ◌∙◌}
-use Rattle.site_conf.specs.Walks.{Told}
+use Rattle.conf_sources.specs.Sources.{Told}
 use Rattle.dsl_load.specs.Loads.{plain_parts}
 use Rattle.dsl_load.specs.declared.load_parts.LoadParts.{LoadParts}
 use Rattle.dsl_value.specs.declared.value.Value.{Value}

@@ -4,7 +4,8 @@ use Rattle.site_base.specs.declared.diag.Diag.{Diag}
 use Rattle.site_base.specs.declared.diag_kind.DiagKind.{DiagKind}
 use Rattle.site_base.specs.declared.diag_kind.DiagKind.TheVariants.{NoFile}
 use Rattle.site_base.specs.declared.place.Place.{Place}
-use Rattle.site_conf.specs.Walks.{Told, WalkOutcome, site, faults, walked, outcome_of}
+use Rattle.conf_sources.specs.Sources.{Told}
+use Rattle.site_conf.specs.Walks.{WalkOutcome, site, faults, walked, outcome_of}
 use Rattle.dsl_syntax.specs.Syntax.{Statements}
 use Rattle.dsl_value.specs.declared.value.Value.{Value}
 use Rattle.dsl_load.specs.Loads.{plain_parts}

@@ -2,7 +2,7 @@
 use Rattle.std.specs.Prelude.{ℕ, List, codes, Option, Some, None}
 use Rattle.site_base.specs.Quoted.{quoted}
 use Rattle.site_edge.specs.Told.{find_file}
-use Rattle.site_conf.specs.Walks.{Told}
+use Rattle.conf_sources.specs.Sources.{Told}
 use Rattle.dsl_value.specs.Contents.{PlainCell}
 use Rattle.dsl_value.specs.declared.value.Value.{Value}
 use Rattle.dsl_value.specs.declared.value.Value.TheVariants as value

@@ -2,7 +2,7 @@
 ghost use Rattle.std.specs.Prelude.{◌≡◌, ◌≢◌, ◌≤◌, Bool, Some, IfOk, IsErrOf, Err};
 ghost use Rattle.std.specs.Bool.{Decides};
 ghost use Rattle.site_edge.specs.Told.{Rose};
-ghost use Rattle.site_conf.specs.Walks.{Told};
+ghost use Rattle.conf_sources.specs.Sources.{Told};
 ghost use Rattle.site_phases.specs.Phases.{FilesStay, IfSite, IsReady, answer_view};
 ghost use Rattle.site_load.specs.Configs.{IsBadZone, config_outcome, names_of};
 ghost use Rattle.site_load.specs.Loads.{load_outcome};

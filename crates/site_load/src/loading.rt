@@ -4,7 +4,7 @@ ghost use Rattle.dsl_syntax.specs.SyntaxView.{file_view};
 ghost use Rattle.dsl_load.specs.Loads.{IsLoad, plain_parts};
 ghost use Rattle.eval_meaning.specs.Load.{load_run};
 ghost use Rattle.site_edge.specs.Told.{Rose};
-ghost use Rattle.site_conf.specs.Walks.{Told};
+ghost use Rattle.conf_sources.specs.Sources.{Told};
 ghost use Rattle.site_load.specs.Loads.{IfLoaded, fault_outcome, load_outcome, load_view, plain_files, run_outcome, with_zone as zone_added};
 ghost use Rattle.site_load.specs.Zones.{zone_found, zone_name as name_of_zone, zone_view};
 

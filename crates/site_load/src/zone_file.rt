@@ -1,7 +1,7 @@
 // The file of the site's zone.
 ghost use Rattle.std.specs.Prelude.{◌≡◌, ◌≢◌, ◌≤◌, codes, option_map, Some, Err, IfOk, IsErrOf};
 ghost use Rattle.site_edge.specs.Told.{Rose, find_file};
-ghost use Rattle.site_conf.specs.Walks.{Told};
+ghost use Rattle.conf_sources.specs.Sources.{Told};
 ghost use Rattle.eval_work.specs.Kept.{HasGlobals};
 ghost use Rattle.site_load.specs.Zones.{name_by, zone_by_name, zone_found, zone_name as name_of_zone, zone_view};
 

@@ -1,8 +1,8 @@
 -- How runs end.
 use Rattle.std.proofs.Common.{◌≡◌, ◌⊎◌, inl, inr, ℕ, List, [], ◌++◌, Bool, true, false, Option, Some, None, Result, Ok, Err, IfOk, refl, sym, ap, ◌∙◌, subst, append-nil, append_assoc}
 use Rattle.site_edge.specs.Lists.{Adds, AddsPart}
-use Rattle.site_conf.specs.declared.load_fault.LoadFault.{LoadFault}
-use Rattle.site_conf.specs.declared.load_fault.LoadFault.TheVariants as load
+use Rattle.conf_sources.specs.declared.load_fault.LoadFault.{LoadFault}
+use Rattle.conf_sources.specs.declared.load_fault.LoadFault.TheVariants as load
 use Rattle.site_program.specs.Runs.{status_by}
 use Rattle.site_run.specs.Logs.{EndsOne, EndsRun, Whole}
 use Rattle.site_run.specs.declared.status.Status.{Status}

@@ -1,8 +1,8 @@
 -- Replies as what a run writes, and how a run ends whose files can't be read.
 use Rattle.std.specs.Prelude.{Bool, true, false}
 use Rattle.std.specs.List.{concat}
-use Rattle.site_conf.specs.declared.load_fault.LoadFault.{LoadFault}
-use Rattle.site_conf.specs.declared.load_fault.LoadFault.TheVariants as load
+use Rattle.conf_sources.specs.declared.load_fault.LoadFault.{LoadFault}
+use Rattle.conf_sources.specs.declared.load_fault.LoadFault.TheVariants as load
 use Rattle.site_replies.specs.Replies.{PlainReply}
 use Rattle.site_run.specs.Logs.{Whole}
 use Rattle.site_run.specs.declared.status.Status.{Status}

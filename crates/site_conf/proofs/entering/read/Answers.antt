@@ -1,5 +1,5 @@
 use Rattle.site_conf.specs.Views.{state_view}
-use Rattle.site_conf.specs.Reading.{kept_content}
+use Rattle.conf_sources.specs.Reading.{kept_content}
 use Rattle.std.proofs.Common.{length}
 use Rattle.site_conf.proofs.SoundLaws.{kept_more}
 use Rattle.site_conf.proofs.ReadLaws.{read_more}

@@ -2,7 +2,8 @@ use Rattle.std.proofs.Common.{◌≡◌, ◌<◌, ◌≤◌, ◌-◌, ◌+◌, �
 use Rattle.site_base.specs.declared.place.Place.{Place}
 use Rattle.site_conf.specs.Sound.{IsFound, IsLater, IsWalked, a_part, a_file, some_files, an_inclusion, some_inclusions}
 use Rattle.site_conf.specs.Views.{state_view}
-use Rattle.site_conf.specs.Walks.{Told, WalkState, entered, follows, onward_at, with_number, one_inclusion, each_inclusion, each_source}
+use Rattle.conf_sources.specs.Sources.{Told}
+use Rattle.site_conf.specs.Walks.{WalkState, entered, follows, onward_at, with_number, one_inclusion, each_inclusion, each_source}
 use Rattle.site_conf.proofs.OrderLaws.{file_found, files_on, inclusions_on, inclusion_walked, part_walked}
 use Rattle.site_conf.proofs.SoundLaws.{number_later}
 use Rattle.site_conf.proofs.WalkLaws.{follow_is}

@@ -1,5 +1,5 @@
 use Rattle.std.proofs.Common.{◌≡◌, ◌≤◌, ◌<◌, length, ◌+◌, ◌*◌, List, ℕ, Option, Some, drop}
-use Rattle.site_conf.specs.Known.{IsKnown}
+use Rattle.conf_sources.specs.Known.{IsKnown}
 use Rattle.site_conf.specs.Reads.{HaveRead}
 use Rattle.site_conf.specs.Sound.{IsSound, IsWalked, some_files, some_inclusions}
 use Rattle.site_conf.specs.Views.{state_view}

@@ -2,8 +2,9 @@ use Rattle.std.proofs.Common.{◌≡◌, List, ℕ, Some, None, Result, Ok, Err,
 use Rattle.dsl_lexer.specs.Places.{start_of}
 use Rattle.site_conf.specs.Sound.{IsFound, a_part, IsWalked, IsOver}
 use Rattle.site_conf.specs.Views.{state_view}
-use Rattle.site_conf.specs.Walks.{Told, WalkState, Entered, follows, part, met, onward_by, empty_state, walked}
-use Rattle.site_conf.specs.declared.source.Source.TheVariants.{File}
+use Rattle.conf_sources.specs.Sources.{Told}
+use Rattle.site_conf.specs.Walks.{WalkState, Entered, follows, part, met, onward_by, empty_state, walked}
+use Rattle.conf_sources.specs.declared.source.Source.TheVariants.{File}
 use Rattle.site_conf.proofs.OrderLaws.{root_walked, no_root}
 use Rattle.site_conf.proofs.SoundLaws.{begins_sound, may_begin}
 use Rattle.site_conf.proofs.walking.walk_root.Goals as goal

@@ -1,0 +1,10 @@
+pub mod SourceKeys
+pub mod Faults
+pub mod Names
+pub mod Listings
+pub mod Known
+pub mod Library
+pub mod Inclusions
+pub mod Sources
+pub mod Reading
+pub mod Views

@@ -1,7 +1,0 @@
-use Rattle.std.proofs.Common.{[], sym, subst}
-use Rattle.site_conf.specs.Known.{IsKnown}
-use Rattle.site_conf.proofs.KnownLaws.{nothing_known}
-use Rattle.site_conf.proofs.listings.Listings.new.Goals as goal
-
-pub returns : goal.returns
-returns c = λ told. subst (λ f. IsKnown told f c.new-2.result) (sym c.new.ensures) (subst (λ w. IsKnown told [] w) (sym c.new-2.ensures) (nothing_known told))
