@@ -4,15 +4,14 @@ use Rattle.std.specs.Prelude.{IfOk, OnOk}
 use Rattle.site_base.specs.declared.place.Place.{Place}
 use Rattle.dsl_syntax.specs.Syntax.{Loop, loop}
 use Rattle.dsl_value.specs.Pairs.{Pairs}
-use Rattle.dsl_value.specs.Contents.{Contents, PlainCell, with_cells}
+use Rattle.dsl_value.specs.Contents.{Contents}
 use Rattle.dsl_value.specs.Walks.{tree_walked}
-use Rattle.dsl_value.specs.Loads.{load, grown, given}
 use Rattle.dsl_value.specs.declared.tree_fault.TreeFault.{TreeFault}
 use Rattle.dsl_value.specs.declared.value.Value.{Value}
 use Rattle.dsl_value.specs.declared.value.Value.TheVariants as value
 use Rattle.site_base.specs.Data.{Data}
 use Rattle.eval_meaning.specs.Evaluation.{value_of}
-use Rattle.eval_meaning.specs.Frames.{entered, first_locals}
+use Rattle.eval_meaning.specs.Frames.{entered}
 use Rattle.eval_work.specs.Works.{state_of}
 use Rattle.eval_work.specs.declared.work.Work.{Work}
 use Rattle.eval_work.specs.declared.stop.Stop.{Stop}
@@ -30,7 +29,7 @@ use Rattle.commit_meaning.specs.Conditions.{no_verdict, judged}
 use Rattle.commit_meaning.specs.Names.{Target, target_names}
 use Rattle.commit_meaning.specs.Rules.{Element, of_value, in_rule, looped, elements_of, back_at, unless_dropped, element_judged, element_run, elements_run, first_number, rule_run}
 use Rattle.commit_meaning.specs.Starts.{Trees, fresh, values_of, tree_by, tree_at, trees_at}
-use Rattle.item_start.specs.Bound.{Bound, bound_in}
+use Rattle.item_start.specs.Bound.{Bound}
 use Rattle.item_start.proofs.Bindings.{values_are_bound}
 use Rattle.rule_expressions.specs.Framed.{in_rule_with}
 use Rattle.rule_expressions.specs.Looped.{elements_by}
@@ -42,24 +41,6 @@ bind_same (faults l k t rs) f g h = refl
 bind_same (blocked r rs) f g h = refl
 
 -- ---- names
-
--- names, and others behind them
-pub bound_append : (ts us : Trees) (ps : Pairs) (cs : List PlainCell) → bound_in (ts ++ us) ps cs ≡ bound_in us (bound_in ts ps cs).pairs (bound_in ts ps cs).cells
-bound_append [] us ps cs = refl
-bound_append (t ∷ ts) us ps cs = bound_append ts us (ps ++ (t.0, given 0 cs (load t.1)) ∷ []) (grown 0 cs (load t.1))
-
--- a work whose frame was entered step by step, behind the names `ts` and then `us`
-pub rule_entered : {X E : Type 0} (r : Result X E) (w mid new : Work) (ts us : Trees) (captured ps qs : Pairs) (s1 s2 : Contents)
-    → s1 ≡ with_cells w.store (bound_in ts [] w.store.cells).cells
-    → ps ≡ (bound_in ts [] w.store.cells).pairs
-    → s2 ≡ with_cells s1 (bound_in us ps s1.cells).cells
-    → qs ≡ (bound_in us ps s1.cells).pairs
-    → mid ≡ record w { store = s2 }
-    → OnOk r (new ≡ record mid { this = value.Null; locals = first_locals captured qs; in_file = false })
-    → OnOk r (state_of new ≡ in_rule_with captured (ts ++ us) (state_of w))
-rule_entered (Ok x) w mid new ts us captured ps qs s1 s2 e1 ep e2 eq em h =
-    ap state_of h ∙ (rw (em, eq, e2, ep, e1) (ap (λ b. entered value.Null (first_locals captured b.pairs) false (record (state_of w) { cells = b.cells })) (sym (bound_append ts us [] w.store.cells))))
-rule_entered (Err x) w mid new ts us captured ps qs s1 s2 e1 ep e2 eq em h = tt
 
 -- and it is ready, where it was before
 pub ready_entered : {X E : Type 0} (this : Value) (locals : Pairs) (in_file : Bool) (r : Result X E) (v : WorldView) (w mid new : Work) → IsReady v w → IsLater w.store mid.store → mid.depth ≡ w.depth

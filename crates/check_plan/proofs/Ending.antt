@@ -1,5 +1,5 @@
 -- Where the walk ends.
-use Rattle.std.proofs.Common.{◌≡◌, ◌<◌, ◌≤◌, ◌+◌, ◌-◌, ◌^◌, ℕ, List, [], ◌∷◌, ◌++◌, length, map, slice_get, nat_lt, cond, false, refl, sym, ap, ◌∙◌, arith}
+use Rattle.std.proofs.Common.{◌≡◌, ◌≤◌, ◌+◌, ◌-◌, ℕ, List, [], ◌∷◌, ◌++◌, length, map, slice_get, nat_lt, cond, false, refl, sym, ap, ◌∙◌, arith}
 use Rattle.std.proofs.lemmas.Bool.Decides.{nat_tests}
 use Rattle.std.proofs.lemmas.List.{append-nil}
 use Rattle.run_meaning.specs.Reachability.{Outlook}
@@ -8,10 +8,6 @@ use Rattle.run_meaning.specs.Schedule.{Due, Watch, due_from, walk_over, walk_wit
 use Rattle.run_meaning.specs.Turns.{Command}
 use Rattle.check_plan.specs.Plans.{Plan, slots_in}
 use Rattle.check_plan.specs.Walks.{IsOnWay, Standing, first_of, ordered_as, outstanding_as, walk_at, walked}
-
--- there is room for the number of one order more
-pub room_left : (o : Outlook) (p : Plan) (y : Standing) → IsOnWay o (first_of p) y → y.outstanding < o.site.max_orders → p.orders.given + o.site.max_orders < 2 ^ 64 → y.plan.orders.given < 2 ^ 64 - 1
-room_left o p y way room few = let a = way.numbers in let b = way.counted in omega (arith, a, b, room, few)
 
 module _ (o : Outlook) (p : Plan) (y : Standing) (way : IsOnWay o (first_of p) y)
     (ends : (command : ℕ → Command) → walk_over command o (due_from o.moment 0 y.plan.watches) (walk_at command y) ≡ walk_at command y) where

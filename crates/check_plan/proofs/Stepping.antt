@@ -8,7 +8,6 @@ use Rattle.order_book.specs.Orders.{Orders}
 use Rattle.run_meaning.specs.Reachability.{Outlook}
 use Rattle.run_meaning.specs.Schedule.{Watch, is_off, later_by, view_of_index}
 use Rattle.site_model.specs.PlainSite.{PlainCheck}
-use Rattle.check_plan.specs.Plans.{AreGiven}
 use Rattle.check_plan.specs.Walks.{IsOnWay, Standing, outstanding_as, standing}
 use Rattle.check_plan.specs.declared.walk.Walk.{Walk}
 use Rattle.check_plan.specs.declared.ordered.Ordered.{Ordered}
@@ -62,21 +61,6 @@ module _ (o : Outlook) (x : Standing) (k : ℕ) (first : IsFirstDue o.moment x.p
   }
 
 -- One way behind another.
-
-pub on_and_on : (o : Outlook) (x y z : Standing) → IsOnWay o x y → IsOnWay o y z → IsOnWay o x z
-on_and_on o x y z p q = record {
-  rest = λ command. q.rest command ∙ p.rest command;
-  whole = q.whole ∙ p.whole;
-  within = λ h. subst (λ n. All (λ k. k < n) z.passed) p.whole (q.within (subst (λ n. All (λ k. k < n) y.passed) (sym p.whole) (p.within h)));
-  numbers = (let a = p.numbers in let b = q.numbers in omega (arith, a, b));
-  counted = (let a = p.counted in let b = q.counted in omega (arith, a, b));
-  few = λ h. q.few (p.few h);
-  told = λ os h. q.told os (p.told os h);
-  aside = λ are. q.aside (p.aside are);
-  given = λ are given.
-      subst (λ n. AreGiven n z.plan.orders.given z.plan.orders.outstanding) p.whole
-      (q.given (p.aside are) (subst (λ n. AreGiven n y.plan.orders.given y.plan.orders.outstanding) (sym p.whole) (p.given are given)));
-}
 
 pub nowhere : (o : Outlook) (x : Standing) → IsOnWay o x x
 nowhere o x = record {

@@ -13,10 +13,6 @@ pub front_joined : (a : List (List ℕ)) (ws more : Words) → in_front a (joine
 front_joined a (words ts) more = front_both a ts more
 front_joined a (lacks n) more = refl
 
-pub front_nothing : (ws : Words) → in_front [] ws ≡ ws
-front_nothing (words ts) = refl
-front_nothing (lacks n) = refl
-
 pub lacks_behind : (a : List (List ℕ)) (n : List ℕ) (ws : Words) → in_front a ws ≡ lacks n → ws ≡ lacks n
 lacks_behind a n (words ts) e = cc
 lacks_behind a n (lacks o) e = e

@@ -20,10 +20,6 @@ same_end (gives a s) = refl
 same_end (faults l k t rs) = refl
 same_end (blocked r rs) = refl
 
--- what stands behind something that was evaluated
-pub then_gives : {X A B : Type 0} (view : X → A) (next : B → State → Outcome A) (o : Outcome B) (b : B) (s : State) (r : Result X Stop) (new : State) → o ≡ gives b s → Gives {X = X} {Y = A} view r new (next b s) → Gives {X = X} {Y = A} view r new (o >>= next)
-then_gives view next o b s r new e h = subst (λ p. Gives {X = _} {Y = _} view r new (p >>= next)) (sym e) h
-
 -- an evaluation that begins with another
 pub goes_on : {X A B : Type 0} (view : X → A) (here : Outcome A) (o : Outcome B) (next : B → State → Outcome A) (b : B) (s : State) (r : Result X Stop) (new : State) → here ≡ (o >>= next) → o ≡ gives b s → Gives {X = X} {Y = A} view r new (next b s) → Gives {X = X} {Y = A} view r new here
 goes_on view here o next b s r new turn goes h = subst (λ p. Gives {X = _} {Y = _} view r new p) (sym (turn ∙ ap (λ p. p >>= next) goes)) h

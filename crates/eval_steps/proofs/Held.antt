@@ -1,9 +1,9 @@
 -- What the values name that an evaluation holds.
-use Rattle.std.proofs.Common.{◌≡◌, ℕ, zero, suc, ◌+◌, List, [], ◌∷◌, ◌++◌, drop, Bool, true, false, map, Option, Some, None, sym, ap, ◌∙◌, subst, arith}
+use Rattle.std.proofs.Common.{◌≡◌, ℕ, zero, suc, ◌+◌, List, [], ◌∷◌, ◌++◌, drop, Bool, true, false, map, sym, ap, ◌∙◌, subst, arith}
 use Rattle.dsl_value.specs.Pairs.{Pairs}
 use Rattle.dsl_value.specs.Contents.{Contents}
 use Rattle.dsl_value.specs.declared.value.Value.{Value}
-use Rattle.eval_work.specs.Kept.{Named, NamedAll, PairsNamed, IsFit, IsLater, IsKept, AreKept, ArePairsKept}
+use Rattle.eval_work.specs.Kept.{Named, NamedAll, PairsNamed, IsKept, AreKept, ArePairsKept}
 use Rattle.eval_work.specs.declared.work.Work.{Work}
 use Rattle.eval_work.proofs.Later.{names_later, all_later, pairs_later, later_later}
 use Rattle.eval_meaning.specs.Calls.{own_value}
@@ -14,9 +14,7 @@ use Rattle.eval_steps.specs.Frames.{called_of}
 use Rattle.eval_steps.specs.Named.{CalledNamed}
 use Rattle.eval_steps.specs.Visiting.{with_item}
 use Rattle.eval_steps.specs.Loops.{element_turn, pair_turn}
-use Rattle.eval_steps.specs.Named.{IsTurnNamed, TurnsNamed}
-use Rattle.eval_steps.specs.Values.{MaybeNamed}
-use Rattle.eval_steps.specs.declared.loops.Turn.{Turn}
+use Rattle.eval_steps.specs.Named.{TurnsNamed}
 
 one_more : (c : Contents) (vs : List Value) (v : Value) → NamedAll c vs → Named c v → NamedAll c (vs ++ v ∷ [])
 one_more c [] v a h = (h, tt)
@@ -69,18 +67,6 @@ named_at c (y ∷ xs) (suc i) x h e = named_at c xs i x h.1 (e ∙ ap (λ k. x �
 
 -- ---- frames
 
--- a work in another frame
-pub fit_entered : (w new : Work) (this : Value) (locals : Pairs) (in_file : Bool) → new ≡ record w { this = this; locals = locals; in_file = in_file } → IsFit w → Named w.store this → PairsNamed w.store locals → IsFit new
-fit_entered w new this locals in_file e f h ps = subst IsFit (sym e) (record { this = h; locals = ps; bound = f.bound; globals = f.globals })
-
--- a work that is back in the frame that it had
-pub kept_back : (old mid new : Work) (v : Value) → new ≡ record mid { this = old.this; locals = old.locals; in_file = old.in_file } → IsFit old → IsFit mid → IsLater old.store mid.store → Named mid.store v → IsKept old new v
-kept_back old mid new v e f m l h = subst (λ w. IsKept old w v) (sym e) (record {
-  fit = record { this = names_later old.store mid.store old.this l f.this; locals = pairs_later old.store mid.store old.locals l f.locals; bound = m.bound; globals = m.globals };
-  later = l;
-  named = h;
-})
-
 -- ---- turns of a `for`
 
 pub elements_named : (c : Contents) (vs : List Value) → NamedAll c vs → TurnsNamed c (map element_turn vs)
@@ -90,17 +76,6 @@ elements_named c (v ∷ vs) h = (record { first = h.0; second = tt }, elements_n
 pub pairs_named : (c : Contents) (ps : Pairs) → PairsNamed c ps → TurnsNamed c (map pair_turn ps)
 pairs_named c [] h = tt
 pairs_named c (p ∷ ps) h = (record { first = tt; second = h.0 }, pairs_named c ps h.1)
-
-maybe_later : (old new : Contents) (o : Option Value) → IsLater old new → MaybeNamed old o → MaybeNamed new o
-maybe_later old new None l h = tt
-maybe_later old new (Some v) l h = names_later old new v l h
-
-turn_later : (old new : Contents) (t : Turn) → IsLater old new → IsTurnNamed old t → IsTurnNamed new t
-turn_later old new t l h = record { first = names_later old new t.first l h.first; second = maybe_later old new t.second l h.second }
-
-pub turns_later : (old new : Contents) (ts : List Turn) → IsLater old new → TurnsNamed old ts → TurnsNamed new ts
-turns_later old new [] l h = tt
-turns_later old new (t ∷ ts) l h = (turn_later old new t l h.0, turns_later old new ts l h.1)
 
 -- ---- calls
 

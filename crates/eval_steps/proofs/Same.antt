@@ -5,8 +5,6 @@ use Rattle.std.specs.Borrow.{Bor}
 use Rattle.site_base.specs.declared.place.Place.{Place}
 use Rattle.site_base.specs.declared.diag_kind.DiagKind.TheVariants.{Arity}
 use Rattle.dsl_syntax.specs.Syntax.{Expression, MaybeExpression, no_expression, some_expression, Statements, Uses, Function, function}
-use Rattle.dsl_syntax.specs.declared.bin_op.BinOp.{BinOp}
-use Rattle.dsl_syntax.specs.declared.bin_op.BinOp.TheVariants as bin
 use Rattle.dsl_value.specs.Pairs.{Pairs}
 use Rattle.dsl_value.specs.Contents.{PlainCell, array, dict, cell_at}
 use Rattle.dsl_value.specs.PlainStores.{Closure}
@@ -16,23 +14,19 @@ use Rattle.eval_meaning.specs.Registered.{PlainFile, PlainTemplate}
 use Rattle.eval_meaning.specs.Views.{View, template_in}
 use Rattle.eval_meaning.specs.States.{State, Outcome, gives, fault, ◌>>=◌, Task, load, item, rule}
 use Rattle.eval_meaning.specs.Parts.{Parts, place_of}
-use Rattle.eval_meaning.specs.Operators.{binary_with}
 use Rattle.eval_meaning.specs.Frames.{in_frame, first_locals, set_local}
-use Rattle.eval_meaning.specs.Flow.{block_with, var_with, return_with, throw_with, eval_with, for_values, for_pairs, for_cell, for_each, around, loop_end}
+use Rattle.eval_meaning.specs.Flow.{block_with, for_values, for_pairs, for_cell, for_each, around, loop_end}
 use Rattle.eval_meaning.specs.Functions.{used_with, apply_with, run_function, run_closure, bound}
-use Rattle.eval_meaning.specs.Calls.{called_with}
 use Rattle.eval_meaning.specs.Visits.{visits_by}
 use Rattle.eval_meaning.specs.Templates.{imported_by, run_template}
 use Rattle.eval_meaning.specs.Files.{run_file, files_with, include_by, with_order}
 use Rattle.eval_meaning.specs.Registration.{const_with, at_load, object_with, template_with, prefix_with, loading, loading_of, changed, name_by}
-use Rattle.eval_meaning.specs.declared.callee.Callee.{Callee}
-use Rattle.eval_meaning.specs.declared.callee.Callee.TheVariants as callee
 use Rattle.eval_meaning.specs.declared.flow.Flow.{Flow}
 use Rattle.eval_meaning.specs.declared.flow.Flow.TheVariants.{On}
 use Rattle.load_work.specs.Imports.{found_template, found_by}
 use Rattle.load_work.specs.Orders.{next_number, order_after}
-use Rattle.eval_steps.specs.Values.{maybe_value, or_named, right_with}
-use Rattle.eval_steps.specs.Frames.{called_of, called_by, prepared_by, closure_frame, frame_of, statements_in, in_call, in_import}
+use Rattle.eval_steps.specs.Values.{maybe_value, or_named}
+use Rattle.eval_steps.specs.Frames.{prepared_by, closure_frame, frame_of, statements_in, in_call, in_import}
 use Rattle.load_work.specs.Imports.{PlainImported}
 use Rattle.eval_steps.specs.Visiting.{visited_by, visit_over}
 use Rattle.eval_steps.specs.Finishing.{valued_with, finished}
@@ -44,28 +38,6 @@ use Rattle.eval_steps.proofs.Chains.{one_after, same_after, same_end}
 
 -- ---- operators
 
-pub binary_same : (ev : Parts) (l : Place) (o : BinOp) (a b : Expression) (s : State) → binary_with ev l o a b s ≡ (ev.value a s >>= λ x s1. right_with ev l o x b s1)
-binary_same ev l bin.And a b s = refl
-binary_same ev l bin.Or a b s = refl
-binary_same ev l bin.Mul a b s = refl
-binary_same ev l bin.Div a b s = refl
-binary_same ev l bin.Rem a b s = refl
-binary_same ev l bin.Add a b s = refl
-binary_same ev l bin.Sub a b s = refl
-binary_same ev l bin.ShiftLeft a b s = refl
-binary_same ev l bin.ShiftRight a b s = refl
-binary_same ev l bin.Less a b s = refl
-binary_same ev l bin.Greater a b s = refl
-binary_same ev l bin.LessEqual a b s = refl
-binary_same ev l bin.GreaterEqual a b s = refl
-binary_same ev l bin.In a b s = refl
-binary_same ev l bin.NotIn a b s = refl
-binary_same ev l bin.Equal a b s = refl
-binary_same ev l bin.NotEqual a b s = refl
-binary_same ev l bin.BitAnd a b s = refl
-binary_same ev l bin.BitXor a b s = refl
-binary_same ev l bin.BitOr a b s = refl
-
 -- ---- captures
 
 pub used_same : (ev : Parts) (l : Place) (n : List ℕ) (o : MaybeExpression) (s : State) → used_with ev l n o s ≡ (maybe_value ev o s >>= λ v s1. or_named l n v s1)
@@ -73,11 +45,6 @@ used_same ev l n no_expression s = refl
 used_same ev l n (some_expression e) s = sym (one_after (ev.value e s) (λ v s1. gives (Some v) s1) (λ v s1. or_named l n v s1) ∙ same_end (ev.value e s))
 
 -- ---- calls
-
-pub called_same : (view : View) (ev : Parts) (l : Place) (c : Callee) (vs : List Value) (s : State) → called_with view ev l c vs s ≡ called_by view ev l (called_of c) vs s
-called_same view ev l (callee.Value v this) vs s = refl
-called_same view ev l (callee.Function c) vs s = refl
-called_same view ev l (callee.Method c v) vs s = refl
 
 function_same : (ev : Parts) (l : Place) (f : Function) (captured : Pairs) (this : Value) (vs : List Value) (s : State) → run_function ev l f captured this vs s ≡ (frame_of l f captured vs s >>= in_call ev this)
 function_same ev l (function ps us b) captured this vs s = by (nat_eq (length ps) (length vs))
@@ -118,20 +85,6 @@ visits_same visit l (a ∷ value.Ref k ∷ w ∷ vs) s = refl
 visits_same visit l (a ∷ value.Func k ∷ w ∷ vs) s = refl
 
 -- ---- statements with a value
-
-pub var_same : (ev : Parts) (l : Place) (n : Bor (List ℕ)) (o : MaybeExpression) (s : State) → var_with ev n.now o s ≡ valued_with ev l (thens.Local n) o s
-var_same ev l n no_expression s = refl
-var_same ev l n (some_expression e) s = sym (one_after (ev.value e s) (λ v s1. gives (Some v) s1) (λ v s2. finished l (thens.Local n) v s2))
-
-pub return_same : (ev : Parts) (l : Place) (o : MaybeExpression) (s : State) → return_with ev o s ≡ valued_with ev l thens.Returned o s
-return_same ev l no_expression s = refl
-return_same ev l (some_expression e) s = sym (one_after (ev.value e s) (λ v s1. gives (Some v) s1) (λ v s2. finished l thens.Returned v s2))
-
-pub throw_same : (ev : Parts) (l : Place) (e : Expression) (s : State) → throw_with ev l e s ≡ valued_with ev l thens.Thrown (some_expression e) s
-throw_same ev l e s = sym (one_after (ev.value e s) (λ v s1. gives (Some v) s1) (λ v s2. finished l thens.Thrown v s2))
-
-pub eval_same : (ev : Parts) (l : Place) (e : Expression) (s : State) → eval_with ev e s ≡ valued_with ev l thens.Dropped (some_expression e) s
-eval_same ev l e s = sym (one_after (ev.value e s) (λ v s1. gives (Some v) s1) (λ v s2. finished l thens.Dropped v s2))
 
 pub const_same : (ev : Parts) (l : Place) (n : Bor (List ℕ)) (e : Expression) (s : State) → const_with ev l n.now e s ≡ valued_with ev l (thens.Constant n) (some_expression e) s
 const_same ev l n e s = same_after (at_load l s) _ _ (λ u s1. sym (one_after (ev.value e s1) (λ v s2. gives (Some v) s2) (λ v s2. finished l (thens.Constant n) v s2)))

@@ -3,7 +3,7 @@ use Rattle.std.proofs.Common.{◌≡◌, ℕ, suc, Bool, true, false, cond, Opti
 use Rattle.std.specs.Bool.{beq}
 use Rattle.site_base.specs.declared.place.Place.{Place}
 use Rattle.dsl_syntax.specs.Syntax.{Expression, MaybeExpression, Statements}
-use Rattle.dsl_syntax.specs.SyntaxView.{expr_view, exprs_view, entries_view, uses_view, arms_view, stmt_view, stmts_view, steps_view, step_view, step_then, maybe_expr_view}
+use Rattle.dsl_syntax.specs.SyntaxView.{expr_view, exprs_view, entries_view, uses_view, arms_view, stmts_view, steps_view, step_view, step_then, maybe_expr_view}
 use Rattle.dsl_syntax.specs.declared.arm.Arm.{Arm}
 use Rattle.dsl_syntax.specs.declared.expr.Expr.{Expr}
 use Rattle.dsl_syntax.specs.declared.expr_kind.ExprKind.TheBlock.{Step::Member, Step::Index'}
@@ -11,7 +11,7 @@ use Rattle.dsl_syntax.specs.declared.expr_kind.ExprKind.TheViews.{out-Use, out-A
 use Rattle.dsl_syntax.specs.declared.step.Step.{Step}
 use Rattle.dsl_syntax.specs.declared.stmt.Stmt.{Stmt}
 use Rattle.dsl_syntax.specs.declared.used.Use.{Use}
-use Rattle.dsl_syntax.proofs.SyntaxLists.{exprs_turn, entries_turn, uses_turn, steps_turn, arms_turn, stmts_turn}
+use Rattle.dsl_syntax.proofs.SyntaxLists.{exprs_turn, entries_turn, uses_turn, steps_turn, arms_turn}
 use Rattle.dsl_value.specs.Pairs.{Pairs, put}
 use Rattle.dsl_value.specs.declared.value.Value.{Value}
 use Rattle.dsl_value.specs.declared.value.Value.TheVariants as value
@@ -23,7 +23,7 @@ use Rattle.eval_meaning.specs.Literals.{values_with, pairs_with}
 use Rattle.eval_meaning.specs.Functions.{captured_with, used_with, apply_with}
 use Rattle.eval_meaning.specs.Targets.{keys_with}
 use Rattle.eval_meaning.specs.Visits.{mapped, filtered, found}
-use Rattle.eval_meaning.specs.Flow.{block_with, statement_with, onward, arms_with, turn_with, turns_with, around, loop_end}
+use Rattle.eval_meaning.specs.Flow.{block_with, arms_with, turn_with, turns_with, around, loop_end}
 use Rattle.eval_meaning.specs.Files.{files_with, file_with}
 use Rattle.eval_meaning.specs.Registration.{loading}
 use Rattle.eval_meaning.specs.declared.flow.Flow.{Flow}
@@ -92,9 +92,6 @@ key_turn_of ev (Step::Index' l k) more ks s = refl
 pub keys_turn : (ev : Parts) (ss : List Step) (i : ℕ) (t : Step) (ks : List Value) (s : State) → drop i ss ≡ t ∷ drop (i + 1) ss → keys_with ev (steps_view (drop i ss)) ks s ≡ (key_with ev (step_view t) s >>= λ k s1. keys_with ev (steps_view (drop (i + 1) ss)) (ks ++ k ∷ []) s1)
 keys_turn ev ss i t ks s here = ap (λ x. keys_with ev x ks s) (steps_turn ss i t here) ∙ key_turn_of ev t (drop (i + 1) ss) ks s
 
-pub block_turn : (ev : Parts) (ss : List Stmt) (i : ℕ) (x : Stmt) (s : State) → drop i ss ≡ x ∷ drop (i + 1) ss → block_with ev (stmts_view (drop i ss)) s ≡ (statement_with ev (stmt_view x) s >>= λ f s1. onward f (block_with ev (stmts_view (drop (i + 1) ss))) s1)
-block_turn ev ss i x s here = ap (λ l. block_with ev l s) (stmts_turn ss i x here)
-
 -- the arms that are left, once the condition of one is evaluated
 abbrev pub arm_next : Parts → List Arm → ℕ → Arm → Statements → Value → State → Outcome Flow
 arm_next ev arms i a other v s1 = cond (holds s1 v) (block_with ev (stmts_view (out-Arm a).block.items) s1) (arms_with ev (arms_view (drop (i + 1) arms)) other s1)
@@ -109,16 +106,10 @@ arm_turn ev arms i a other s here =
     ap (λ x. arms_with ev x other s) (arms_turn arms i a here)
     ∙ truth_then (ev.value (expr_view (out-Arm a).cond) s) (λ t s1. cond t (block_with ev (stmts_view (out-Arm a).block.items) s1) (arms_with ev (arms_view (drop (i + 1) arms)) other s1))
 
-pub truth_turn : (ev : Parts) (e : Expression) (b : Statements) (s : State) → turn_with ev e b s ≡ (ev.value e s >>= λ v s1. cond (holds s1 v) (block_with ev b s1 >>= λ f s2. gives (loop_end f) s2) (gives (Some flows.On) s1))
-truth_turn ev e b s = truth_then (ev.value e s) (λ t s1. cond t (block_with ev b s1 >>= λ f s2. gives (loop_end f) s2) (gives (Some flows.On) s1))
-
 -- ---- what a name captures
 
 pub used_gives : (ev : Parts) (l : Place) (n : List ℕ) (o : MaybeExpression) (s s1 s2 : State) (w : Option Value) (v : Value) → maybe_value ev o s ≡ gives w s1 → or_named l n w s1 ≡ gives v s2 → used_with ev l n o s ≡ gives v s2
 used_gives ev l n o s s1 s2 w v e h = used_same ev l n o s ∙ ap (λ p. p >>= λ x t. or_named l n x t) e ∙ h
-
-pub used_stops : {X Y : Type 0} (view : X → Option Value) (last : Y → Value) (ev : Parts) (l : Place) (n : List ℕ) (o : MaybeExpression) (s new : State) (x : Stop) → Gives {X = X} {Y = Option Value} view (Err x) new (maybe_value ev o s) → Gives {X = Y} {Y = Value} last (Err x) new (used_with ev l n o s)
-used_stops view last ev l n o s new x h = subst (λ p. Gives {X = _} {Y = _} last (Err x) new p) (sym (used_same ev l n o s)) (err_then view last (λ v s1. or_named l n v s1) (maybe_value ev o s) new x h)
 
 pub used_stops_behind : {Y : Type 0} (last : Y → Value) (ev : Parts) (l : Place) (n : List ℕ) (o : MaybeExpression) (s s1 new : State) (w : Option Value) (x : Stop) → maybe_value ev o s ≡ gives w s1 → Gives {X = Y} {Y = Value} last (Err x) new (or_named l n w s1) → Gives {X = Y} {Y = Value} last (Err x) new (used_with ev l n o s)
 used_stops_behind last ev l n o s s1 new w x e h = subst (λ p. Gives {X = _} {Y = _} last (Err x) new p) (sym (used_same ev l n o s ∙ ap (λ p. p >>= λ x t. or_named l n x t) e)) h
@@ -133,9 +124,6 @@ filtered_turn ev l f xs i x vs s here = ap (λ ys. filtered ev l f ys vs s) here
 
 abbrev pub found_next : Parts → Place → Bool → Value → List Value → ℕ → Value → State → Outcome Bool
 found_next ev l wanted f xs i w s1 = cond (beq (holds s1 w) wanted) (gives true s1) (found ev l wanted f (drop (i + 1) xs) s1)
-
-pub found_turn : (ev : Parts) (l : Place) (wanted : Bool) (f : Value) (xs : List Value) (i : ℕ) (x : Value) (s : State) → drop i xs ≡ x ∷ drop (i + 1) xs → found ev l wanted f (drop i xs) s ≡ (apply_with ev l f s.this (x ∷ []) s >>= found_next ev l wanted f xs i)
-found_turn ev l wanted f xs i x s here = ap (λ ys. found ev l wanted f ys s) here
 
 -- ---- turns of loops
 

@@ -88,17 +88,11 @@ fit_later old new f l this locals task = record {
 pub still_later : (old new : Work) → IsFit old → IsLater old.store new.store → new.this ≡ old.this → new.locals ≡ old.locals → new.task ≡ old.task → IsStill old new
 still_later old new f l this locals task = record { fit = fit_later old new f l this locals task; later = l }
 
-pub still_same : (old new : Work) → IsFit old → new.store ≡ old.store → new.this ≡ old.this → new.locals ≡ old.locals → new.task ≡ old.task → IsStill old new
-still_same old new f e this locals task = still_later old new f (same_later old.store new.store e) this locals task
-
 pub still_grown : (n : ℕ) (old new : Work) → IsFit old → Grows n old.store new.store → new.this ≡ old.this → new.locals ≡ old.locals → new.task ≡ old.task → IsStill old new
 still_grown n old new f g this locals task = still_later old new f (grows_later n old.store new.store f.globals g) this locals task
 
 pub still_on : (a b c : Work) → IsStill a b → IsStill b c → IsStill a c
 still_on a b c l m = record { fit = m.fit; later = later_later a.store b.store c.store l.later m.later }
-
-pub kept_on : (a b c : Work) (v : Value) → IsLater a.store b.store → IsKept b c v → IsKept a c v
-kept_on a b c v l k = record { fit = k.fit; later = later_later a.store b.store c.store l k.later; named = k.named }
 
 pub kept_same : (w : Work) (v : Value) → IsFit w → Named w.store v → IsKept w w v
 kept_same w v f n = record { fit = f; later = same_later w.store w.store refl; named = n }

@@ -1,5 +1,5 @@
 -- The fields of a command, both ways.
-use Rattle.std.proofs.Common.{◌≡◌, ◌<◌, ◌-◌, ℕ, zero, suc, Bool, true, false, List, [], ◌∷◌, ◌++◌, length, is_some, refl, sym, ap, ◌∙◌, subst, arith, append_assoc, ◌≤◌, Option, Some, None, lit<, option_map}
+use Rattle.std.proofs.Common.{◌≡◌, ◌<◌, ◌-◌, ℕ, zero, suc, Bool, true, false, List, [], ◌∷◌, ◌++◌, length, refl, sym, ap, ◌∙◌, subst, arith, append_assoc, Option, Some, None, lit<, option_map}
 use Rattle.event_text.specs.Cuts.{IsCut, Cut, cut, uncut, cut_at}
 use Rattle.event_text.specs.Fields.{semicolon, IsLast, AreFields, only_field, last_field, first_field, fields_in}
 use Rattle.event_text.proofs.CutLaws.{cut_sound, cut_complete, uncut_sound, uncut_complete}
@@ -73,26 +73,3 @@ fields_next t n rest front behind done lt e =
 -- too few
 pub fields_lack : (t : Bool) (n : ℕ) (rest : List ℕ) (done : List (List ℕ)) → 1 < n → cut_at semicolon rest ≡ uncut → None ≡ option_map (λ fs. done ++ fs) (fields_in t n rest)
 fields_lack t n rest done lt e = sym (ap (option_map (λ fs. done ++ fs)) (fields_more t n rest lt ∙ ap (first_field (λ more. fields_in t (n - 1) more)) e))
-
--- the last one
-pub fields_end : (t : Bool) (n : ℕ) (rest : List ℕ) (done : List (List ℕ)) → 0 < n → n ≤ 1 → is_some (last_field t rest) ≡ true → Some (done ++ rest ∷ []) ≡ option_map (λ fs. done ++ fs) (fields_in t n rest)
-fields_end t zero rest done some few h = absurd (omega arith)
-fields_end t (suc zero) rest done some few h = ap (option_map (λ fs. done ++ fs)) (by t h)
-  where
-    cut_by : (r : Cut) → is_some (only_field rest r) ≡ true → Some (rest ∷ []) ≡ only_field rest r
-    cut_by uncut h = refl
-    cut_by (cut f b) h = cc
-
-    by : (t : Bool) → is_some (last_field t rest) ≡ true → Some (rest ∷ []) ≡ last_field t rest
-    by true h = refl
-    by false h = cut_by (cut_at semicolon rest) h
-fields_end t (suc (suc n)) rest done some few h = absurd (omega arith)
-
-pub fields_past : (t : Bool) (n : ℕ) (rest : List ℕ) (done : List (List ℕ)) → 0 < n → n ≤ 1 → is_some (last_field t rest) ≡ false → None ≡ option_map (λ fs. done ++ fs) (fields_in t n rest)
-fields_past t zero rest done some few h = absurd (omega arith)
-fields_past t (suc zero) rest done some few h = ap (option_map (λ fs. done ++ fs)) (by (last_field t rest) h)
-  where
-    by : (r : Option (List (List ℕ))) → is_some r ≡ false → None ≡ r
-    by None h = refl
-    by (Some fs) h = cc
-fields_past t (suc (suc n)) rest done some few h = absurd (omega arith)

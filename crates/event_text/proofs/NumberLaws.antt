@@ -1,5 +1,5 @@
 -- Moments and numbers, both ways.
-use Rattle.std.proofs.Common.{◌≡◌, ℕ, ◌<◌, ◌≤◌, Bool, true, false, cond, ◌&&◌, nat_le, List, [], ◌∷◌, ◌++◌, length, option_map, append_assoc, sym, refl, ap, ap₂, subst, ◌∙◌, arith, Option, Some, None, Result, Ok, Err, IfOk, IfSome, Vec, Global}
+use Rattle.std.proofs.Common.{◌≡◌, ℕ, ◌<◌, ◌≤◌, Bool, true, false, cond, ◌&&◌, nat_le, List, [], ◌∷◌, length, sym, refl, ap, ap₂, subst, ◌∙◌, arith, Option, Some, None, Result, Ok, Err, IfOk, IfSome, Vec, Global}
 use Rattle.std.proofs.lemmas.Bool.Decides.{nat_tests}
 use Rattle.std.specs.Char.{is_ascii_digit, digit_value}
 use Rattle.std.specs.List.{list_all}
@@ -72,14 +72,6 @@ number_complete l text n h =
     ap (λ t. cond (t && nat_le (digits_value 10 text) l.most) (Some (digits_value 10 text)) None) (is_number_found l.digits text h.number)
     ∙ (ap (λ t. cond t (Some (digits_value 10 text)) None) low ∙ ap Some h.value)
 
--- a text that isn't a number, or is too great
-pub number_none : (l : Limit) (text : List ℕ) → ((n : ℕ) → IsNumberWithin l text n → ⊥) → number_in l text ≡ None
-number_none l text h = by (number_in l text) refl
-  where
-    by : (r : Option ℕ) → number_in l text ≡ r → number_in l text ≡ None
-    by None e = e
-    by (Some n) e = absurd (h n (number_sound l text n e))
-
 -- several of them
 pub numbers_sound : (ls : List Limit) (ts : List (List ℕ)) (ns : List ℕ) → numbers_in ls ts ≡ Some ns → AreNumbers ls ts ns
 numbers_sound [] ts ns e = let is : [] ≡ ns = cc in subst (λ n. AreNumbers [] ts n) is tt
@@ -118,15 +110,6 @@ all_within (l ∷ ls) (t ∷ ts) (n ∷ ns) h = (h.0.within, all_within ls ts ns
 
 pub numbers_within : (ls : List Limit) (ts : List (List ℕ)) (ns : List ℕ) → numbers_in ls ts ≡ Some ns → AreWithin ls ns
 numbers_within ls ts ns e = all_within ls ts ns (numbers_sound ls ts ns e)
-
--- one number more of those that are read
-pub numbers_next : (done : List ℕ) (l : Limit) (ls : List Limit) (t : List ℕ) (ts : List (List ℕ)) (n : ℕ) → number_in l t ≡ Some n
-    → option_map (λ ns. (done ++ n ∷ []) ++ ns) (numbers_in ls ts) ≡ option_map (λ ns. done ++ ns) (numbers_in (l ∷ ls) (t ∷ ts))
-numbers_next done l ls t ts n e = by (numbers_in ls ts) ∙ sym (ap (λ q. option_map (λ ns. done ++ ns) (before q (numbers_in ls ts))) e)
-  where
-    by : (r : Option (List ℕ)) → option_map (λ ns. (done ++ n ∷ []) ++ ns) r ≡ option_map (λ ns. done ++ ns) (option_map (λ more. n ∷ more) r)
-    by None = refl
-    by (Some ns) = ap Some (append_assoc done (n ∷ []) ns)
 
 -- the same of what a call gave
 pub within_ok : {E : Type 0} (ls : List Limit) (ts : List (List ℕ)) (r : Result (Option (Vec ℕ Global)) E) → IfOk r (λ ns. numbers_view ns ≡ numbers_in ls ts) → IfOk r (λ ns. IfSome ns (λ v. AreWithin ls v.items))

@@ -66,17 +66,3 @@ users_end names front count i bytes total lt blank so_far =
     sym so_far
     ∙ (users_one names front count i bytes lt
     ∙ (ap (λ r. users_step (users_within (count - (i + 1)) names) names bytes r >>= with_front front) blank ∙ ap (λ us. Some (us, bytes)) (append-nil front)))
-
-pub users_fail : (e : EntryError) (names : List (List ℕ)) (front : List ℕ) (count i : ℕ) (bytes more : List ℕ) (total : Front (List ℕ)) → i < count → behind (32 ∷ 34 ∷ []) bytes ≡ Some more → Fails e (name_at names (drop 1 bytes))
-    → (users_within (count - i) names bytes >>= with_front front) ≡ total → Fails e total
-users_fail error.OutOfMemory names front count i bytes more total lt blank h so_far = tt
-users_fail error.BadLine names front count i bytes more total lt blank h so_far =
-    let again : List ℕ → Front (List ℕ) = users_within (count - (i + 1)) names in
-    sym so_far
-    ∙ (users_one names front count i bytes lt
-    ∙ (ap (λ r. users_step again names bytes r >>= with_front front) blank ∙ ap (λ r. (r >>= λ user. again user.1 >>= with_first user.0) >>= with_front front) h))
-
-pub no_users_left : (names : List (List ℕ)) (front : List ℕ) (count i : ℕ) (bytes : List ℕ) (total : Front (List ℕ)) → count ≤ i → (users_within (count - i) names bytes >>= with_front front) ≡ total → total ≡ None
-no_users_left names front count i bytes total le so_far =
-    let none : count - i ≡ 0 = omega arith in
-    sym so_far ∙ ap (λ n. users_within n names bytes >>= with_front front) none

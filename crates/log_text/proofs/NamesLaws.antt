@@ -1,5 +1,5 @@
 -- Names that are added one after another.
-use Rattle.std.proofs.Common.{◌≡◌, ℕ, suc, ◌+◌, ◌<◌, ◌≤◌, ◌||◌, Bool, true, false, cond, List, [], ◌∷◌, ◌++◌, length, map, get_or, take, refl, sym, ap, ◌∙◌, arith}
+use Rattle.std.proofs.Common.{◌≡◌, ℕ, suc, ◌+◌, ◌<◌, ◌||◌, Bool, true, false, cond, List, [], ◌∷◌, ◌++◌, length, map, get_or, take, refl, sym, ap, ◌∙◌, arith}
 use Rattle.std.proofs.lemmas.List.{get_or-map, get_or-take, length-map, length-take, take_more}
 use Rattle.std.proofs.lemmas.Slice.Eq.{bytes_eq-Decides}
 use Rattle.std.specs.List.{list_any}
@@ -27,6 +27,3 @@ names_more f xs i x apart inside at =
     let before : j < i = omega (arith, length-take i ms) in
     apart j i name before within (sym (get_or-take i ms j name before) ∙ (e ∙ sym here))) in
     ap (λ t. cond t (take i ms) (take i ms ++ name ∷ [])) fresh ∙ (ap (λ n. take i ms ++ n ∷ []) (sym here) ∙ sym (take_more ms i name within))
-
-pub few_names : {X : Type 0} (f : X → List ℕ) (xs : List X) (i : ℕ) → length (take i (map f xs)) ≤ i
-few_names f xs i = omega (arith, length-take i (map f xs))

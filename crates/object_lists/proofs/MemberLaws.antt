@@ -174,12 +174,6 @@ user_step kept more users i o groups all inside same is each so_far =
           ∙ so_far.whole;
     }
 
-pub no_members : (kept : Members) → kept.names ≡ [] → kept.lists.items ≡ [] → AreMembers [] kept
-no_members kept names lists = record {
-  level = ap length lists ∙ sym (ap length names);
-  lists = λ k. ap (λ ns. list_under ns kept.lists.items k) names ∙ ap (λ ls. list_under [] ls k) lists;
-}
-
 -- the list of a place
 pub list_there : (ls : List (List ℕ)) (k : ℕ) (d : List ℕ) → k < length ls → get_or ls k d ≡ list_at ls k
 list_there [] k d h = absurd (omega arith)

@@ -8,10 +8,6 @@ use Rattle.site_model.specs.declared.object.Object.{Object}
 use Rattle.object_lists.specs.Listed.{lent_view}
 use Rattle.object_lists.specs.Periods.{own_spans}
 
--- each period has its spans
-pub own_inside : (ps : List (Bor Object)) (own : List (List DaySpan)) → own ≡ map own_spans (lent_view ps) → length own ≡ length ps
-own_inside ps own is = ap length is ∙ length-map (lent_view ps) own_spans ∙ length-map ps (λ (o : Bor Object). object_view o.now)
-
 pub own_at : (ps : List (Bor Object)) (own : List (List DaySpan)) (i : ℕ) (p : Bor Object) (spans : List DaySpan) → own ≡ map own_spans (lent_view ps) → i < length ps → p ≡ get_or ps i p → spans ≡ get_or own i spans
     → spans ≡ own_spans (object_view p.now)
 own_at ps own i p spans is inside here there =

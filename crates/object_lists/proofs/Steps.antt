@@ -1,5 +1,5 @@
 -- One step of a loop over a list: what stands so far, followed by what the rest gives, is all.
-use Rattle.std.proofs.Common.{◌≡◌, ℕ, ◌+◌, ◌<◌, ◌≤◌, List, [], ◌∷◌, ◌++◌, length, map, drop, get_or, Option, Some, None, refl, sym, ap, ◌∙◌, append_assoc, append-nil}
+use Rattle.std.proofs.Common.{◌≡◌, ℕ, ◌+◌, ◌<◌, ◌≤◌, List, ◌∷◌, ◌++◌, length, map, drop, get_or, Option, Some, None, refl, sym, ap, ◌∙◌, append_assoc, append-nil}
 use Rattle.std.specs.List.{cons_option, flat_map}
 use Rattle.std.proofs.lemmas.List.{drop_all, drop_more}
 use Rattle.site_base.specs.Data.{Data}
@@ -18,14 +18,6 @@ flat_step f v xs i x was now all inside same grown so_far =
     ap (λ ys. ys ++ flat_map f (map v (drop (i + 1) xs))) grown
     ∙ append_assoc was (f (v x)) (flat_map f (map v (drop (i + 1) xs)))
     ∙ sym (ap (λ ys. was ++ flat_map f (map v ys)) (next xs i x inside same))
-    ∙ so_far
-
-pub map_step : {A B C : Type 0} (f : B → C) (v : A → B) (xs : List A) (i : ℕ) (x : A) (was now all : List C) → i < length xs → x ≡ get_or xs i x
-    → now ≡ was ++ f (v x) ∷ [] → was ++ map f (map v (drop i xs)) ≡ all → now ++ map f (map v (drop (i + 1) xs)) ≡ all
-map_step f v xs i x was now all inside same grown so_far =
-    ap (λ ys. ys ++ map f (map v (drop (i + 1) xs))) grown
-    ∙ append_assoc was (f (v x) ∷ []) (map f (map v (drop (i + 1) xs)))
-    ∙ sym (ap (λ ys. was ++ map f (map v ys)) (next xs i x inside same))
     ∙ so_far
 
 pub some_first : {C : Type 0} (f : List ℕ → List C) (n : Option (List ℕ)) (ns : List (List ℕ)) → flat_map f (cons_option n ns) ≡ at_some f n ++ flat_map f ns

@@ -1,5 +1,5 @@
 -- The order that a walk makes, stretch by stretch.
-use Rattle.std.proofs.Common.{◌≡◌, ℕ, zero, suc, ◌+◌, ◌-◌, ◌<◌, ◌≤◌, Bool, true, false, cond, List, [], ◌∷◌, ◌++◌, length, map, set, get_or, slice_get, Option, Some, None, refl, sym, ap, subst, ◌∙◌, arith, length-append, append_assoc, append-nil}
+use Rattle.std.proofs.Common.{◌≡◌, ℕ, zero, suc, ◌+◌, ◌-◌, ◌<◌, ◌≤◌, Bool, false, cond, List, [], ◌∷◌, ◌++◌, length, map, set, get_or, slice_get, Option, Some, None, refl, sym, ap, subst, ◌∙◌, arith, length-append, append_assoc, append-nil}
 use Rattle.std.specs.Option.{option_map}
 use Rattle.std.proofs.lemmas.List.{set_at, get_or_append_left}
 use Rattle.std.proofs.lemmas.Option.{slice_get_within, slice_get-map, slice_get-get_or, get_or_from_slice_get}
@@ -60,12 +60,6 @@ inclusions_later a b g left n order h = many_so (IsInclusion (IsPart a left)) (I
 
 -- Files and inclusions one after another.
 
-pub no_files : (left : ℕ) (s : WalkState) → IsSound s → IsWalked (some_files left 0) s s
-no_files left s h = record { sound = h; more = omega arith; trees = ([], sym (append-nil s.trees)); clear = λ c. c; added = λ _. ([], sym (append-nil s.order), refl) }
-
-pub no_inclusions : (left : ℕ) (s : WalkState) → IsSound s → IsWalked (some_inclusions left 0) s s
-no_inclusions left s h = record { sound = h; more = omega arith; trees = ([], sym (append-nil s.trees)); clear = λ c. c; added = λ _. ([], sym (append-nil s.order), refl) }
-
 longer_by : (s t u : WalkState) (a b : List ℕ) → t.order ≡ s.order ++ a → u.order ≡ t.order ++ b → u.order ≡ s.order ++ (a ++ b)
 longer_by s t u a b e f = f ∙ ap (λ l. l ++ b) e ∙ append_assoc s.order a b
 
@@ -95,9 +89,6 @@ inclusions_on left n m s t u e g h = subst (λ k. IsWalked (some_inclusions left
 
 -- One inclusion.
 
-pub ended_inclusion : (left : ℕ) (s : WalkState) → s.ended ≡ true → IsSound s → IsWalked (an_inclusion left) s s
-ended_inclusion left s e h = record { sound = h; more = omega arith; trees = ([], sym (append-nil s.trees)); clear = λ c. c; added = λ c. absurd (h.ended e c) }
-
 pub inclusion_walked : (left n : ℕ) (s t u : WalkState) → t ≡ with_number n s → IsSound s → IsWalked (some_files left n) t u → IsWalked (an_inclusion left) s u
 inclusion_walked left n s t u e h g =
     let first : IsLater s t = number_later n s t e h in
@@ -110,9 +101,6 @@ inclusion_walked left n s t u e h g =
     }
 
 -- One file.
-
-pub no_file : (left : ℕ) (s t : WalkState) → IsFound s t None → IsWalked (a_file left) s t
-no_file left s t f = record { sound = f.later.sound; more = f.later.more; trees = f.later.trees; clear = f.later.clear; added = λ c. absurd (f.added c) }
 
 pub file_found : (left index : ℕ) (s t u : WalkState) → 0 < left → IsFound s t (Some index) → IsWalked (a_part (left - 1) index) t u → IsWalked (a_file left) s u
 file_found zero index s t u l f g = absurd (omega (arith, l))

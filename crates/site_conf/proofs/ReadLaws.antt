@@ -5,26 +5,17 @@ use Rattle.std.specs.Str.{bytes_eq}
 use Rattle.std.proofs.lemmas.List.{append_cancel_right}
 use Rattle.std.proofs.lemmas.Slice.Eq.{bytes_eq-Decides}
 use Rattle.site_base.specs.declared.diag_kind.DiagKind.{DiagKind}
-use Rattle.site_base.specs.declared.diag_kind.DiagKind.TheVariants as kind
 use Rattle.site_base.specs.declared.place.Place.{Place}
 use Rattle.site_edge.specs.Lists.{Adds}
 use Rattle.conf_sources.specs.Reading.{Kept}
 use Rattle.site_conf.specs.Reads.{file_names, HaveRead, flagged_as, IsReadOnce}
 use Rattle.conf_sources.specs.Sources.{file_name, full_name, is_library, same_source}
 use Rattle.site_conf.specs.Sound.{IsSound}
-use Rattle.site_conf.specs.Views.{IsEntered}
-use Rattle.site_conf.specs.Walks.{WalkState, empty_state, stays, with_number, with_length, with_fault, with_count, with_end, with_kept, settled}
-use Rattle.conf_sources.specs.declared.holding.Holding.{Holding}
-use Rattle.conf_sources.specs.declared.holding.Holding.TheVariants.{Missing, TooLong, Broken, Whole}
+use Rattle.site_conf.specs.Walks.{WalkState, with_number, with_fault, with_kept}
 use Rattle.conf_sources.specs.declared.source.Source.{Source}
 use Rattle.conf_sources.specs.declared.source.Source.TheVariants.{File, Library}
-use Rattle.site_conf.proofs.SoundLaws.{stays_is, follows_is}
 
 -- What is added to a list that is told.
-
-pub nothing_added : {A : Type 0} (o : Option (List A)) → Adds [] o o
-nothing_added None = refl
-nothing_added (Some xs) = ap Some (sym (append-nil xs))
 
 adds_on : {A : Type 0} (a b : List A) (o p q : Option (List A)) → Adds a o p → Adds b p q → Adds (a ++ b) o q
 adds_on a b None p q e f = subst (λ x. Adds b x q) e f
@@ -36,9 +27,6 @@ names_more : (ss : List Source) (s : Source) → file_names (ss ++ s ∷ []) ≡
 names_more [] s = append-nil (file_name s)
 names_more (t ∷ ss) s = ap (λ l. file_name t ++ l) (names_more ss s) ∙ sym (append_assoc (file_name t) (file_names ss) (file_name s))
 
-pub nothing_read : (before : Option (List (List ℕ))) (s : WalkState) → s ≡ empty_state → HaveRead before s before
-nothing_read before s e = subst (λ x. HaveRead before x before) (sym e) (record { added = nothing_added before })
-
 pub read_more : (before a b : Option (List (List ℕ))) (source : Source) (k : Kept) (s t : WalkState) → t ≡ with_kept source k s → HaveRead before s a → Adds (file_name source) a b → HaveRead before t b
 read_more before a b source k s t e h f =
     subst (λ x. HaveRead before x b) (sym e) (record { added = subst (λ l. Adds l before b) (sym (names_more s.sources source)) (adds_on (file_names s.sources) (file_name source) before a b h.added f) })
@@ -47,28 +35,8 @@ read_more before a b source k s t e h f =
 pub number_read : (before now : Option (List (List ℕ))) (n : ℕ) (s t : WalkState) → t ≡ with_number n s → HaveRead before s now → HaveRead before t now
 number_read before now n s t e h = subst (λ x. HaveRead before x now) (sym e) (record { added = h.added })
 
-pub length_read : (before now : Option (List (List ℕ))) (start : ℕ) (s t : WalkState) → t ≡ with_length start s → HaveRead before s now → HaveRead before t now
-length_read before now start s t e h = subst (λ x. HaveRead before x now) (sym e) (record { added = h.added })
-
 pub fault_read : (before now : Option (List (List ℕ))) (at : Place) (k : DiagKind) (name : List ℕ) (s t : WalkState) → t ≡ with_fault at k name s → HaveRead before s now → HaveRead before t now
 fault_read before now at k name s t e h = subst (λ x. HaveRead before x now) (sym e) (record { added = h.added })
-
-pub end_read : (before now : Option (List (List ℕ))) (s : WalkState) → HaveRead before s now → HaveRead before (with_end s) now
-end_read before now s h = record { added = h.added }
-
-pub count_read : (before now : Option (List (List ℕ))) (s : WalkState) → HaveRead before s now → HaveRead before (with_count s) now
-count_read before now s h = record { added = h.added }
-
-stay_read : (before now : Option (List (List ℕ))) (s u t : WalkState) (found : Option ℕ) → u.sources ≡ s.sources → IsEntered (stays u) t found → HaveRead before s now → HaveRead before t now
-stay_read before now s u t found es e h = subst (λ x. HaveRead before x now) (sym (stays_is u t found e).1) (record { added = subst (λ l. Adds (file_names l) before now) (sym es) h.added })
-
-pub settled_read : (before now : Option (List (List ℕ))) (at : Place) (name : List ℕ) (index : ℕ) (o : Option Holding) (s t : WalkState) (found : Option ℕ) → IsEntered (settled at name index o s) t found → HaveRead before s now
-    → HaveRead before t now
-settled_read before now at name index (Some Missing) s t found e h = stay_read before now s (with_fault at kind.NoFile name s) t found refl e h
-settled_read before now at name index (Some TooLong) s t found e h = stay_read before now s (with_fault at kind.FileTooLong name s) t found refl e h
-settled_read before now at name index (Some Broken) s t found e h = stay_read before now s s t found refl e h
-settled_read before now at name index None s t found e h = stay_read before now s s t found refl e h
-settled_read before now at name index (Some Whole) s t found e h = number_read before now index s t (follows_is (with_number index s) t index found e).1 h
 
 -- Files and parts of the library by their names.
 

@@ -21,7 +21,7 @@ use Rattle.conf_sources.specs.Reading.{Kept, diag_at, in_file, kept_none, kept_f
 use Rattle.conf_sources.specs.Sources.{full_name, is_library, source_at, same_source}
 use Rattle.site_conf.specs.Sound.{AreIn, IsClear, IsSound, Grows, IsLater, IsOneMore, IsAdded, IsFound, MayStand}
 use Rattle.site_conf.specs.Views.{IsEntered}
-use Rattle.site_conf.specs.Walks.{WalkState, empty_state, Entered, follows, stays, with_number, with_length, with_fault, with_count, with_end, with_kept, settled}
+use Rattle.site_conf.specs.Walks.{WalkState, empty_state, Entered, follows, stays, with_number, with_length, with_fault, with_kept, settled}
 use Rattle.conf_sources.specs.declared.holding.Holding.{Holding}
 use Rattle.conf_sources.specs.declared.holding.Holding.TheVariants.{Missing, TooLong, Broken, Whole}
 use Rattle.conf_sources.specs.declared.source.Source.{Source}
@@ -187,9 +187,6 @@ same_sound s order count h = record {
 pub number_later : (n : ℕ) (s t : WalkState) → t ≡ with_number n s → IsSound s → IsLater s t
 number_later n s t e h = subst (λ x. IsLater s x) (sym e) (record { sound = same_sound s (s.order ++ n ∷ []) s.count h; more = omega arith; trees = no_growth s.trees; clear = λ c. c })
 
-pub count_sound : (s : WalkState) → IsSound s → IsSound (with_count s)
-count_sound s h = same_sound s s.order (s.count + 1) h
-
 fault_sound : (at : Place) (k : DiagKind) (name : List ℕ) (ended : Bool) (s : WalkState) → IsSound s → at.file < length s.names → IsSound (record (with_fault at k name s) { ended = ended })
 fault_sound at k name ended s h l = record {
   library = h.library;
@@ -216,23 +213,6 @@ fault_by at k name ended s h l = record {
   met = tt;
   added = λ c. one_more s.diags (diag_at at k (quoted name)) c;
 }
-
-pub fault_found : (at : Place) (k : DiagKind) (name : List ℕ) (s t : WalkState) → t ≡ with_fault at k name s → IsSound s → at.file < length s.names → IsFound s t None
-fault_found at k name s t e h l = subst (λ x. IsFound s x None) (sym e) (fault_by at k name s.ended s h l)
-
-pub end_found : (at : Place) (k : DiagKind) (name : List ℕ) (s t : WalkState) → t ≡ with_fault at k name s → IsSound s → at.file < length s.names → IsFound s (with_end t) None
-end_found at k name s t e h l = subst (λ x. IsFound s (with_end x) None) (sym e) (fault_by at k name true s h l)
-
--- nor where the walk has ended
-pub ended_found : (s : WalkState) → s.ended ≡ true → IsSound s → IsFound s s None
-ended_found s e h = record { later = record { sound = h; more = omega arith; trees = no_growth s.trees; clear = λ c. c }; met = tt; added = λ c. h.ended e c }
-
-pub counted_found : (s t : WalkState) (found : Option ℕ) → IsFound (with_count s) t found → IsFound s t found
-counted_found s t found h = record { later = record { sound = h.later.sound; more = h.later.more; trees = h.later.trees; clear = h.later.clear }; met = h.met; added = by found h.added }
-  where
-    by : (o : Option ℕ) → (IsClear t → IsAdded (with_count s) t o) → IsClear t → IsAdded s t o
-    by None f = f
-    by (Some k) f = f
 
 -- What a file holds.
 

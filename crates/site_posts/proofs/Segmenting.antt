@@ -1,10 +1,9 @@
 -- What is gathered by checkable is the segments of the round.
-use Rattle.std.proofs.Common.{◌≡◌, ℕ, zero, suc, ◌+◌, ◌<◌, true, false, inl, inr, All, cond, List, [], ◌∷◌, ◌++◌, length, map, Some, None, refl, sym, ap, ◌∙◌, arith}
-use Rattle.std.proofs.lemmas.Bool.{cases_lt}
+use Rattle.std.proofs.Common.{◌≡◌, ℕ, zero, suc, ◌+◌, ◌<◌, cond, List, [], ◌∷◌, ◌++◌, length, map, Some, None, refl, sym, ap, ◌∙◌, arith}
 use Rattle.std.proofs.lemmas.Bool.Decides.{nat_tests}
 use Rattle.std.specs.BTreeMap.{insert_entry, is_at}
 use Rattle.std.specs.Map.{lookup, set_value}
-use Rattle.std.specs.Ordering.{is_eq, is_lt, nat_cmp, match_ordering}
+use Rattle.std.specs.Ordering.{is_eq, nat_cmp, match_ordering}
 use Rattle.std.specs.declared.cmp.Ordering.TheVariants.{Less, Equal, Greater}
 use Rattle.run_meaning.specs.Alone.{with_entry}
 use Rattle.run_meaning.specs.Turns.{Histories}
@@ -38,18 +37,6 @@ first_entries (x ∷ xs) = x.entries
 abbrev others : List Segment → List Segment
 others [] = []
 others (x ∷ xs) = xs
-
--- what stands behind all keys is not found
-pub behind_none : (k last : ℕ) (kept : List Kept) → last < k → All (λ q. is_lt (nat_cmp last q) ≡ false) (map (λ p. p.0) kept) → lookup (is_at (nat_cmp k)) kept ≡ None
-behind_none k last [] h all = refl
-behind_none k last (p ∷ kept) h all =
-    ap (λ o. cond (is_eq o) (Some p.1) (lookup (is_at (nat_cmp k)) kept)) (greater k p.0 (before (all 0 0 (omega arith)))) ∙ behind_none k last kept h (λ j d in_rest. all (suc j) d (omega (arith, in_rest)))
-  where
-    before : is_lt (nat_cmp last p.0) ≡ false → p.0 < k
-    before e = elim (cases_lt last p.0) [
-      | inl lt ↦ let both : true ≡ false = sym (ap is_lt (less last p.0 lt)) ∙ e in absurd cc
-      | inr le ↦ omega (arith, le, h)
-    ]
 
 -- what no key stands behind is not found, and goes to the front
 not_found : (k j : ℕ) (kept : List Kept) (round : Histories) → k < j → map segment_of kept ≡ segments_from j round → lookup (is_at (nat_cmp k)) kept ≡ None

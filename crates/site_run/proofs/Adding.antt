@@ -1,8 +1,7 @@
 -- What calls take, write and start, one after another.
-use Rattle.std.proofs.Common.{◌≡◌, ◌≤◌, ◌<◌, ◌^◌, ℕ, List, [], ◌∷◌, ◌++◌, length, Option, Some, None, MatchOption, ◌⊎◌, inl, inr, refl, sym, ap, ◌∙◌, subst, append_assoc, arith}
+use Rattle.std.proofs.Common.{◌≡◌, ℕ, List, [], ◌∷◌, ◌++◌, length, Option, Some, None, MatchOption, ◌⊎◌, refl, sym, ap, ◌∙◌, subst, append_assoc}
 use Rattle.std.proofs.lemmas.List.{append-nil}
 use Rattle.site_edge.specs.Lists.{Adds, AddsPart, IsFirst, TakesFirst}
-use Rattle.site_edge.specs.Told.{Rose}
 use Rattle.site_edge.specs.declared.order.Order.{Order}
 use Rattle.site_edge.specs.declared.turn.Turn.{Turn}
 use Rattle.site_run.specs.Ends.{IsAt, IsPartStarted, IsPartWritten, NoneLeft, Outside, Takes}
@@ -101,13 +100,3 @@ started_within a w text s orders o m n p q = record {
   some = q.some;
   at = at_within a w text s q.part o m n p q.at;
 }
-
--- Faults that are counted.
-
-pub rose_after : (a b c : ℕ) → a ≤ b → Rose b c → Rose a c
-rose_after a b c h (inl lt) = inl (omega (arith, h, lt))
-rose_after a b c h (inr e) = inr e
-
-pub rose_before : (a b c : ℕ) → b ≤ c → c < 2 ^ 64 → Rose a b → Rose a c
-rose_before a b c h top (inl lt) = inl (omega (arith, h, lt))
-rose_before a b c h top (inr e) = inr (omega (arith, h, top, e))

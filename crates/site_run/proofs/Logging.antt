@@ -18,7 +18,7 @@ use Rattle.turn_engine.specs.Ready.{IsZoneOf}
 use Rattle.turn_engine.specs.Stages.{Running, basis_of_site, stage_of}
 use Rattle.site_run.specs.Courses.{Course, course_alone, logs, reads, text}
 use Rattle.site_run.specs.Ends.{Came, Ends, Outside, Takes, WritesOf, outside}
-use Rattle.site_run.specs.Logs.{AnswersWorld, EndsOne, EndsRun, EndsWhole, IsAtFirst, IsLog, IsNowhere, IsOverTurns, Whole, course_from_start}
+use Rattle.site_run.specs.Logs.{AnswersWorld, EndsOne, EndsRun, EndsWhole, IsAtFirst, IsLog, IsOverTurns, Whole, course_from_start}
 use Rattle.site_run.specs.declared.status.Status.{Status}
 use Rattle.site_run.specs.declared.status.Status.TheVariants as status
 use Rattle.site_run.proofs.Adding.{adds_more, adds_none, adds_part, part_of, takes_none}
@@ -126,10 +126,6 @@ over_written style limit s names x old new p =
     let t = tells_of (course_from_start s p.zone style) limit p.begun new x (λ _. Unit {0}) p.ends in
     let none = never (course_from_start s p.zone style) limit (λ _. Unit {0}) p.begun new x p.ends in
     over style limit s names p.zone p.is_zone old.turns old.written p.begun.written new.written p.first.written t.came (subst (λ turns. Came turns t.came) (nothing_taken old.turns p.begun.turns p.first.turns) t.told) x none.0 none.1 none.2 t.written
-
-pub nowhere_written : (style : Style) (limit : ℕ) (s : PlainSite) (x : Status) (old new : Outside) → IsNowhere x old new → EndsRun x (AnswersWorld style limit old.turns s) old.written new.written
-nowhere_written style limit s x old new p =
-    subst (λ y. EndsRun y (AnswersWorld style limit old.turns s) old.written new.written) (sym p.cause) (inl (ap (λ (o : Outside). o.written) p.same))
 
 -- the run of an engine before its first turn
 pub from_start : (r : Running) (site : Site) (style : Style) → r.site ≡ site → stage_of r [] ≡ start (site_view site) (no_entries (site_view site)) → course_alone r [] style ≡ course_from_start (site_view site) r.zone style

@@ -33,13 +33,6 @@ applied_named c ss rs e h = applied_have c ss (subst (AllByRecursion (λ (r : Pl
 
 -- ---- one applied after another
 
--- one more that has grown stands behind those that have
-pub one_grown : (view : View) (kind : List ℕ) (ts : List Target) (all before after rest us : List Applied) (s t : Applied) → after ≡ before ++ t ∷ []
-    → ((vs : List Applied) → AreGrown view kind ts (s ∷ rest) vs → AreGrown view kind ts all (before ++ vs))
-    → IsGrown view (wanted kind s ts) s t → AreGrown view kind ts rest us → AreGrown view kind ts all (after ++ us)
-one_grown view kind ts all before after rest us s t e h g more =
-    subst (AreGrown view kind ts all) (sym (ap (λ xs. xs ++ us) e ∙ append_assoc before (t ∷ []) us)) (h (t ∷ us) (g, more))
-
 -- none is left
 pub all_grown : (view : View) (kind : List ℕ) (ts : List Target) (all now left : List Applied) → length left ≡ 0
     → ((vs : List Applied) → AreGrown view kind ts left vs → AreGrown view kind ts all (now ++ vs)) → AreGrown view kind ts all now
