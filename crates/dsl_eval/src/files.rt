@@ -15,7 +15,7 @@ use dsl_value::Value;
 use eval_meaning::Flow;
 use eval_steps::statements_of;
 use eval_work::{Locals, Stop, Work, WorldView};
-use load_work::{at_load, begin_part, end_part, imported, in_item, next_in_order};
+use load_work::{at_load, begin_part, end_part, imported_template, in_item, next_in_order};
 use site_base::Place;
 
 /// Imports a template into the object whose body is run.
@@ -34,7 +34,7 @@ pub(crate) fn run_import(
 {
     in_item(work, place)?;
     let value = eval_at(view, work, depth, expr)?;
-    let template = imported(work, view, place, &value)?;
+    let template = imported_template(work, view, place, &value)?;
     let this = work.this_value()?;
     in_frame(
         view,

@@ -44,7 +44,7 @@ pub fn in_item(work: &Work, place: Place) -> Result<(), Stop>
 }
 
 /// The template that is imported under a name, and the locals that its frame begins with.
-pub fn imported(
+pub fn imported_template(
     work: &Work,
     view: &WorldView,
     place: Place,

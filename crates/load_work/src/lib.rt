@@ -9,7 +9,7 @@ mod order;
 mod registering;
 mod types;
 
-pub use admitting::{Imported, at_load, define, imported, in_item};
+pub use admitting::{Imported, at_load, define, imported_template, in_item};
 pub use order::{Around, begin_part, end_part, next_in_order};
 pub use registering::{
     add_item, add_rule, add_template, has_assign, is_good_name, object_name, rule_name,
