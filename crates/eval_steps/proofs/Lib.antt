@@ -3,4 +3,4 @@ pub mod Entering
 pub mod Same
 pub mod Turns
 pub mod Held
-pub mod Called
+pub mod CallLaws

@@ -8,7 +8,7 @@ use Rattle.eval_meaning.specs.Functions.{bound}
 use Rattle.name_work.specs.Calling.{captured_at}
 use Rattle.eval_work.specs.Works.{state_of}
 use Rattle.eval_steps.specs.Frames.{frame_with}
-use Rattle.eval_steps.proofs.Called.{call_taken, call_refused}
+use Rattle.eval_steps.proofs.CallLaws.{call_taken, call_refused}
 use Rattle.eval_steps.proofs.calls.prepared_function.Goals as goal
 
 pub returns-then-not-takes-clause-gives : goal.returns-then-not-takes-clause-gives
