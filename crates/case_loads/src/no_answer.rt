@@ -3,7 +3,7 @@ use site_base::{OutOfMemory, Text};
 use std::alloc::{AllocError, AllocFailed, Global};
 
 /// Why a row has no answer: memory ran out, or a text stands in its place, as a diagnostic.
-#[derive(Debug, Drop)]
+#[derive(Drop)]
 pub enum NoAnswer {
     OutOfMemory,
     Instead(Text),

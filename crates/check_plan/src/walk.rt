@@ -19,7 +19,7 @@ use site_base::{Moment, OutOfMemory};
 use site_posts::Setting;
 
 /// How far a walk over those that are due has come.
-#[derive(Debug, Drop)]
+#[derive(Drop)]
 pub(crate) struct Walk {
     pub(crate) orders: Vec<Ordered>,
     /// Those that are passed over. They stand aside until the walk's end, so that none of them is taken again.

@@ -10,7 +10,7 @@ use site_base::Moment;
 use site_model::{CheckSpec, Entry, Event};
 
 /// When a checkable is to be checked next.
-#[derive(Clone, Copy, Debug, PartialEq, Eq)]
+#[derive(Clone, Copy, PartialEq, Eq)]
 pub struct Watch {
     pub next: Moment,
     /// Whether it is checked then whatever holds checks back.

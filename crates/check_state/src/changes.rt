@@ -5,7 +5,7 @@ ghost use Rattle.check_state.specs.Slots.{padded};
 
 /// Which of the last twenty results changed the state, the newest first (Icinga 2 documentation, Monitoring Basics,
 /// "Flapping").
-#[derive(Clone, Copy, Debug)]
+#[derive(Clone, Copy)]
 pub struct Changes {
     slots: [bool; 20],
 }

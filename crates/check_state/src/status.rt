@@ -14,7 +14,7 @@ use site_model::{Ack, CheckSpec, Event, State, View};
 /// What the entries of one host or service show so far, without the entries themselves: its state,
 /// whether that is HARD, the attempt, when it changed, the acknowledgement in force and the switches
 /// (Icinga 2 documentation, Monitoring Basics, "Hard and Soft States").
-#[derive(Clone, Copy, Debug)]
+#[derive(Clone, Copy)]
 pub struct Status {
     view: View,
     /// How many results at the end are problems, and at most the attempts that make one HARD.

@@ -3,7 +3,7 @@ use site_base::{Moment, Row};
 use site_model::{Event, View};
 
 /// What a caller brings to a checkable: an event, when it comes, and what the caller saw of the checkable's ancestors.
-#[derive(Debug, Drop)]
+#[derive(Drop)]
 pub struct Deed {
     pub moment: Moment,
     pub event: Event,

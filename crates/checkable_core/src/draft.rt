@@ -2,7 +2,7 @@
 use check_state::Status;
 
 /// What an event makes of a checkable before anything is decided.
-#[derive(Clone, Copy, Debug)]
+#[derive(Clone, Copy)]
 pub(crate) struct Draft {
     /// What its entries show with the one of this event.
     pub status: Status,

@@ -19,7 +19,7 @@ use std::alloc::Global;
 
 /// What is kept of the entries of a checkable for the next one: what they show, the downtimes that aren't past, and what
 /// was sent of its notifications.
-#[derive(Debug, Drop)]
+#[derive(Drop)]
 pub(crate) struct Running {
     pub status: Status,
     pub book: Book,

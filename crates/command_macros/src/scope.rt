@@ -11,14 +11,14 @@ use site_base::{Text, Tree};
 use site_model::{CheckSpec, Site};
 
 /// An object: its attributes, and the custom variables among them.
-#[derive(Clone, Copy, Debug)]
+#[derive(Clone, Copy)]
 pub(crate) struct Source<'a> {
     pub(crate) vars: &'a [(Text, Tree)],
     pub(crate) attributes: &'a [(Text, Tree)],
 }
 
 /// What a macro of a check is looked up in, in this order. The service of a host's check has nothing in it.
-#[derive(Clone, Copy, Debug)]
+#[derive(Clone, Copy)]
 pub(crate) struct Scope<'a> {
     pub(crate) service: Source<'a>,
     pub(crate) host: Source<'a>,

@@ -3,7 +3,7 @@ use site_base::OutOfMemory;
 use std::alloc::AllocFailed;
 
 /// Why nothing is made of a value: a macro in it is missing, or there is no memory.
-#[derive(Debug, Drop)]
+#[derive(Drop)]
 pub(crate) enum Stop<'a> {
     Missing(&'a str),
     Memory,

@@ -15,7 +15,7 @@ use site_base::{Text, Texts, Tree};
 use std::alloc::Global;
 
 /// What the value of an argument becomes.
-#[derive(Debug, Drop)]
+#[derive(Drop)]
 pub(crate) enum Values {
     /// Nothing is given but the key.
     KeyAlone,

@@ -15,7 +15,7 @@ use site_base::{Diag, DiagKind, ItemNo, OutOfMemory, Place, Text, Tree, push_quo
 use std::alloc::Global;
 
 /// The item of an object.
-#[derive(Clone, Copy, Debug)]
+#[derive(Clone, Copy)]
 pub(crate) struct Item {
     pub(crate) number: ItemNo,
     pub(crate) place: Place,

@@ -13,7 +13,7 @@ use site_model::Object;
 use std::alloc::Global;
 
 /// What is wrong with all objects of a site together.
-#[derive(Debug, Drop)]
+#[derive(Drop)]
 pub struct Together {
     /// What `duplicates` tells.
     pub duplicates: Diags,

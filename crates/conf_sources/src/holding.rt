@@ -1,7 +1,7 @@
 // What a file that was met holds.
 
 /// What a file that was met holds.
-#[derive(Clone, Copy, Debug, PartialEq, Eq)]
+#[derive(Clone, Copy, PartialEq, Eq)]
 pub enum Holding {
     /// There is no such file.
     Missing,

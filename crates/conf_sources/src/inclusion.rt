@@ -5,7 +5,7 @@ ghost use Rattle.conf_sources.specs.Inclusions.{place_of};
 use site_base::{Place, Text};
 
 /// A statement that includes files, with the place of the name in it.
-#[derive(Clone, Debug, Drop, PartialEq, Eq)]
+#[derive(Clone, Drop, PartialEq, Eq)]
 pub enum Inclusion {
     /// `include "name"`
     File { name: Text, at: Place },

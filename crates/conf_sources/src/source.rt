@@ -6,7 +6,7 @@ use site_base::{OutOfMemory, Text};
 use std::alloc::Global;
 
 /// What an inclusion names.
-#[derive(Clone, Debug, Drop, PartialEq, Eq)]
+#[derive(Clone, Drop, PartialEq, Eq)]
 pub enum Source {
     /// A file.
     File(Text),

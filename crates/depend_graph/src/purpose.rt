@@ -1,7 +1,7 @@
 // What a checkable is to be reached for.
 
 /// What a checkable is to be reached for: a dependency holds back checks, notifications or both.
-#[derive(Clone, Copy, Debug, PartialEq, Eq)]
+#[derive(Clone, Copy, PartialEq, Eq)]
 pub enum Purpose {
     /// A check of the program's own.
     Checks,

@@ -4,7 +4,7 @@ ghost use Rattle.run_meaning.specs.Reachability.{is_held};
 ghost use Rattle.depend_graph.specs.Reaching.{reach_as};
 
 /// Whether a checkable is reachable, or what holds it back. Indices are places in the lists of the `Site`.
-#[derive(Clone, Copy, Debug, PartialEq, Eq)]
+#[derive(Clone, Copy, PartialEq, Eq)]
 pub enum Reach {
     Reachable,
     /// The first dependency of the checkable's own that holds it back.

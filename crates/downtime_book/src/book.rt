@@ -18,7 +18,7 @@ use std::marker::Model;
 /// downtimes cost neither time nor memory. They lie in a few sorted runs, each about twice as long
 /// as the next, so that adding one moves few others, in whatever order they come. Only `add` takes
 /// memory.
-#[derive(Debug, Drop)]
+#[derive(Drop)]
 pub struct Book {
     latest: Moment,
     /// How many downtimes there are.

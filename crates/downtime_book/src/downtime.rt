@@ -6,7 +6,7 @@ use crate::rank::Rank;
 use site_base::Moment;
 
 /// A downtime as a book keeps it: its number, the span that it was given, and how it takes effect.
-#[derive(Debug, Drop)]
+#[derive(Drop)]
 pub struct Downtime {
     pub number: u64,
     pub start: Moment,

@@ -4,7 +4,7 @@ ghost use Rattle.std.specs.Prelude.{◌≡◌, if◌then◌else◌};
 use site_base::Moment;
 
 /// When a downtime is in effect.
-#[derive(Debug, Drop)]
+#[derive(Drop)]
 pub enum Kind {
     /// From its start to its end.
     Fixed,

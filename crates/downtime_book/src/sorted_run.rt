@@ -17,7 +17,7 @@ use std::marker::Model;
 use std::mem;
 
 /// Some of a book's downtimes, in order of when they end. Clauses see it as the list of them.
-#[derive(Debug, Drop)]
+#[derive(Drop)]
 pub struct SortedRun {
     downtimes: VecDeque<Downtime>,
 }

@@ -15,7 +15,7 @@ const MOST_OPEN: usize = 100;
 const MOST_WEIGHT: usize = 200;
 
 /// The tokens that count, by the brackets directly inside which they stand.
-#[derive(Debug, Drop)]
+#[derive(Drop)]
 pub(crate) struct Weight {
     /// How many count outside the innermost open bracket, by level, the innermost last.
     outer: Vec<usize>,

@@ -1,7 +1,7 @@
 // The roles of tokens.
 
 /// What a token does to the depth of those behind it.
-#[derive(Clone, Copy, Debug, PartialEq, Eq)]
+#[derive(Clone, Copy, PartialEq, Eq)]
 pub(crate) enum Role {
     /// It opens a bracket, and counts.
     Opening,

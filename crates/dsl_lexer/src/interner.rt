@@ -10,7 +10,7 @@ use std::alloc::Global;
 const SLOTS: u32 = 1024;
 
 /// The texts of identifiers and strings that were read last, so that those that come again share them.
-#[derive(Debug, Drop)]
+#[derive(Drop)]
 pub(crate) struct Interner {
     alloc: Global,
     slots: Vec<Slot>,
@@ -18,7 +18,7 @@ pub(crate) struct Interner {
 
 /// A text, and how often it may still be shared. It is renewed from time to time, so that threads that
 /// work on different parts of a tree seldom count at one pointer.
-#[derive(Debug, Drop)]
+#[derive(Drop)]
 struct Slot {
     text: Text,
     left: u8,

@@ -4,7 +4,7 @@ ghost use Rattle.dsl_lexer.specs.Signs.{sign_spelling};
 /// A sign of the configuration language: an operator, a bracket or a separator.
 ///
 /// See "Operators" in the chapter "Language Reference" of the Icinga 2 documentation.
-#[derive(Clone, Copy, Debug, PartialEq, Eq)]
+#[derive(Clone, Copy, PartialEq, Eq)]
 pub enum Sign {
     /// `!in`, only where no letter, digit or `_` follows
     NotIn,

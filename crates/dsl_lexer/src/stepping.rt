@@ -15,7 +15,7 @@ use site_base::{Num, OutOfMemory};
 use std::alloc::Global;
 
 /// What a text begins with, and how many bytes of it.
-#[derive(Debug, Drop)]
+#[derive(Drop)]
 pub(crate) enum Step {
     /// A blank, a comment, or a newline that is no token.
     Passed(usize),

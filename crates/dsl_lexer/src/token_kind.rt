@@ -2,7 +2,7 @@ use crate::{Sign, Word};
 use site_base::{Num, Text};
 
 /// What a token is, with what it stands for.
-#[derive(Debug, Drop)]
+#[derive(Drop)]
 pub enum TokenKind {
     /// A reserved word.
     Word(Word),

@@ -6,7 +6,7 @@ ghost use Rattle.dsl_lexer.specs.Words.{word_spelling};
 /// ones from `Try` on are reserved by Icinga 2 and begin nothing here.
 ///
 /// See "Reserved Keywords" in the chapter "Language Reference" of the Icinga 2 documentation.
-#[derive(Clone, Copy, Debug, PartialEq, Eq)]
+#[derive(Clone, Copy, PartialEq, Eq)]
 pub enum Word {
     Object,
     Template,

@@ -10,7 +10,7 @@ use dsl_value::{Cell, Store, Value};
 
 /// A call of the library: one that [`crate::call_plain`] makes, one that reads a committed object, or a method of
 /// arrays that calls a function for each element.
-#[derive(Clone, Copy, Debug, PartialEq, Eq)]
+#[derive(Clone, Copy, PartialEq, Eq)]
 pub enum LibraryCall {
     Plain(Plain),
     /// `get_host(name)`

@@ -4,7 +4,7 @@ ghost use Rattle.dsl_lib.specs.Names.{plain_spelling};
 
 /// A function or a method of the library that calls no function value. A method's first argument is
 /// the value that it is called on.
-#[derive(Clone, Copy, Debug, PartialEq, Eq)]
+#[derive(Clone, Copy, PartialEq, Eq)]
 pub enum Plain {
     /// `match(pattern, value)`
     Match,

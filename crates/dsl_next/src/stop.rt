@@ -3,7 +3,7 @@ use site_base::OutOfMemory;
 use std::alloc::{AllocError, AllocFailed};
 
 /// Why a production reads nothing: want of memory, or the tokens from the first on with which it doesn't go on.
-#[derive(Debug, Drop)]
+#[derive(Drop)]
 pub enum Stop<'a> {
     Memory,
     Fault(&'a [Token]),

@@ -8,7 +8,7 @@ use dsl_value::{Cell, Store, Value};
 use site_base::{Num, Text};
 
 /// A value, with what its cell contains.
-#[derive(Debug, Drop)]
+#[derive(Drop)]
 pub(crate) enum Operand<'a> {
     Null,
     Bool(bool),

@@ -9,7 +9,7 @@ use dsl_lexer::{Sign, Token, TokenKind, Word};
 pub const LEVELS: usize = 11;
 
 /// How far a row of operands between operators has come.
-#[derive(Clone, Copy, Debug, PartialEq, Eq)]
+#[derive(Clone, Copy, PartialEq, Eq)]
 pub struct Climb {
     /// The level of the last operator; none that binds tighter may follow.
     pub level: usize,

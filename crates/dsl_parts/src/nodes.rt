@@ -11,7 +11,7 @@ use site_base::{Place, Text};
 use std::alloc::{AllocError, AllocFailed, Global};
 
 /// An expression, and where its text begins: a parenthesis around it leaves no node.
-#[derive(Debug, Drop)]
+#[derive(Drop)]
 pub struct Operand {
     pub start: Place,
     pub expr: Expr,

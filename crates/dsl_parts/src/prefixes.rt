@@ -16,7 +16,7 @@ use site_base::Place;
 use std::alloc::{AllocError, Global};
 
 /// An operator before an operand, with its place.
-#[derive(Clone, Copy, Debug, PartialEq, Eq)]
+#[derive(Clone, Copy, PartialEq, Eq)]
 pub struct PrefixSign {
     pub place: Place,
     pub op: UnOp,

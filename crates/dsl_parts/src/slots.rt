@@ -13,7 +13,7 @@ use dsl_syntax::Expr;
 use std::alloc::AllocFailed;
 
 /// What stands between the commas of an array so far.
-#[derive(Debug, Drop)]
+#[derive(Drop)]
 pub struct Slots {
     pub items: Vec<Expr>,
     /// Whether an element stands behind the last comma, so that a further comma may follow.

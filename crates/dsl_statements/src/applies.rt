@@ -15,14 +15,14 @@ use std::alloc::{AllocError, Global};
 use std::sync::Arc;
 
 /// Heads and a body.
-#[derive(Debug, Drop)]
+#[derive(Drop)]
 pub struct Headed {
     pub heads: Heads,
     pub bodied: Bodied,
 }
 
 /// The type of the targets and the loop of an apply rule, as far as they stand there.
-#[derive(Debug, Drop)]
+#[derive(Drop)]
 pub struct Heads {
     pub to: Option<Text>,
     pub each: Option<Arc<Each>>,

@@ -20,7 +20,7 @@ use site_base::OutOfMemory;
 use std::alloc::Global;
 
 /// What is assigned, and how the new value is made of it.
-#[derive(Debug, Drop)]
+#[derive(Drop)]
 pub struct Setting {
     pub op: SetOp,
     pub expr: Expr,

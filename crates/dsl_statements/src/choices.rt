@@ -13,7 +13,7 @@ use dsl_syntax::{Arm, Stmt, StmtKind};
 use std::alloc::{AllocFailed, Global};
 
 /// The arms of an `if` so far.
-#[derive(Debug, Drop)]
+#[derive(Drop)]
 pub struct Choice {
     pub arms: Vec<Arm>,
     /// What is run where no condition holds.
@@ -23,7 +23,7 @@ pub struct Choice {
 }
 
 /// What stands behind an `else`: an `if` of its own, or a block.
-#[derive(Debug, Drop)]
+#[derive(Drop)]
 pub enum Otherwise {
     If(Arm),
     Block(Vec<Stmt>),

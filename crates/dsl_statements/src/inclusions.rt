@@ -18,7 +18,7 @@ use site_base::{Place, Text};
 use std::alloc::Global;
 
 /// A name, and where it is written.
-#[derive(Debug, Drop)]
+#[derive(Drop)]
 pub struct Located {
     pub place: Place,
     pub name: Text,

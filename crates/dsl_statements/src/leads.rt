@@ -18,7 +18,7 @@ use site_base::Place;
 use std::alloc::AllocFailed;
 
 /// Where a statement stands.
-#[derive(Clone, Copy, Debug, PartialEq, Eq)]
+#[derive(Clone, Copy, PartialEq, Eq)]
 pub enum Within {
     File,
     Block,
@@ -27,7 +27,7 @@ pub enum Within {
 }
 
 /// Which statement it is, as its first tokens say.
-#[derive(Clone, Copy, Debug, PartialEq, Eq)]
+#[derive(Clone, Copy, PartialEq, Eq)]
 pub enum Lead {
     Inclusion,
     /// An `object` or a `template`, by its word.

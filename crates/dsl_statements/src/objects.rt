@@ -11,14 +11,14 @@ use std::alloc::{AllocError, Global};
 use std::sync::Arc;
 
 /// Captured names, and a body.
-#[derive(Debug, Drop)]
+#[derive(Drop)]
 pub struct Bodied {
     pub uses: Vec<Use>,
     pub body: Arc<Block>,
 }
 
 /// A type, a name and a body.
-#[derive(Debug, Drop)]
+#[derive(Drop)]
 pub struct Named {
     pub kind: Text,
     pub name: Expr,

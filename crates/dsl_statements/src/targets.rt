@@ -10,7 +10,7 @@ use site_base::OutOfMemory;
 use std::alloc::{AllocFailed, Global};
 
 /// Where an assignment leads to: a value, and the steps from there.
-#[derive(Debug, Drop)]
+#[derive(Drop)]
 pub struct Target {
     pub base: Base,
     pub steps: Vec<Step>,

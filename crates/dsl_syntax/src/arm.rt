@@ -3,7 +3,7 @@ use crate::{Expr, Stmt};
 
 /// One condition of an `if`, and what is run where it is the first that holds.
 #[cycle(syntax)]
-#[derive(Debug, Drop)]
+#[derive(Drop)]
 pub struct Arm {
     pub cond: Expr,
     pub block: Vec<Stmt>,

@@ -2,7 +2,7 @@
 use site_base::Text;
 
 /// The value in which the target of an assignment begins.
-#[derive(Debug, Drop)]
+#[derive(Drop)]
 pub enum Base {
     Name(Text),
     This,

@@ -1,7 +1,7 @@
 // The operators between two operands.
 
 /// An operator between two operands, here from the one that binds tightest.
-#[derive(Clone, Copy, Debug, PartialEq, Eq)]
+#[derive(Clone, Copy, PartialEq, Eq)]
 pub enum BinOp {
     /// `*`
     Mul,

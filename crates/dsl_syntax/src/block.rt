@@ -3,7 +3,7 @@ use crate::Stmt;
 
 /// The body of an object, a template or an apply rule, which what is made of it shares.
 #[cycle(syntax)]
-#[derive(Debug, Drop)]
+#[derive(Drop)]
 pub struct Block {
     pub statements: Vec<Stmt>,
 }

@@ -4,7 +4,7 @@ use site_base::Text;
 
 /// The head of a loop, `key in expr` or `key => value in expr`.
 #[cycle(syntax)]
-#[derive(Debug, Drop)]
+#[derive(Drop)]
 pub struct Each {
     pub key: Text,
     pub value: Option<Text>,

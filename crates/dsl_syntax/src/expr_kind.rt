@@ -5,7 +5,7 @@ use std::sync::Arc;
 
 /// What an expression is. Parentheses leave no node of their own.
 #[cycle(syntax)]
-#[derive(Debug, Drop)]
+#[derive(Drop)]
 pub enum ExprKind {
     Null,
     Bool(bool),

@@ -2,7 +2,7 @@
 use crate::Stmt;
 
 /// What one configuration file holds.
-#[derive(Debug, Drop)]
+#[derive(Drop)]
 pub struct File {
     pub statements: Vec<Stmt>,
 }

@@ -1,7 +1,7 @@
 // The operators of assignments.
 
 /// How an assignment makes the new value.
-#[derive(Clone, Copy, Debug, PartialEq, Eq)]
+#[derive(Clone, Copy, PartialEq, Eq)]
 pub enum SetOp {
     /// `=`
     Plain,

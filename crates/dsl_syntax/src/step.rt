@@ -4,7 +4,7 @@ use site_base::Text;
 
 /// One step from a value to a value inside it, in the target of an assignment.
 #[cycle(syntax)]
-#[derive(Debug, Drop)]
+#[derive(Drop)]
 pub enum Step {
     /// `.name`
     Member(Text),

@@ -4,7 +4,7 @@ use site_base::Place;
 
 /// A statement at its place, which is that of its first token.
 #[cycle(syntax)]
-#[derive(Debug, Drop)]
+#[derive(Drop)]
 pub struct Stmt {
     pub place: Place,
     pub kind: StmtKind,

@@ -5,7 +5,7 @@ use std::sync::Arc;
 
 /// What a statement is.
 #[cycle(syntax)]
-#[derive(Debug, Drop)]
+#[derive(Drop)]
 pub enum StmtKind {
     Object {
         kind: Text,

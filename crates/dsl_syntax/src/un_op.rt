@@ -1,7 +1,7 @@
 // The operators before an operand.
 
 /// An operator before its one operand.
-#[derive(Clone, Copy, Debug, PartialEq, Eq)]
+#[derive(Clone, Copy, PartialEq, Eq)]
 pub enum UnOp {
     /// `!`
     Not,

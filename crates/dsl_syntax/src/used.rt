@@ -5,7 +5,7 @@ use site_base::Text;
 /// A name of a `use` list: captured under this name is the expression's value, or the value that
 /// the name has where there is no expression.
 #[cycle(syntax)]
-#[derive(Debug, Drop)]
+#[derive(Drop)]
 pub struct Use {
     pub name: Text,
     pub expr: Option<Expr>,

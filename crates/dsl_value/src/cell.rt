@@ -3,7 +3,7 @@ use crate::Value;
 use site_base::Text;
 
 /// What an array or a dictionary contains.
-#[derive(Debug, Drop)]
+#[derive(Drop)]
 pub enum Cell {
     Array(Vec<Value>),
     /// Distinct keys in byte order.

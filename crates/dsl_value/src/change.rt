@@ -3,7 +3,7 @@ use crate::Value;
 use site_base::Text;
 
 /// What changes an array or a dictionary.
-#[derive(Debug, Drop)]
+#[derive(Drop)]
 pub enum Change<'a> {
     /// Another value at a place of an array.
     Put(u32, Value),

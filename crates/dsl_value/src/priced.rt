@@ -2,7 +2,7 @@
 use crate::Value;
 
 /// What a call gave, with the units that it cost.
-#[derive(Debug, Drop)]
+#[derive(Drop)]
 pub struct Priced {
     pub value: Value,
     pub units: u64,

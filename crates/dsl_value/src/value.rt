@@ -3,7 +3,7 @@ use site_base::{Num, Text};
 
 /// A value of the language. Arrays and dictionaries lie in cells of a store, functions in its list of
 /// functions, and a value names them by their index.
-#[derive(Debug, Drop, Clone, PartialEq, Eq)]
+#[derive(Drop, Clone, PartialEq, Eq)]
 pub enum Value {
     Null,
     Bool(bool),

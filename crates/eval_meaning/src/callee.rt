@@ -3,7 +3,7 @@ use dsl_lib::LibraryCall;
 use dsl_value::Value;
 
 /// What is called.
-#[derive(Debug, Drop)]
+#[derive(Drop)]
 pub enum Callee {
     /// A value, which has to be a function, with the `this` of the call.
     Value { value: Value, this: Value },

@@ -2,7 +2,7 @@
 use site_base::Text;
 
 /// A read of a committed object: its type and its full name.
-#[derive(Debug, Drop, Clone, PartialEq, Eq)]
+#[derive(Drop, Clone, PartialEq, Eq)]
 pub struct Read {
     pub kind: Text,
     pub name: Text,

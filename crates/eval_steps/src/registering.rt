@@ -15,7 +15,7 @@ use site_base::{Place, Text};
 use std::sync::Arc;
 
 /// What is registered under a type and a name.
-#[derive(Clone, Copy, Debug, PartialEq, Eq)]
+#[derive(Clone, Copy, PartialEq, Eq)]
 pub enum Sort {
     Object,
     Template,

@@ -10,7 +10,7 @@ use eval_work::{Stop, Work, fault};
 use site_base::{DiagKind, Place};
 
 /// The methods of arrays that call a function for each element.
-#[derive(Clone, Copy, Debug, PartialEq, Eq)]
+#[derive(Clone, Copy, PartialEq, Eq)]
 pub enum Method {
     Map,
     Filter,

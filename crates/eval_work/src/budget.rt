@@ -1,7 +1,7 @@
 // Budgets.
 
 /// What an evaluation may take, or what is left of it.
-#[derive(Clone, Copy, Debug, PartialEq, Eq)]
+#[derive(Clone, Copy, PartialEq, Eq)]
 pub struct Budget {
     /// How many statements and expressions may be entered.
     pub steps: u64,

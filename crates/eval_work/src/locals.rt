@@ -11,7 +11,7 @@ use std::marker::Model;
 
 /// Names with their values, by rising names: the locals of a frame, what a function captured, constants. A look-up takes as
 /// many comparisons as the number of names has binary digits.
-#[derive(Debug, Drop)]
+#[derive(Drop)]
 pub struct Locals {
     pairs: Vec<(Text, Value)>,
 }

@@ -4,7 +4,7 @@ use site_base::{DiagKind, OutOfMemory, Place, Text};
 use std::alloc::{AllocError, AllocFailed};
 
 /// Why an evaluation ends early: want of memory, a fault with its detail, or a read that isn't decided.
-#[derive(Debug, Drop)]
+#[derive(Drop)]
 pub enum Stop {
     Memory,
     Fault {

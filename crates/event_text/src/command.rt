@@ -7,7 +7,7 @@ use crate::kind::Kind;
 
 /// A command that a line gives (Icinga 2 documentation, Features, "External Commands" and "External
 /// Commands List").
-#[derive(Clone, Copy, Debug, PartialEq, Eq)]
+#[derive(Clone, Copy, PartialEq, Eq)]
 pub enum Command {
     HostResult,
     ServiceResult,

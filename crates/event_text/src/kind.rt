@@ -5,7 +5,7 @@ ghost use Rattle.event_text.specs.Kinds.{limits_of, texts_of};
 use crate::limit::{DURATION, Limit, MOMENT, NOTHING, NUMBER, STATUS, SWITCH, THREE};
 
 /// What a command asks for.
-#[derive(Clone, Copy, Debug, PartialEq, Eq)]
+#[derive(Clone, Copy, PartialEq, Eq)]
 pub(crate) enum Kind {
     HostResult,
     ServiceResult,

@@ -1,7 +1,7 @@
 // How large numbers in lines may be.
 
 /// A number has at least one digit and at most so many, and is at most so great.
-#[derive(Clone, Copy, Debug, PartialEq, Eq)]
+#[derive(Clone, Copy, PartialEq, Eq)]
 pub(crate) struct Limit {
     pub(crate) digits: usize,
     pub(crate) most: u64,

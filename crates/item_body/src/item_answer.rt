@@ -4,7 +4,7 @@ use site_base::Diags;
 use site_model::Object;
 
 /// What an item comes to over a view.
-#[derive(Debug, Drop)]
+#[derive(Drop)]
 pub enum ItemAnswer {
     Made(Object),
     /// What is wrong by the first of evaluation, tree and check that finds anything.

@@ -12,7 +12,7 @@ use site_text::state_name;
 use std::alloc::Global;
 
 /// An event, whether it had an effect, and the state after it.
-#[derive(Debug, Drop)]
+#[derive(Drop)]
 pub(crate) struct Effect {
     pub event: Event,
     pub taken: bool,

@@ -10,7 +10,7 @@ use site_base::Moment;
 use std::alloc::Global;
 
 /// A checkable, and which entry of its history a line is of.
-#[derive(Clone, Copy, Debug)]
+#[derive(Clone, Copy)]
 pub(crate) struct Head {
     pub checkable: u32,
     pub number: u64,

@@ -10,7 +10,7 @@ use std::alloc::Global;
 
 /// The names of a site, by which lines name its checkables, dependencies, notifications and users, with
 /// the place of each. A look-up is by hash; one value serves all lines of a log.
-#[derive(Debug, Drop)]
+#[derive(Drop)]
 pub struct SiteNames<'a> {
     pub(crate) checkables: &'a Names,
     pub(crate) depends: Names,

@@ -10,7 +10,7 @@ use site_model::{Event, State, View};
 
 /// What decides about every notification of an entry: what its checkable shows after it, whether its problem is fresh,
 /// what holds notifications back, and when it is.
-#[derive(Clone, Copy, Debug)]
+#[derive(Clone, Copy)]
 pub(crate) struct Asked {
     pub after: View,
     /// Whether a problem is told without regard to when it was told last.

@@ -9,7 +9,7 @@ use std::alloc::Global;
 use std::marker::Model;
 
 /// A user of a notification.
-#[derive(Clone, Copy, Debug)]
+#[derive(Clone, Copy)]
 pub struct Listener {
     pub user: u32,
     /// Whether a problem was sent to the user since the last result without one.
@@ -17,7 +17,7 @@ pub struct Listener {
 }
 
 /// The users of a notification, in its order. Clauses see them as a list.
-#[derive(Debug, Drop)]
+#[derive(Drop)]
 pub struct Listeners {
     items: Vec<Listener>,
 }

@@ -17,7 +17,7 @@ use std::marker::Model;
 
 /// What was sent of the notifications of one checkable, as its entries so far say it: when a problem was sent last, and
 /// which users were told since the last result without one.
-#[derive(Debug, Drop)]
+#[derive(Drop)]
 pub struct SentBook {
     /// The host of a service; `None` for a host.
     host: Option<u32>,

@@ -8,7 +8,7 @@ use site_base::{Moment, OutOfMemory};
 use std::alloc::Global;
 
 /// What was sent of one notification.
-#[derive(Debug, Drop)]
+#[derive(Drop)]
 pub struct SentNote {
     /// Its index among the site's notifications.
     pub notification: u32,

@@ -16,7 +16,7 @@ use std::alloc::Global;
 use time_range::{RangeFault, read_ranges};
 
 /// The item whose object is checked.
-#[derive(Clone, Copy, Debug)]
+#[derive(Clone, Copy)]
 pub(crate) struct Item {
     number: ItemNo,
     place: Place,

@@ -49,7 +49,7 @@ pub enum Unset {
 }
 
 /// A row of the schema: what a type says of one of its attributes.
-#[derive(Clone, Copy, Debug, PartialEq, Eq)]
+#[derive(Clone, Copy, PartialEq, Eq)]
 pub struct SchemaRow {
     pub attribute: Attribute,
     pub kind: ValueKind,

@@ -9,7 +9,7 @@ use crate::ValueKind;
 use site_base::{Num, Text, Tree};
 
 /// What an element of an array has to be.
-#[derive(Clone, Copy, Debug, PartialEq, Eq)]
+#[derive(Clone, Copy, PartialEq, Eq)]
 pub(crate) enum Element {
     /// A string.
     Text,

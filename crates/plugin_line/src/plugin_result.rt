@@ -2,7 +2,7 @@
 use site_base::Text;
 
 /// What a plugin tells by its exit status and its output.
-#[derive(Clone, Debug, Drop, PartialEq, Eq)]
+#[derive(Clone, Drop, PartialEq, Eq)]
 pub struct PluginResult {
     /// From 0 to 3, as Icinga 2 takes exit statuses for services: `OK`, `WARNING`, `CRITICAL`, `UNKNOWN`.
     pub status: u8,

@@ -2,7 +2,7 @@
 use site_base::ItemNo;
 
 /// A place at which a caller enters a gate.
-#[derive(Clone, Copy, Debug, PartialEq, Eq)]
+#[derive(Clone, Copy, PartialEq, Eq)]
 pub enum GatePoint {
     /// Before the item of this number is evaluated.
     Begin(ItemNo),

@@ -1,7 +1,7 @@
 // The versions of a log.
 
 /// In which version a log is written.
-#[derive(Clone, Copy, Debug, PartialEq, Eq)]
+#[derive(Clone, Copy, PartialEq, Eq)]
 pub enum Style {
     /// Version one.
     One,

@@ -2,7 +2,7 @@
 use crate::{Day, Row};
 
 /// A span of a day, in seconds of the local day: from `from` on, and before `to`.
-#[derive(Clone, Copy, Debug, PartialEq, Eq)]
+#[derive(Clone, Copy, PartialEq, Eq)]
 pub struct DaySpan {
     pub day: Day,
     pub from: u32,

@@ -2,7 +2,7 @@
 use crate::{DiagKind, ItemNo, Place, Row, Text};
 
 /// One fault of a configuration or a script.
-#[derive(Clone, Debug, Drop, PartialEq, Eq)]
+#[derive(Clone, Drop, PartialEq, Eq)]
 pub struct Diag {
     /// The number of the item that it belongs to; diagnostics of one phase are listed by it.
     pub number: ItemNo,

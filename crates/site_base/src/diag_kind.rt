@@ -1,7 +1,7 @@
 // The kinds of diagnostics.
 
 /// What is wrong with a configuration or a script.
-#[derive(Clone, Copy, Debug, PartialEq, Eq)]
+#[derive(Clone, Copy, PartialEq, Eq)]
 pub enum DiagKind {
     /// A file that is named is missing.
     NoFile,

@@ -3,7 +3,7 @@ use crate::TargetNo;
 use std::cmp::Ordering;
 
 /// The number of an item: by it objects and diagnostics are ordered, field by field.
-#[derive(Clone, Copy, Debug, PartialEq, Eq, PartialOrd, Ord)]
+#[derive(Clone, Copy, PartialEq, Eq, PartialOrd, Ord)]
 pub struct ItemNo {
     /// The place of the statement among all that register an item or a rule, from 1.
     pub item: u32,

@@ -2,7 +2,7 @@
 use crate::{Ranges, Row};
 
 /// A `TimePeriod`: its own spans, and those of the periods that it includes and excludes.
-#[derive(Clone, Debug, Drop, PartialEq, Eq)]
+#[derive(Clone, Drop, PartialEq, Eq)]
 pub struct PeriodSpec {
     pub own: Ranges,
     pub includes: Row<Ranges>,

@@ -1,7 +1,7 @@
 // The numbers of an apply rule's targets.
 
 /// Which object an `apply` rule was applied to; 0 in all fields for a plain object. Ordered field by field.
-#[derive(Clone, Copy, Debug, PartialEq, Eq, PartialOrd, Ord)]
+#[derive(Clone, Copy, PartialEq, Eq, PartialOrd, Ord)]
 pub struct TargetNo {
     /// The number of the target's own item or rule.
     pub item: u32,

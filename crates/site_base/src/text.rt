@@ -94,15 +94,7 @@ impl Text {
         ensures ascii { c < 128 → encode_utf8 c ≡ c ∷ [] }
         ensures err { OnErr result (self.new ≡ self.old) }
     {
-        match &mut self.shared {
-            Some(string) => Arc::make_mut(string)?.push(c)?,
-            None => {
-                let mut string = String::new(self.alloc);
-                string.push(c)?;
-                self.shared = Some(Arc::new(self.alloc, string)?);
-            }
-        }
-        Ok(())
+        self.push_str(c.encode_utf8(&mut [0; 4]))
     }
 
     /// Adds a text at the end.

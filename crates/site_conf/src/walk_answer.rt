@@ -3,7 +3,7 @@ use crate::Walk;
 use site_base::{Diag, Texts};
 
 /// What a walk comes to.
-#[derive(Debug, Drop)]
+#[derive(Drop)]
 pub enum WalkAnswer {
     /// Every file has a tree.
     Walked(Walk),

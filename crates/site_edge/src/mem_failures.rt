@@ -5,7 +5,7 @@ ghost use Rattle.site_edge.specs.Fakes.{fresh, counted, IsCalm};
 use site_base::Row;
 
 /// Counts the calls of a fake, and knows which of them are to fail.
-#[derive(Debug, Drop)]
+#[derive(Drop)]
 pub struct Failures {
     calls: u64,
     listed: Row<u64>,

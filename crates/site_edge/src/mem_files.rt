@@ -11,7 +11,7 @@ use std::alloc::Global;
 
 /// Files in memory, of which all is told. The n-th call fails exactly where n is listed, counted
 /// from 1.
-#[derive(Debug, Drop)]
+#[derive(Drop)]
 pub struct MemFiles {
     alloc: Global,
     files: Row<(Text, Blob)>,

@@ -11,7 +11,7 @@ use std::alloc::Global;
 
 /// A sink in memory, of which all is told. The n-th call fails exactly where n is listed, counted
 /// from 1, `put` and `flush` together; a `put` that fails writes the first half of its bytes.
-#[derive(Debug, Drop)]
+#[derive(Drop)]
 pub struct MemSink {
     bytes: Vec<u8>,
     failures: Failures,

@@ -12,7 +12,7 @@ use std::collections::VecDeque;
 
 /// A world in memory, of which all is told. The n-th call fails exactly where n is listed, counted
 /// from 1, `next` and `start` together; a failing `start` starts none of its orders.
-#[derive(Debug, Drop)]
+#[derive(Drop)]
 pub struct MemWorld {
     turns: VecDeque<Turn>,
     started: Vec<Order>,

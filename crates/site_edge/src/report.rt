@@ -2,7 +2,7 @@
 use site_base::Blob;
 
 /// What a check program gave for an order.
-#[derive(Clone, Debug, Drop, PartialEq, Eq)]
+#[derive(Clone, Drop, PartialEq, Eq)]
 pub struct Report {
     /// The number of the order.
     pub order: u64,

@@ -3,7 +3,7 @@ use crate::Report;
 use site_base::{Blob, Moment, Row};
 
 /// What the world hands in at one moment.
-#[derive(Clone, Debug, Drop, PartialEq, Eq)]
+#[derive(Clone, Drop, PartialEq, Eq)]
 pub struct Turn {
     pub moment: Moment,
     pub reports: Row<Report>,

@@ -1,7 +1,7 @@
 // What is counted of a run.
 
 /// What is counted of a run.
-#[derive(Clone, Copy, Debug, PartialEq, Eq)]
+#[derive(Clone, Copy, PartialEq, Eq)]
 pub struct Counts {
     pub entries: u64,
     /// The notifications that were sent.

@@ -2,7 +2,7 @@
 
 /// Whether a problem is acknowledged (Icinga 2 documentation, Monitoring Basics,
 /// "Acknowledgements").
-#[derive(Clone, Copy, Debug, PartialEq, Eq)]
+#[derive(Clone, Copy, PartialEq, Eq)]
 pub enum Ack {
     Off,
     /// Until the state changes.

@@ -8,7 +8,7 @@ use std::sync::Arc;
 
 /// A host or a service and how it is checked (Icinga 2 documentation, Object Types, "Host" and
 /// "Service"). Indices are places in the lists of the `Site`.
-#[derive(Debug, Drop)]
+#[derive(Drop)]
 pub struct CheckSpec {
     /// The full name: `host`, or `host!service`.
     pub name: Text,

@@ -3,7 +3,7 @@ use site_base::{Text, Tree};
 use std::sync::Arc;
 
 /// A command that checks (Icinga 2 documentation, Object Types, "CheckCommand").
-#[derive(Debug, Drop)]
+#[derive(Drop)]
 pub struct CommandSpec {
     pub name: Text,
     /// The object's attributes, a `Dict`.

@@ -2,7 +2,7 @@
 use crate::{NoteKind, Outcome};
 
 /// What was decided on one notification.
-#[derive(Clone, Debug, Drop, PartialEq, Eq)]
+#[derive(Clone, Drop, PartialEq, Eq)]
 pub struct Decision {
     /// Its index among the site's notifications.
     pub notification: u32,

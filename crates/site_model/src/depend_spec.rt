@@ -4,7 +4,7 @@ use site_base::Text;
 
 /// A dependency of one checkable on another (Icinga 2 documentation, Monitoring Basics,
 /// "Dependencies"). Indices are places in the lists of the `Site`.
-#[derive(Clone, Debug, Drop, PartialEq, Eq)]
+#[derive(Drop)]
 pub struct DependSpec {
     /// The full name.
     pub name: Text,

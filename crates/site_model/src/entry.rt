@@ -3,7 +3,7 @@ use crate::{Decision, Event, Sight, State};
 use site_base::{Moment, Row};
 
 /// An entry of a checkable's history: an event, and what it made of the checkable.
-#[derive(Clone, Debug, Drop, PartialEq, Eq)]
+#[derive(Drop)]
 pub struct Entry {
     /// The worker that took the event, from 0.
     pub caller: u32,

@@ -2,7 +2,7 @@
 use site_base::{Moment, Text};
 
 /// What happens to a checkable: a check's result, the clock, or a command of a person.
-#[derive(Clone, Debug, Drop, PartialEq, Eq)]
+#[derive(Clone, Drop, PartialEq, Eq)]
 pub enum Event {
     /// A check's result.
     Result {

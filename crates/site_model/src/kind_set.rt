@@ -6,7 +6,7 @@ ghost use Rattle.site_model.specs.Sets.{has_kind};
 use crate::NoteKind;
 
 /// A set of kinds of notifications, as a filter of users or notifications. Clauses ask it by `has_kind`.
-#[derive(Clone, Copy, Debug, PartialEq, Eq)]
+#[derive(Clone, Copy, PartialEq, Eq)]
 pub struct KindSet {
     problem: bool,
     recovery: bool,

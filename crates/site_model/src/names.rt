@@ -8,7 +8,7 @@ use std::alloc::Global;
 use std::marker::Model;
 
 /// Distinct names, each with its place. Clauses see them as the list of the names in order.
-#[derive(Debug, Drop)]
+#[derive(Drop)]
 pub struct Names {
     alloc: Global,
     set: IndexSet<String>,

@@ -1,7 +1,7 @@
 // The kinds of notifications.
 
 /// What a notification tells of (Icinga 2 documentation, Object Types, "Notification", `types`).
-#[derive(Clone, Copy, Debug, PartialEq, Eq)]
+#[derive(Clone, Copy, PartialEq, Eq)]
 pub enum NoteKind {
     Problem,
     Recovery,

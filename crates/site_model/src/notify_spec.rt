@@ -4,7 +4,7 @@ use site_base::{Row, Text};
 
 /// A notification of a checkable (Icinga 2 documentation, Object Types, "Notification"). Indices are
 /// places in the lists of the `Site`.
-#[derive(Clone, Debug, Drop, PartialEq, Eq)]
+#[derive(Drop)]
 pub struct NotifySpec {
     /// The full name.
     pub name: Text,

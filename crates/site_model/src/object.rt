@@ -3,7 +3,7 @@ use site_base::{ItemNo, Place, Text, Tree};
 use std::sync::Arc;
 
 /// An object that a configuration makes (Icinga 2 documentation, Object Types).
-#[derive(Debug, Drop)]
+#[derive(Drop)]
 pub struct Object {
     /// The type, as `Host`.
     pub kind: Text,

@@ -3,7 +3,7 @@ use site_base::Row;
 
 /// What comes of a notification: it is sent, or the first cause that holds it back. Indices are places
 /// in the lists of the `Site`.
-#[derive(Clone, Debug, Drop, PartialEq, Eq)]
+#[derive(Clone, Drop, PartialEq, Eq)]
 pub enum Outcome {
     /// It goes to these users, in the notification's order.
     Sent { users: Row<u32> },

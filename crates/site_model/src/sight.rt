@@ -1,7 +1,7 @@
 // How far a checkable was seen.
 
 /// How much of another checkable's history was seen at an entry.
-#[derive(Clone, Copy, Debug, PartialEq, Eq)]
+#[derive(Clone, Copy, PartialEq, Eq)]
 pub struct Sight {
     /// Its index among the site's checkables.
     pub checkable: u32,

@@ -10,7 +10,7 @@ use std::alloc::Global;
 
 /// All that a configuration gives: its objects, and what a run needs of them as lists that name each
 /// other's places. Clauses see it by `site_view`; of each site that a configuration gives `IsSound` holds.
-#[derive(Debug, Drop)]
+#[derive(Drop)]
 pub struct Site {
     /// The names of the files that the places speak of.
     pub files: Texts,

@@ -6,7 +6,7 @@ ghost use Rattle.site_model.specs.Sets.{has_state};
 use crate::State;
 
 /// A set of states, as a filter of users, notifications or dependencies. Clauses ask it by `has_state`.
-#[derive(Clone, Copy, Debug, PartialEq, Eq)]
+#[derive(Clone, Copy, PartialEq, Eq)]
 pub struct StateSet {
     okay: bool,
     warning: bool,

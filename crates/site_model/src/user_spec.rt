@@ -3,7 +3,7 @@ use crate::{KindSet, StateSet};
 use site_base::Text;
 
 /// A user who receives notifications (Icinga 2 documentation, Object Types, "User").
-#[derive(Clone, Debug, Drop, PartialEq, Eq)]
+#[derive(Drop)]
 pub struct UserSpec {
     pub name: Text,
     /// `enable_notifications`.

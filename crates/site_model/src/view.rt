@@ -3,7 +3,7 @@ use crate::{Ack, State};
 use site_base::Moment;
 
 /// What others see of a checkable between two events.
-#[derive(Clone, Copy, Debug, PartialEq, Eq)]
+#[derive(Clone, Copy, PartialEq, Eq)]
 pub struct View {
     /// The number of its entries so far.
     pub count: u64,

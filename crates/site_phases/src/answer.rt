@@ -3,7 +3,7 @@ use site_base::{Diags, Texts};
 use site_model::Site;
 
 /// What a commit comes to: a site, or what is wrong with the configuration.
-#[derive(Debug, Drop)]
+#[derive(Drop)]
 pub enum Answer {
     Site(Site),
     Diags {

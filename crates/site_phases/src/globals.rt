@@ -2,7 +2,7 @@
 use site_base::{Blob, Tree};
 
 /// What a site takes from the globals of its configuration.
-#[derive(Debug, Drop)]
+#[derive(Drop)]
 pub struct Globals {
     /// `MaxConcurrentChecks`, where it is set; `Null` for a value that is no tree.
     pub max_checks: Option<Tree>,

@@ -2,7 +2,7 @@
 use site_model::Event;
 
 /// An event on the checkable of this index.
-#[derive(Debug, Drop)]
+#[derive(Drop)]
 pub struct Act {
     pub checkable: u32,
     pub event: Event,

@@ -3,7 +3,7 @@ use site_base::Row;
 use site_model::Entry;
 
 /// The entries that the checkable of this index gets of a round, in their order. There is one at least.
-#[derive(Debug, Drop)]
+#[derive(Drop)]
 pub struct Segment {
     pub checkable: u32,
     pub entries: Row<Entry>,

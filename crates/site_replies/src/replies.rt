@@ -13,14 +13,14 @@ use site_text::{print_diag, print_object};
 use std::alloc::Global;
 
 /// The lines to write, and whether they are diagnostics.
-#[derive(Debug, Drop)]
+#[derive(Drop)]
 pub struct Reply {
     pub lines: Texts,
     pub diagnosed: bool,
 }
 
 /// How the objects of a configuration are told.
-#[derive(Clone, Copy, Debug)]
+#[derive(Clone, Copy)]
 pub enum Shown {
     /// A line for each.
     Listing,

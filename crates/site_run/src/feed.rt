@@ -36,7 +36,7 @@ pub trait Feed {
 }
 
 /// A feed that gives no lines, for every site.
-#[derive(Debug, Drop)]
+#[derive(Drop)]
 pub struct NoFeed {
     alloc: Global,
 }

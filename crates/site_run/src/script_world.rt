@@ -6,7 +6,7 @@ use site_edge::{Order, Turn, World, WorldError};
 use std::collections::VecDeque;
 
 /// A world that gives the turns of a script, and runs no check: it takes all orders and forgets them. No call fails.
-#[derive(Debug, Drop)]
+#[derive(Drop)]
 pub struct ScriptWorld {
     turns: VecDeque<Turn>,
 }

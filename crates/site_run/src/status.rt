@@ -4,7 +4,7 @@ use std::fmt::{Display, Formatter, Write};
 
 /// With what a run ends. Its number is the exit status of the process, and its name is told on
 /// standard error where it is none of the first two.
-#[derive(Clone, Copy, Debug, PartialEq, Eq)]
+#[derive(Clone, Copy, PartialEq, Eq)]
 pub enum Status {
     /// The input was read to its end, and all of the output was written.
     Done,

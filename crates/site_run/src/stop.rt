@@ -4,7 +4,7 @@ use site_base::OutOfMemory;
 use site_edge::{SinkFault, WorldError};
 
 /// Why a run stops within a turn.
-#[derive(Clone, Copy, Debug, PartialEq, Eq)]
+#[derive(Clone, Copy, PartialEq, Eq)]
 pub(crate) enum Stop {
     /// A line could not be written.
     Sink,

@@ -20,7 +20,7 @@ use std::alloc::Global;
 use turn_engine::{Engine, later_of};
 
 /// What is told of a turn.
-#[derive(Debug, Drop)]
+#[derive(Drop)]
 pub(crate) struct Taken {
     /// Its lines in the log.
     pub(crate) lines: Texts,

@@ -14,7 +14,7 @@ use std::marker::Model;
 const ROOM: usize = 120;
 
 /// A line that is being built, which has room for most lines from the start. Clauses see it as the list of its bytes.
-#[derive(Debug, Drop)]
+#[derive(Drop)]
 pub struct Line {
     alloc: Global,
     string: String,

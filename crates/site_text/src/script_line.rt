@@ -3,7 +3,7 @@ use site_base::{Blob, Moment};
 use site_edge::Report;
 
 /// A line of a script.
-#[derive(Debug, Drop)]
+#[derive(Drop)]
 pub enum ScriptLine {
     /// A new turn at a moment.
     Turn(Moment),

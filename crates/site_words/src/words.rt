@@ -10,7 +10,7 @@ use site_text::read_whole;
 const MOST_HOSTS: u64 = 10_000;
 
 /// What the words of a command line ask for. Each but `gen` names files: a root, and a script.
-#[derive(Clone, Copy, Debug)]
+#[derive(Clone, Copy)]
 pub enum Task<'a> {
     /// `check ROOT`: how many objects the files from the root on make.
     Check {

@@ -107,8 +107,8 @@ fn a_large_dictionary_is_sorted_in_time(rt: HostRuntime) -> Result<(), Fail> {
     let start = Instant::now(&rt)?;
     store.dict(pairs)?;
     assert!(rt; start.elapsed(&rt)? < Duration::from_secs(LIMIT));
-    assert_eq!(rt; store.get(0, "7919"), Some(&Value::Bool(true)));
-    assert_eq!(rt; store.get(0, "100003"), None);
+    assert!(rt; store.get(0, "7919") == Some(&Value::Bool(true)));
+    assert!(rt; store.get(0, "100003") == None);
     Ok(())
 }
 

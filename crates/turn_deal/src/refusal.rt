@@ -2,7 +2,7 @@
 use event_text::LineFault;
 
 /// A line of a turn or a report that gives no act.
-#[derive(Clone, Copy, Debug)]
+#[derive(Clone, Copy)]
 pub enum Refusal {
     /// The line of this number in its turn, from 1.
     Line { number: u64, fault: LineFault },

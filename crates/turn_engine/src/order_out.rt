@@ -2,7 +2,7 @@
 use site_base::{Text, Texts};
 
 /// A check that is to be started.
-#[derive(Debug, Drop)]
+#[derive(Drop)]
 pub struct OrderOut {
     /// Which order it is, from 1 over all turns.
     pub number: u64,

@@ -15,7 +15,7 @@ use site_model::Site;
 use std::alloc::Global;
 
 /// The orders with their words, and the reports of those whose macros are missing.
-#[derive(Debug, Drop)]
+#[derive(Drop)]
 pub(crate) struct Started {
     pub(crate) orders: Vec<OrderOut>,
     pub(crate) not_started: Vec<Report>,

@@ -5,7 +5,7 @@ use site_posts::Segments;
 use turn_deal::Refusal;
 
 /// What a turn gives.
-#[derive(Debug, Drop)]
+#[derive(Drop)]
 pub struct TurnOut {
     /// Which turn it is, from 1.
     pub number: u64,

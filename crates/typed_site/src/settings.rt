@@ -2,7 +2,7 @@
 use site_base::{Blob, Tree};
 
 /// What a site has beside its objects.
-#[derive(Debug, Drop)]
+#[derive(Drop)]
 pub struct Settings {
     /// The global `Vars`; `Null` without them.
     pub vars: Tree,

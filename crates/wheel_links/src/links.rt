@@ -9,7 +9,7 @@ use std::marker::Model;
 use std::sync::ledger::Ledger;
 
 /// The neighbours of a cell in its ring, by their indices.
-#[derive(Clone, Copy, Debug, PartialEq, Eq)]
+#[derive(Clone, Copy, PartialEq, Eq)]
 pub struct Link {
     pub before: u64,
     pub after: u64,

@@ -71,7 +71,7 @@ fn turn<L: Ledger, R: Abort>(
     }
     assert_eq!(rt; wheel.len() as usize, plain.len());
     for now in [secs, some_moment(roll / 512), Moment::LAST] {
-        assert_eq!(rt; wheel.due(first.later(now)), plain.due(now), "at {now}");
+        assert!(rt; wheel.due(first.later(now)) == plain.due(now), "at {now}");
     }
     Ok(())
 }
