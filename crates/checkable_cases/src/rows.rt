@@ -55,7 +55,7 @@ fn push_course(
             let Some(entries) = entries_of(alloc, site, entries)? else {
                 return out.push_str("no such entry");
             };
-            match Checkable::restored(alloc, site, checkable, entries) {
+            match Checkable::restored(alloc, site, checkable, entries.as_slice()) {
                 Ok(book) => book,
                 Err(RestoreFault::BadHistory) => return out.push_str("bad history"),
                 Err(RestoreFault::OutOfMemory) => return Err(OutOfMemory),

@@ -39,14 +39,15 @@ pub book_more : (c : PlainCheck) (h : List Entry) (e : Entry) (v : View) (b : bo
 book_more c h e v b is stands = subst (book.StandsFor b) (sym (calls_more c 1 v.count h e (counted c h e v is))) stands
 
 pub kept_more : (old new : Running) (s : PlainSite) (k : ℕ) (c : PlainCheck) (h : List Entry) (e : Entry) (v : View) → Keeps old s k c h → last_moment h ≤ e.moment →
-    shown.StandsFor new.status c (h ++ e ∷ []) → v ≡ new.status.view →
+    shown.StandsFor new.status c (h ++ e ∷ []) → new.last ≡ e.moment → v ≡ new.status.view →
     (IsProblemOf c e.event (is_problem v.state) → book.StandsFor old.book (calls_from c 1 h) → book.StandsFor new.book (calls_from c 1 h ++ call_in c v.count e.moment e.event e.taken)) →
     new.book.latest ≤ e.moment → (sent.StandsFor old.sent s k c h → sent.Follows e (reverse h) → sent.StandsFor new.sent s k c (h ++ e ∷ [])) → Keeps new s k c (h ++ e ∷ [])
-kept_more old new s k c h e v keeps late is at entered latest noted =
+kept_more old new s k c h e v keeps late is now at entered latest noted =
     let shows : v ≡ view_of c (h ++ e ∷ []) = at ∙ is.view in
     let last : last_moment (h ++ e ∷ []) ≡ e.moment = last_more h e in
     record {
       status = is;
+      last = now ∙ sym last;
       book = book_more c h e v new.book shows (entered (problem_told c h e v shows) keeps.book);
       latest = omega (arith, last, latest);
       sent = noted keeps.sent (follows h e keeps.sent.in_order late);

@@ -1,14 +1,15 @@
 -- Lists of entries and of checkables.
-use Rattle.std.proofs.Common.{◌≡◌, ℕ, zero, suc, ◌+◌, ◌-◌, ◌<◌, ◌≤◌, List, [], ◌∷◌, ◌++◌, All, length, map, reverse, slice_get, take, drop, get_or, Some, None, Result, Ok, Err, Bool, true, false, refl, sym, ap, ◌∙◌, arith, subst}
+use Rattle.std.proofs.Common.{max, ◌≡◌, ℕ, zero, suc, ◌+◌, ◌<◌, ◌≤◌, List, [], ◌∷◌, ◌++◌, All, length, map, reverse, slice_get, take, drop, get_or, Some, Result, Ok, Err, Bool, true, false, refl, sym, ap, ◌∙◌, arith, subst}
 use Rattle.std.proofs.lemmas.List.{reverse-append}
-use Rattle.std.proofs.lemmas.List.Elements.{All-cons, All-nil, All-weaker}
+use Rattle.std.proofs.lemmas.List.Elements.{All-cons, All-head, All-nil, All-tail, All-weaker}
 use Rattle.std.proofs.lemmas.Option.{slice_get-get_or}
 use Rattle.std.specs.Prelude.{OnOk}
 use Rattle.site_model.specs.PlainSite.{PlainCheck, check_view}
 use Rattle.site_model.specs.declared.check_spec.CheckSpec.{CheckSpec}
 use Rattle.site_model.specs.declared.entry.Entry.{Entry}
 use Rattle.run_meaning.specs.Dealing.{last_moment}
-use Rattle.run_meaning.proofs.Lists.{get_within, take_front, take_next, take_whole}
+use Rattle.run_meaning.specs.Runs.{greatest_of}
+use Rattle.run_meaning.proofs.Lists.{take_next}
 use Rattle.notify_rules.specs.Sent.{Follows, NeverFall}
 use Rattle.notify_rules.proofs.Lists.{drop_next}
 use Rattle.checkable_core.specs.Contents.{check_or}
@@ -90,6 +91,31 @@ newest_is_last (e ∷ back) m order h =
 pub follows : (h : List Entry) (e : Entry) → NeverFall (reverse h) → last_moment h ≤ e.moment → Follows e (reverse h)
 follows h e order late = let at : newest (reverse h) ≡ last_moment h = sym (last_is h) in newest_is_last (reverse h) e.moment order (omega (arith, at, late))
 
+-- The greatest moment.
+
+greatest_within : (es : List Entry) (m : ℕ) → All (λ x. x.moment ≤ m) es → greatest_of es ≤ m
+greatest_within [] m h = omega arith
+greatest_within (e ∷ es) m h =
+    let first = All-head (λ x. x.moment ≤ m) e es h in
+    let rest = greatest_within es m (All-tail (λ x. x.moment ≤ m) e es h) in
+    omega (arith, first, rest)
+
+greatest_newest : (back : List Entry) → NeverFall back → greatest_of back ≡ newest back
+greatest_newest [] order = refl
+greatest_newest (e ∷ back) order = let least = greatest_within back e.moment order.0 in omega (arith, least)
+
+greatest_more : (es : List Entry) (e : Entry) → greatest_of (es ++ e ∷ []) ≡ max e.moment (greatest_of es)
+greatest_more [] e = refl
+greatest_more (x ∷ es) e = let more = greatest_more es e in omega (arith, more)
+
+greatest_turned : (es : List Entry) → greatest_of (reverse es) ≡ greatest_of es
+greatest_turned [] = refl
+greatest_turned (e ∷ es) = ap greatest_of (reverse-append (e ∷ []) es) ∙ greatest_more (reverse es) e ∙ ap (max e.moment) (greatest_turned es)
+
+-- where moments don't fall, the last one is the greatest
+pub greatest_is_last : (h : List Entry) → NeverFall (reverse h) → greatest_of h ≡ last_moment h
+greatest_is_last h order = sym (greatest_turned h) ∙ greatest_newest (reverse h) order ∙ sym (last_is h)
+
 -- Entries one after the other.
 
 pub rises_next : (from i : ℕ) (es : List Entry) (d : Entry) → Rises from (drop i es) → i < length es → (from ≤ (get_or es i d).moment) × Rises (get_or es i d).moment (drop (i + 1) es)
@@ -105,13 +131,6 @@ take_all zero [] l = refl
 take_all zero (e ∷ es) l = absurd (omega (arith, l))
 take_all (suc i) [] l = refl
 take_all (suc i) (e ∷ es) l = ap (λ xs. e ∷ xs) (take_all i es (omega (arith, l)))
-
--- without the last one
-pub without_last : (xs ys zs : List Entry) (x : Entry) (n : ℕ) → ys ≡ xs ++ x ∷ [] → n ≡ length ys → zs ≡ take (n - 1) ys → zs ≡ xs
-without_last xs ys zs x n grown many left =
-    let m : length ys ≡ length xs + 1 = ap length grown ∙ length_more xs x in
-    let few : n - 1 ≡ length xs = omega (arith, many, m) in
-    left ∙ ap (λ k. take k ys) few ∙ ap (take (length xs)) grown ∙ take_front (length xs) xs (x ∷ []) (omega arith) ∙ take_whole xs
 
 -- Answers of calls.
 
@@ -136,20 +155,3 @@ stays before after (event.Undown number) false h = absurd cc
 stays before after (event.Checks on) taken h = refl
 stays before after (event.Notes on) taken h = refl
 stays before after (event.Check at forced) taken h = refl
-
--- The last of them.
-
-last_at : (es : List Entry) (k : ℕ) (x : Entry) → suc k ≡ length es → slice_get es k ≡ Some x → x.moment ≡ last_moment es
-last_at [] k x l h = absurd (omega (arith, l))
-last_at (e ∷ []) zero x l h = let same : e ≡ x = cc in ap (λ (y : Entry). y.moment) (sym same)
-last_at (e ∷ []) (suc k) x l h = absurd (omega (arith, l))
-last_at (e ∷ f ∷ es) zero x l h = absurd (omega (arith, l))
-last_at (e ∷ f ∷ es) (suc k) x l h = last_at (f ∷ es) k x (omega (arith, l)) h
-
-pub last_some : (es : List Entry) (x : Entry) → slice_get es (length es - 1) ≡ Some x → x.moment ≡ last_moment es
-last_some [] x h = absurd cc
-last_some (e ∷ es) x h = last_at (e ∷ es) (length (e ∷ es) - 1) x (omega arith) h
-
-pub last_none : (es : List Entry) → slice_get es (length es - 1) ≡ None → 0 ≡ last_moment es
-last_none [] h = refl
-last_none (e ∷ es) h = let (x, at) = get_within (e ∷ es) (length (e ∷ es) - 1) (omega arith) in absurd cc

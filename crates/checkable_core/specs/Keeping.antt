@@ -16,6 +16,7 @@ use Rattle.checkable_core.specs.declared.running.Running.{Running}
 -- it is what these entries of the checkable of index k leave
 pub record Keeps (r : Running) (s : PlainSite) (k : ℕ) (check : PlainCheck) (history : List Entry) : Type 0 where
   pub status : shown.StandsFor r.status check history
+  pub last : r.last ≡ last_moment history
   pub book : book.StandsFor r.book (calls_from check 1 history)
   pub latest : r.book.latest ≤ last_moment history
   pub sent : sent.StandsFor r.sent s k check history

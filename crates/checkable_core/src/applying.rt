@@ -10,7 +10,6 @@ ghost use Rattle.checkable_core.specs.Contents.{check_at, with_entry};
 ghost use Rattle.checkable_core.specs.Entries.{entry_made};
 
 use crate::Checkable;
-use crate::copies::copy_of;
 use crate::deciding::decisions;
 use crate::sights::sights_of;
 use crate::stepping::draft;
@@ -27,7 +26,7 @@ impl Checkable {
     ///
     /// # Errors
     ///
-    /// The event, for want of memory alone; the checkable is then as before.
+    /// The event, for want of memory alone, or of a number after 2^64 - 1 entries; the checkable is then as before.
     pub fn apply(
         &mut self,
         site: &Site,
@@ -47,6 +46,9 @@ impl Checkable {
         ensures kept { IfOk result (λ e. self.new ≡ with_entry self.old e) }
         ensures refused { IfErr result (λ e. (e ≡ event) × (self.new ≡ self.old)) }
     {
+        if self.running.status.view().count == u64::MAX {
+            return Err(event);
+        }
         let index = self.index;
         let spec = &site.checkables.as_slice()[index as usize];
         let made = draft(
@@ -96,20 +98,15 @@ impl Checkable {
     ///
     /// # Errors
     ///
-    /// `OutOfMemory` where there is none for the entry or its downtime; the checkable is then as before.
+    /// `OutOfMemory` where there is none for its downtime; the checkable is then as before.
     fn keep(&mut self, status: Status, entry: &Entry) -> Result<(), OutOfMemory>
         requires moment { last_moment self.old.entries ≤ entry.now.moment }
         requires shown { StandsFor status (check_at (site_view self.old.site) self.old.index) (self.old.entries ++ entry.now ∷ []) }
         ensures ok { OnOk result (self.new ≡ with_entry self.old entry.now) }
         ensures err { OnErr result (self.new ≡ self.old) }
     {
-        self.entries.push(copy_of(self.alloc, entry)?)?;
-        match self.running.keep(status, entry) {
-            Ok(()) => Ok(()),
-            Err(OutOfMemory) => {
-                self.entries.pop();
-                Err(OutOfMemory)
-            }
-        }
+        self.running.keep(status, entry)?;
+        self.entries = self.entries.and(entry);
+        Ok(())
     }
 }

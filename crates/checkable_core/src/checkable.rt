@@ -3,6 +3,7 @@ ghost use Rattle.std.specs.Prelude.{◌≡◌, ◌<◌, ◌≤◌, ◌^◌, [], 
 ghost use Rattle.site_model.specs.PlainSite.{site_view};
 ghost use Rattle.run_meaning.specs.Dealing.{last_moment};
 ghost use Rattle.run_meaning.specs.Downtimes.{in_effect};
+ghost use Rattle.run_meaning.specs.Runs.{greatest_of};
 ghost use Rattle.run_meaning.specs.View.{view_of};
 ghost use Rattle.notify_rules.specs.Sent.{TellOnce};
 ghost use Rattle.checkable_core.specs.Contents.{check_at};
@@ -12,18 +13,19 @@ use site_base::{Moment, OutOfMemory};
 use site_model::{Entry, Site, View};
 use std::alloc::Global;
 use std::marker::Model;
-use std::snapshot::Snapshot;
+use trail::{Told, Trail};
 
-/// A host or a service of a site with its history: its entries, the oldest first, and what is kept of them for the next
-/// one, so that none is looked for among them. Clauses see the site, the index and the entries.
+/// A host or a service of a site with its history: what is kept of its entries for the next one, and the entries, the oldest first,
+/// for clauses alone. So it takes a memory that doesn't grow with them. Clauses see the site, the index and the entries.
 #[derive(Drop)]
 pub struct Checkable {
     pub(crate) alloc: Global,
     /// The site that it was made for, which clauses alone see.
-    pub(crate) site: Snapshot<Site>,
+    pub(crate) site: Told<Site>,
     pub(crate) index: u32,
     pub(crate) running: Running,
-    pub(crate) entries: Vec<Entry>,
+    /// The entries, which clauses alone see.
+    pub(crate) entries: Trail<Entry>,
 }
 
 impl Model for Checkable {
@@ -56,10 +58,10 @@ impl Checkable {
     {
         Ok(Checkable {
             alloc,
-            site: Snapshot::of(site),
+            site: Told::of(site),
             index: checkable,
             running: Running::new(alloc, site, checkable)?,
-            entries: Vec::new(alloc),
+            entries: Trail::new(),
         })
     }
 
@@ -70,21 +72,12 @@ impl Checkable {
         self.running.status.view()
     }
 
-    /// The moment of its last entry; 0 before the first.
+    /// The moment of its last entry, which is the greatest of all; 0 before the first.
     pub fn last_moment(&self) -> Moment
-        ensures { result ≡ last_moment self.now.entries }
+        ensures last { result ≡ last_moment self.now.entries }
+        ensures greatest { result ≡ greatest_of self.now.entries }
     {
-        match self.entries.last() {
-            Some(entry) => entry.moment,
-            None => Moment::of(0).unwrap(),
-        }
-    }
-
-    /// Its entries, the oldest first.
-    pub fn entries(&self) -> &[Entry]
-        ensures { result.now ≡ self.now.entries }
-    {
-        self.entries.as_slice()
+        self.running.last
     }
 
     /// The downtime in effect at a moment that isn't before the last entry's, by the number of the entry that began it: of

@@ -1,15 +1,14 @@
 //! A host or a service with its history: each event makes its next entry, by what the entries before it left.
 //!
 //! In reading order: what an event makes before anything is decided (`draft`, `stepping`), what it does to downtimes
-//! (`downtimes`), what is kept of entries (`running`), how far the ancestors were seen (`sights`), what is decided on
-//! notifications (`deciding`) and copies of entries (`copies`); the checkable (`checkable`), the entry that an event makes of it
+//! (`downtimes`), what is kept of entries (`running`), how far the ancestors were seen (`sights`) and what is decided on
+//! notifications (`deciding`); the checkable (`checkable`), the entry that an event makes of it
 //! (`applying`), and which entries make one again (`histories`, `restoring`, `restore_fault`), which `laws` tells of those that
 //! are made; and the checkable as the machine of a turn lock (`deed`, `machine`).
 #![tactic(auto)]
 
 mod applying;
 mod checkable;
-mod copies;
 mod deciding;
 mod deed;
 mod downtimes;

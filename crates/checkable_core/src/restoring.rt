@@ -7,10 +7,9 @@ ghost use Rattle.checkable_core.specs.Histories.{IsHistory};
 use crate::histories::is_history;
 use crate::running::Running;
 use crate::{Checkable, RestoreFault};
-use site_base::Row;
 use site_model::{Entry, Site};
 use std::alloc::Global;
-use std::snapshot::Snapshot;
+use trail::{Told, Trail};
 
 impl Checkable {
     /// The checkable of this index of a site, with these entries, the oldest first. Their events, moments and decisions count
@@ -24,26 +23,25 @@ impl Checkable {
         alloc: Global,
         site: &Site,
         checkable: u32,
-        entries: Row<Entry>,
+        entries: &[Entry],
     ) -> Result<Checkable, RestoreFault>
         requires once { TellOnce (site_view site.now) }
         requires notifies { length site.now.notifies < 2 ^ 32 }
         requires checkable { checkable < length site.now.checkables }
-        ensures ok { IfOk result (λ k. (k ≡ record { site = site.now; index = checkable; entries = entries }) × IsHistory (site_view site.now) entries) }
-        ensures bad { IsErrOf result RestoreFault.BadHistory → ¬ IsHistory (site_view site.now) entries }
-        ensures memory { IsErrOf result RestoreFault.OutOfMemory → IsHistory (site_view site.now) entries }
+        ensures ok { IfOk result (λ k. (k ≡ record { site = site.now; index = checkable; entries = entries.now }) × IsHistory (site_view site.now) entries.now) }
+        ensures bad { IsErrOf result RestoreFault.BadHistory → ¬ IsHistory (site_view site.now) entries.now }
+        ensures memory { IsErrOf result RestoreFault.OutOfMemory → IsHistory (site_view site.now) entries.now }
     {
-        if !is_history(site, entries.as_slice()) {
+        if !is_history(site, entries) {
             return Err(RestoreFault::BadHistory);
         }
-        let entries = entries.into_vec();
-        let running = Running::after(alloc, site, checkable, entries.as_slice())?;
+        let running = Running::after(alloc, site, checkable, entries)?;
         Ok(Checkable {
             alloc,
-            site: Snapshot::of(site),
+            site: Told::of(site),
             index: checkable,
             running,
-            entries,
+            entries: Trail::of(entries),
         })
     }
 }

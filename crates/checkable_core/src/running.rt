@@ -13,15 +13,17 @@ use crate::stepping::follow;
 use check_state::{Status, is_problem};
 use downtime_book::Book;
 use notify_rules::SentBook;
-use site_base::OutOfMemory;
+use site_base::{Moment, OutOfMemory};
 use site_model::{CheckSpec, Entry, Site};
 use std::alloc::Global;
 
-/// What is kept of the entries of a checkable for the next one: what they show, the downtimes that aren't past, and what
-/// was sent of its notifications.
+/// What is kept of the entries of a checkable for the next one: what they show, the last one's moment, the downtimes that aren't
+/// past, and what was sent of its notifications.
 #[derive(Drop)]
 pub(crate) struct Running {
     pub status: Status,
+    /// 0 before the first.
+    pub last: Moment,
     pub book: Book,
     pub sent: SentBook,
 }
@@ -41,6 +43,7 @@ impl Running {
         let sent = SentBook::new(alloc, site, checkable)?;
         Ok(Running {
             status: Status::new(&site.checkables.as_slice()[checkable as usize]),
+            last: Moment::of(0).unwrap(),
             book: Book::new(alloc),
             sent,
         })
@@ -69,6 +72,7 @@ impl Running {
             problem,
         )?;
         self.status = status;
+        self.last = entry.moment;
         self.sent.note(entry);
         Ok(())
     }

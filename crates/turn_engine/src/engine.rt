@@ -76,7 +76,7 @@ impl Engine {
     /// The engine of a site whose checkables have entries already, before its first turn: its moment is the greatest of theirs, no check is
     /// ordered, and each is due. The site is one that `new` takes, and there is one checkable for each of its indices.
     ///
-    /// It takes a time that grows with all entries.
+    /// It takes a time that grows with the site.
     ///
     /// # Errors
     ///

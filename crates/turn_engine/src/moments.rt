@@ -1,11 +1,10 @@
 // Moments: the later of two, and the greatest of entries.
 ghost use Rattle.std.specs.Prelude.{◌≡◌, max};
-ghost use Rattle.run_meaning.specs.Runs.{greatest_moment, greatest_of};
+ghost use Rattle.run_meaning.specs.Runs.{greatest_moment};
 ghost use Rattle.site_posts.specs.Books.{histories_of};
 
 use checkable_core::Checkable;
 use site_base::Moment;
-use site_model::Entry;
 
 /// The later of two moments.
 pub fn later_of(left: Moment, right: Moment) -> Moment
@@ -24,18 +23,7 @@ pub(crate) fn greatest_moment_of(books: &[Checkable]) -> Moment
 {
     let mut greatest = Moment::of(0).unwrap();
     for book in books {
-        greatest = later_of(greatest, greatest_in(book.entries()));
-    }
-    greatest
-}
-
-/// The greatest moment of these entries.
-fn greatest_in(entries: &[Entry]) -> Moment
-    ensures { result ≡ greatest_of entries.now }
-{
-    let mut greatest = Moment::of(0).unwrap();
-    for entry in entries {
-        greatest = later_of(greatest, entry.moment);
+        greatest = later_of(greatest, book.last_moment());
     }
     greatest
 }

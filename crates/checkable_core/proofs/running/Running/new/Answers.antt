@@ -1,5 +1,6 @@
 -- Nothing is kept of no entries.
-use Rattle.std.proofs.Common.{◌≡◌, ◌<◌, List, [], length, get_or, ap, ◌∙◌, arith, subst}
+use Rattle.std.proofs.Common.{◌≡◌, ◌<◌, List, [], length, get_or, Option, ap, ◌∙◌, arith, subst}
+use Rattle.std.specs.Option.{IfSome}
 use Rattle.check_state.specs.Stands.{StandsFor}
 use Rattle.site_model.specs.PlainSite.{PlainCheck, check_view, site_view}
 use Rattle.site_model.specs.declared.check_spec.CheckSpec.{CheckSpec}
@@ -21,6 +22,7 @@ returns c =
       within = within;
       keeps = record {
         status = subst (λ (x : PlainCheck). StandsFor c.new-2.result x []) spec c.new-2.ensures.stands;
+        last = subst (λ (o : Option _). IfSome o (λ m. m ≡ 0)) c.unwrap.ensures c.of.ensures.value;
         book = c.new-3.ensures.empty;
         latest = omega (arith, zero);
         sent = c.in_ok-sent.ensures (check_at s k) c.requires.once (check_is s.checkables k within);

@@ -1,6 +1,0 @@
--- So far each is copied.
-use Rattle.std.proofs.Common.{◌≡◌, take}
-use Rattle.checkable_core.proofs.copies.copy_decisions.Given as goal
-
-abbrev pub invariant-loop-decision : goal.invariant-loop-decision
-invariant-loop-decision l = l.copies.items ≡ take l.decision-index l.decisions
