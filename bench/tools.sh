@@ -1,0 +1,94 @@
+#!/usr/bin/env bash
+# Tries the tools of bin/ that read logs and diagnostics, over stored logs: bin/now, bin/on-sent and bin/explain. It needs no program,
+# prints a line for each thing that isn't as it should be, and ends with 1 where there is one.
+set -u
+cd "$(dirname "${BASH_SOURCE[0]}")/.." || exit 1
+export TZ=UTC
+scratch=$(mktemp -d)
+trap 'rm -rf "$scratch"' EXIT
+tried=0
+failed=0
+
+same() { # WHAT WANTED GOT
+    tried=$((tried + 1))
+    if [ "$2" != "$3" ]; then
+        failed=$((failed + 1))
+        printf '%s:\n  wanted: %s\n  got:    %s\n' "$1" "$2" "$3"
+    fi
+}
+
+now() { bin/now "$@"; }
+
+# What is down, the longest first, with who was told or why nobody was.
+same "now, version 1" "$(cat <<'LINES'
+Critical HARD   db1!disk  since 2025-11-24 16:00:00 (4m)  in downtime 4  told chris at 2025-11-24 16:02:00
+Down     HARD   db1  since 2025-11-24 16:01:00 (3m)  nobody told: NoUsers
+Down     HARD   web "a"  since 2025-11-24 16:03:00 (1m)  acknowledged (sticky)  told anna at 2025-11-24 16:03:00
+3 of 4 are down at 2025-11-24 16:04:00
+LINES
+)" "$(now bench/logs/one.log)"
+now bench/logs/one.log >/dev/null
+same "now's status, with a problem that nobody acknowledged" 1 $?
+same "now, all" 5 "$(now --all bench/logs/one.log | wc -l)"
+same "now, after the downtime" 0 "$(now --at 1764003840 bench/logs/one.log | grep -c 'in downtime')"
+same "now, version 2" "$(cat <<'LINES'
+Warning  HARD   db1!load  since 2025-11-24 16:06:00 (1m)  acknowledged (normal)  in downtime 2  nobody told: Downtime 2  load high
+1 of 2 are down at 2025-11-24 16:07:00
+LINES
+)" "$(now bench/logs/two.log)"
+now bench/logs/two.log >/dev/null
+same "now's status, where all is acknowledged" 0 $?
+# A daemon that began anew forgets what stood before; the order of the files doesn't matter.
+same "now, two runs" "$(now bench/logs/two.log)" "$(now bench/logs/two.log bench/logs/one.log)"
+gzip -c bench/logs/one.log >"$scratch/log.2.gz"
+same "now, rotated and packed" "$(now bench/logs/one.log)" "$(now "$scratch/log.2.gz")"
+same "now, JSON" 'db1!disk Critical HARD 1764000000 4 chris' "$(now --json bench/logs/one.log | python3 -c '
+import json, sys
+it = json.load(sys.stdin)["problems"][0]
+print(it["name"], it["state"], it["type"], it["since"], it["downtime"], *it["told"])')"
+same "now, an output that looks like a decision" 'DISK CRITICAL - | "/" full, " Problem " Sent' \
+    "$(head -n 3 bench/logs/two.log >"$scratch/first"; now --json "$scratch/first" | python3 -c 'import json, sys; print(json.load(sys.stdin)["problems"][0]["output"])')"
+now "$scratch/none" 2>/dev/null
+same "now's status, without a log" 2 $?
+printf 'turn 1 1\nentry "a" 1 by 0 at 1: passive 2 -> Down HARD 1 | - | -' >"$scratch/cut"
+same "now, a line that is being written" "0 of 0 are down at 1970-01-01 00:00:01" "$(now "$scratch/cut")"
+
+# Each decision that was sent is told once, also over a log that grew, was cut by copytruncate, or was moved.
+log=$scratch/log
+sent() { bin/on-sent --once "$@" "$log" sh -c 'printf "%s %s %s\n" "$SENT_KIND" "$SENT_NOTIFICATION" "$(printf %s "$SENT_USERS" | tr "\n" ,)"' 2>&1; }
+cp bench/logs/one.log "$log"
+same "on-sent, all of a log" "$(cat <<'LINES'
+Problem db1!disk!mail anna,bob
+Problem db1!disk!sms chris
+Problem web "a"!mail anna
+Acknowledgement web "a"!mail anna
+LINES
+)" "$(sent --from-start)"
+same "on-sent, again" "" "$(sent)"
+printf 'turn 6 1764000250\nentry "fine" 2 by 0 at 1764000250: result 2 -> Down HARD 1 | - | "fine!mail" Problem Sent "bob"' >>"$log"
+same "on-sent, a line that is being written" "" "$(sent)"
+printf '\n' >>"$log"
+cp "$log" "$log.1"
+cp bench/logs/two.log "$log"
+same "on-sent, the rest of a log that was cut, and the new one" "$(cat <<'LINES'
+Problem fine!mail bob
+Problem db1!disk!mail anna
+Recovery db1!disk!mail anna
+LINES
+)" "$(sent)"
+same "on-sent, again after that" "" "$(sent)"
+rm -f "$log.sent"
+same "on-sent, without a position it begins at the end" "" "$(sent)"
+same "on-sent, a command that fails" "on-sent: false ended with 1 for db1!disk!mail" \
+    "$(bin/on-sent --once --from-start --position "$scratch/p" "$log" false 2>&1 | head -n 1)"
+same "on-sent, its fields" 'db1 disk OK HARD 1 1764000360 DISK OK' \
+    "$(bin/on-sent --once --from-start --position "$scratch/q" "$log" sh -c 'echo "$SENT_HOST" "$SENT_SERVICE" "$SENT_STATE" "$SENT_TYPE" "$SENT_ATTEMPT" "$SENT_MOMENT" "$SENT_OUTPUT"' | tail -n 1)"
+
+# A diagnostic gets its source line, a mark, a meaning and where to read on; every other line is passed on.
+printf 'object Host "a" {\n}\n' >"$scratch/r"
+explained=$(printf '%s/r:1:8: Syntax\nok\n' "$scratch" | bin/explain)
+same "explain, the source line and its mark" '    object Host "a" {|           ^' "$(printf '%s\n' "$explained" | sed -n '2,3p' | paste -sd '|')"
+same "explain, other lines" ok "$(printf '%s\n' "$explained" | tail -n 1)"
+
+echo "$tried tried, $failed not as they should be"
+[ "$failed" = 0 ]
