@@ -161,6 +161,8 @@ impl<T: Threads + Drop> World for LiveWorld<T> {
 
     ghost started = { λ _. None };
 
+    ghost calls = { λ _. None };
+
     ghost faults = { λ w. w.faults };
 
     ghost calm = { λ _. ⊥ };

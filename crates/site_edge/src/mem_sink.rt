@@ -1,5 +1,5 @@
 // A sink in memory.
-ghost use Rattle.std.specs.Prelude.{◌≡◌, ◌≢◌, ◌≤◌, [], IsErrOf, IsFalse, IsTrue, Some, Err, OnOk, OnErr};
+ghost use Rattle.std.specs.Prelude.{◌≡◌, ◌≢◌, ◌≤◌, ◌+◌, [], length, IsErrOf, IsFalse, IsTrue, Some, Err, OnOk, OnErr};
 ghost use Rattle.site_edge.specs.Fakes.{fresh, sink_failures, FailsAsListed, IsCalm};
 ghost use Rattle.site_edge.specs.Lists.{Adds, AddsPart};
 ghost use Rattle.site_edge.specs.Told.{Rose};
@@ -10,7 +10,7 @@ use site_base::Row;
 use std::alloc::Global;
 
 /// A sink in memory, of which all is told. The n-th call fails exactly where n is listed, counted
-/// from 1, `put` and `flush` together; a `put` that fails writes the first half of its bytes.
+/// from 1, `put` and `flush` together; a `put` that fails writes the first half of its bytes. It keeps nothing back.
 #[derive(Drop)]
 pub struct MemSink {
     bytes: Vec<u8>,
@@ -43,6 +43,8 @@ impl MemSink {
 impl Sink for MemSink {
     ghost written = { λ s. Some s.bytes.items };
 
+    ghost kept_back = { λ _. 0 };
+
     ghost faults = { λ s. s.faults };
 
     ghost calm = { λ s. IsCalm s.failures };
@@ -51,6 +53,7 @@ impl Sink for MemSink {
         ensures ok { OnOk result (Adds bytes.now (Some self.old.bytes.items) (Some self.new.bytes.items)) }
         ensures err { OnErr result
             (AddsPart bytes.now (Some self.old.bytes.items) (Some self.new.bytes.items)) }
+        ensures kept_back { 0 ≤ 0 + length bytes.now }
         ensures failing { FailsAsListed (sink_failures self.old) (sink_failures self.new)
             (IsErrOf result SinkFault.Failed) }
         ensures cause { IsErrOf result SinkFault.Failed → Rose self.old.faults self.new.faults }

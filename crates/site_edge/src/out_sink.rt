@@ -1,5 +1,5 @@
 // Standard output.
-ghost use Rattle.std.specs.Prelude.{◌≡◌, ◌≤◌, None, OnOk, IsErrOf};
+ghost use Rattle.std.specs.Prelude.{◌≡◌, ◌≤◌, [], length, None, OnOk, IsErrOf};
 ghost use Rattle.site_edge.specs.Told.{Rose};
 
 use crate::{Sink, SinkFault};
@@ -23,7 +23,8 @@ pub struct OutSink<R: Print + Drop> {
 
 impl<R: Print + Drop> OutSink<R> {
     pub fn new(alloc: Global, rt: R) -> OutSink<R>
-        ensures { ⟦<OutSink<R> as Sink>⟧.faults result ≡ 0 }
+        ensures faults { ⟦<OutSink<R> as Sink>⟧.faults result ≡ 0 }
+        ensures through { ⟦<OutSink<R> as Sink>⟧.kept_back result ≡ 0 }
     {
         OutSink {
             rt,
@@ -34,6 +35,7 @@ impl<R: Print + Drop> OutSink<R> {
 
     /// Writes what is kept back. After a fault it is gone.
     fn write_kept(&mut self) -> Result<(), SinkFault>
+        ensures through { self.new.kept.items ≡ [] }
         ensures cause { IsErrOf result SinkFault.Failed → Rose self.old.faults self.new.faults }
         ensures counts { self.old.faults ≤ self.new.faults }
         ensures quiet { OnOk result (self.new.faults ≡ self.old.faults) }
@@ -48,6 +50,7 @@ impl<R: Print + Drop> OutSink<R> {
 
     /// Counts a write that failed.
     fn settle(&mut self, written: io::Result<()>) -> Result<(), SinkFault>
+        ensures kept { self.new.kept ≡ self.old.kept }
         ensures cause { IsErrOf result SinkFault.Failed → Rose self.old.faults self.new.faults }
         ensures counts { self.old.faults ≤ self.new.faults }
         ensures quiet { OnOk result (self.new.faults ≡ self.old.faults) }
@@ -64,6 +67,8 @@ impl<R: Print + Drop> OutSink<R> {
 
 impl<R: Print + Drop> Sink for OutSink<R> {
     ghost written = { λ _. None };
+
+    ghost kept_back = { λ s. length s.kept.items };
 
     ghost faults = { λ s. s.faults };
 

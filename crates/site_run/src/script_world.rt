@@ -15,6 +15,7 @@ impl ScriptWorld {
     pub fn new(turns: Row<Turn>) -> ScriptWorld
         ensures turns { ⟦<ScriptWorld as World>⟧.turns result ≡ Some turns }
         ensures started { ⟦<ScriptWorld as World>⟧.started result ≡ None }
+        ensures calls { ⟦<ScriptWorld as World>⟧.calls result ≡ None }
         ensures calm { ⟦<ScriptWorld as World>⟧.calm result }
     {
         ScriptWorld {
@@ -29,6 +30,8 @@ impl World for ScriptWorld {
     ghost turns = { λ w. Some w.turns.items };
 
     ghost started = { λ _. None };
+
+    ghost calls = { λ _. None };
 
     ghost faults = { λ _. 0 };
 
