@@ -7,7 +7,7 @@ use Rattle.run_meaning.specs.Turns.{Histories, of_index}
 use Rattle.run_meaning.specs.Rounds.{IsRound}
 use Rattle.run_meaning.specs.Alone.{Move}
 use Rattle.run_meaning.specs.Shares.{done_in}
-use Rattle.run_meaning.specs.TwoCallers.{basis, down, events, nothing}
+use Rattle.run_meaning.specs.TwoCallers.{down, events, nothing, rules}
 use Rattle.run_meaning.proofs.Lists.{get_map, length_map, moves_on, of_index_past, one_at}
 use Rattle.run_meaning.proofs.Meeting.{moves_make}
 use Rattle.run_meaning.proofs.Parts.{apart}
@@ -26,13 +26,13 @@ abbrev Small : Move → Type 0
 Small m = m.caller < 2
 
 abbrev OnSite : Move → Type 0
-OnSite m = m.asked.checkable < length basis.site.checkables
+OnSite m = m.asked.checkable < length rules.site.checkables
 
-pub host_is : IsRound basis 10 nothing events host_first
-host_is = moves_make basis 10 nothing 2 (on_host ∷ on_service ∷ []) (each_of_two Small on_host on_service (lit< tt) (lit< tt)) (each_of_two OnSite on_host on_service (lit< tt) (lit< tt))
+pub host_is : IsRound rules 10 nothing events host_first
+host_is = moves_make rules 10 nothing 2 (on_host ∷ on_service ∷ []) (each_of_two Small on_host on_service (lit< tt) (lit< tt)) (each_of_two OnSite on_host on_service (lit< tt) (lit< tt))
 
-pub service_is : IsRound basis 10 nothing events service_first
-service_is = moves_make basis 10 nothing 2 (on_service ∷ on_host ∷ []) (each_of_two Small on_service on_host (lit< tt) (lit< tt)) (each_of_two OnSite on_service on_host (lit< tt) (lit< tt))
+pub service_is : IsRound rules 10 nothing events service_first
+service_is = moves_make rules 10 nothing 2 (on_service ∷ on_host ∷ []) (each_of_two Small on_service on_host (lit< tt) (lit< tt)) (each_of_two OnSite on_service on_host (lit< tt) (lit< tt))
 
 none_or_one : (n : ℕ) → n ≤ 1 → (n ≡ 0) ⊎ (n ≡ 1)
 none_or_one zero h = inl refl
@@ -67,12 +67,12 @@ record IsSeen (round : Histories) (n : ℕ) : Type 0 where
   first : slice_get entry.sights 0 ≡ Some sight
   count : sight.count ≡ n
 
-module _ (round : Histories) (x : IsRound basis 10 nothing events round) where
+module _ (round : Histories) (x : IsRound rules 10 nothing events round) where
   host_done : map done_in (of_index 0 round) ≡ (0, down) ∷ []
-  host_done = one (0, down) _ (IsPermutation-sym _ _ (entries_are_dealt basis 10 nothing events round x 0))
+  host_done = one (0, down) _ (IsPermutation-sym _ _ (entries_are_dealt rules 10 nothing events round x 0))
 
   service_done : map done_in (of_index 1 round) ≡ (1, down) ∷ []
-  service_done = one (1, down) _ (IsPermutation-sym _ _ (entries_are_dealt basis 10 nothing events round x 1))
+  service_done = one (1, down) _ (IsPermutation-sym _ _ (entries_are_dealt rules 10 nothing events round x 1))
 
   one_of_host : length (of_index 0 round) ≡ 1
   one_of_host = sym (length_map done_in (of_index 0 round)) ∙ ap length host_done
@@ -141,5 +141,5 @@ module _ (round : Histories) (x : IsRound basis 10 nothing events round) where
       nothing_and c = of_index c nothing ++ of_index c round
 
       by : (e : Entry) (y : Sight) → slice_get (of_index 1 round) 0 ≡ Some e → slice_get e.sights 0 ≡ Some y → (y.count ≡ 0) ⊎ (y.count ≡ 1) → (round ≡ host_first) ⊎ (round ≡ service_first)
-      by e y at first (inl n) = inr (round_is basis 10 nothing events round x (on_service ∷ on_host ∷ []) service_taken (service_seen (record { entry = e; sight = y; at = at; first = first; count = n })))
-      by e y at first (inr n) = inl (round_is basis 10 nothing events round x (on_host ∷ on_service ∷ []) host_taken (host_seen (record { entry = e; sight = y; at = at; first = first; count = n })))
+      by e y at first (inl n) = inr (round_is rules 10 nothing events round x (on_service ∷ on_host ∷ []) service_taken (service_seen (record { entry = e; sight = y; at = at; first = first; count = n })))
+      by e y at first (inr n) = inl (round_is rules 10 nothing events round x (on_host ∷ on_service ∷ []) host_taken (host_seen (record { entry = e; sight = y; at = at; first = first; count = n })))

@@ -20,21 +20,21 @@ use Rattle.caller_examples.proofs.Moves.{AllSeen, round_is}
 -- Turns.
 
 -- what callers that take nothing make is the round of no moves
-nothing_taken : (moment : ℕ) (before round : Histories) → IsRound b moment before ([] ∷ [] ∷ []) round → round ≡ round_of b moment before []
+nothing_taken : (moment : ℕ) (before round : Histories) → IsRound b.rules moment before ([] ∷ [] ∷ []) round → round ≡ round_of b.rules moment before []
 nothing_taken moment before round x =
-    round_is b moment before ([] ∷ [] ∷ []) round x [] (λ c. none _ (IsPermutation-sym _ _ (entries_are_dealt b moment before ([] ∷ [] ∷ []) round x c))) (λ i m e h. absurd cc)
+    round_is b.rules moment before ([] ∷ [] ∷ []) round x [] (λ c. none _ (IsPermutation-sym _ _ (entries_are_dealt b.rules moment before ([] ∷ [] ∷ []) round x c))) (λ i m e h. absurd cc)
 
 -- a log by its round
-turn_is : (st : Stage) (t : ReadTurn) (l : TurnLog) (moves : List Move) → IsTurn b 2 st t l → l.round ≡ round_of b (max st.moment t.moment) st.histories moves → l ≡ turn_by b st t moves
+turn_is : (st : Stage) (t : ReadTurn) (l : TurnLog) (moves : List Move) → IsTurn b 2 st t l → l.round ≡ round_of b.rules (max st.moment t.moment) st.histories moves → l ≡ turn_by b st t moves
 turn_is st t l moves x e =
     let m = max st.moment t.moment in
     let refusals : l.refusals ≡ refusals_of b st t m = x.refusals ∙ ap (refusals_of b st t) x.moment in
-    let orders : l.orders ≡ (planned_of b st m (round_of b m st.histories moves)).orders = x.orders ∙ ap₂ (λ k r. (planned_of b st k r).orders) x.moment e in
+    let orders : l.orders ≡ (planned_of b st m (round_of b.rules m st.histories moves)).orders = x.orders ∙ ap₂ (λ k r. (planned_of b st k r).orders) x.moment e in
     λ i. record { number = x.number i; moment = x.moment i; refusals = refusals i; round = e i; orders = orders i }
 
 -- its round at the moment that it has
-round_at : (st : Stage) (t : ReadTurn) (l : TurnLog) → IsTurn b 2 st t l → IsRound b (max st.moment t.moment) st.histories (events_of b 2 st t (max st.moment t.moment)) l.round
-round_at st t l x = subst (λ m. IsRound b m st.histories (events_of b 2 st t m) l.round) x.moment x.round
+round_at : (st : Stage) (t : ReadTurn) (l : TurnLog) → IsTurn b 2 st t l → IsRound b.rules (max st.moment t.moment) st.histories (events_of b 2 st t (max st.moment t.moment)) l.round
+round_at st t l x = subst (λ m. IsRound b.rules m st.histories (events_of b 2 st t m) l.round) x.moment x.round
 
 -- The turn with both.
 
@@ -59,16 +59,16 @@ only_host (a ∷ []) zero y e h = cc
 only_host (a ∷ []) (suc j) y e h = absurd cc
 only_host (a ∷ d ∷ ys) j y e h = absurd (let n = ap length e in omega (arith, n))
 
-module _ (round : Histories) (x : IsRound b 20 before both round) where
+module _ (round : Histories) (x : IsRound b.rules 20 before both round) where
   on_host : of_index 0 round ≡ []
-  on_host = nothing_in (of_index 0 round) (none _ (IsPermutation-sym _ _ (entries_are_dealt b 20 before both round x 0)))
+  on_host = nothing_in (of_index 0 round) (none _ (IsPermutation-sym _ _ (entries_are_dealt b.rules 20 before both round x 0)))
     where
       nothing_in : (es : List Entry) → map done_in es ≡ [] → es ≡ []
       nothing_in [] e = refl
       nothing_in (f ∷ es) e = absurd (let n = ap length e in omega (arith, n))
 
   on_service : (map done_in (of_index 1 round) ≡ done_by line ∷ done_by reported ∷ []) ⊎ (map done_in (of_index 1 round) ≡ done_by reported ∷ done_by line ∷ [])
-  on_service = two (done_by line) (done_by reported) _ (IsPermutation-sym _ _ (entries_are_dealt b 20 before both round x 1))
+  on_service = two (done_by line) (done_by reported) _ (IsPermutation-sym _ _ (entries_are_dealt b.rules 20 before both round x 1))
 
   taken : (m o : Move) → m.asked.checkable ≡ 1 → o.asked.checkable ≡ 1 → map done_in (of_index 1 round) ≡ done_by m ∷ done_by o ∷ [] → (c : ℕ) → moves_on 0 (m ∷ o ∷ []) ≡ [] → moves_on 1 (m ∷ o ∷ []) ≡ m ∷ o ∷ [] → map done_in (of_index c round) ≡ map done_by (moves_on c (m ∷ o ∷ []))
   taken m o p q e zero n w = ap (map done_in) on_host ∙ ap (map done_by) (sym n)
@@ -97,12 +97,12 @@ module _ (round : Histories) (x : IsRound b 20 before both round) where
   on_it m o p q (suc zero) n h = let e : o ≡ n = cc in subst (λ (z : Move). z.asked.checkable ≡ 1) e q
   on_it m o p q (suc (suc i)) n h = absurd cc
 
-  pub either : (round ≡ round_of b 20 before (line ∷ reported ∷ [])) ⊎ (round ≡ round_of b 20 before (reported ∷ line ∷ []))
+  pub either : (round ≡ round_of b.rules 20 before (line ∷ reported ∷ [])) ⊎ (round ≡ round_of b.rules 20 before (reported ∷ line ∷ []))
   either = by on_service
     where
-      by : (map done_in (of_index 1 round) ≡ done_by line ∷ done_by reported ∷ []) ⊎ (map done_in (of_index 1 round) ≡ done_by reported ∷ done_by line ∷ []) → (round ≡ round_of b 20 before (line ∷ reported ∷ [])) ⊎ (round ≡ round_of b 20 before (reported ∷ line ∷ []))
-      by (inl e) = inl (round_is b 20 before both round x (line ∷ reported ∷ []) (λ c. taken line reported refl refl e c refl refl) (seen (line ∷ reported ∷ []) (on_it line reported refl refl)))
-      by (inr e) = inr (round_is b 20 before both round x (reported ∷ line ∷ []) (λ c. taken reported line refl refl e c refl refl) (seen (reported ∷ line ∷ []) (on_it reported line refl refl)))
+      by : (map done_in (of_index 1 round) ≡ done_by line ∷ done_by reported ∷ []) ⊎ (map done_in (of_index 1 round) ≡ done_by reported ∷ done_by line ∷ []) → (round ≡ round_of b.rules 20 before (line ∷ reported ∷ [])) ⊎ (round ≡ round_of b.rules 20 before (reported ∷ line ∷ []))
+      by (inl e) = inl (round_is b.rules 20 before both round x (line ∷ reported ∷ []) (λ c. taken line reported refl refl e c refl refl) (seen (line ∷ reported ∷ []) (on_it line reported refl refl)))
+      by (inr e) = inr (round_is b.rules 20 before both round x (reported ∷ line ∷ []) (λ c. taken reported line refl refl e c refl refl) (seen (reported ∷ line ∷ []) (on_it reported line refl refl)))
 
 -- The run.
 
@@ -127,20 +127,20 @@ run_with moves = run_by b first turns ([] ∷ moves ∷ [] ∷ [])
 -- the last turn, where the second was made so
 ended_so : (moves : List Move) (l : TurnLog) (rest : List TurnLog) → IsTurn b 2 (third moves) (report 30 1) l → events_of b 2 (third moves) (report 30 1) 30 ≡ [] ∷ [] ∷ [] → (max (third moves).moment 30 ≡ 30) → rest ≡ [] → first_log ∷ second_log moves ∷ l ∷ rest ≡ run_with moves
 ended_so moves l rest x none_left at e =
-    let round = subst (λ ev. IsRound b (max (third moves).moment 30) (third moves).histories ev l.round) (ap (events_of b 2 (third moves) (report 30 1)) at ∙ none_left) (round_at (third moves) (report 30 1) l x) in
+    let round = subst (λ ev. IsRound b.rules (max (third moves).moment 30) (third moves).histories ev l.round) (ap (events_of b 2 (third moves) (report 30 1)) at ∙ none_left) (round_at (third moves) (report 30 1) l x) in
     let is : l ≡ turn_by b (third moves) (report 30 1) [] = turn_is (third moves) (report 30 1) l [] x (nothing_taken (max (third moves).moment 30) (third moves).histories l.round round) in
     ap₂ (λ z r. first_log ∷ second_log moves ∷ z ∷ r) is e
 
 second_is : (l k : TurnLog) (rest : List TurnLog) → IsTurn b 2 second second_turn l → IsRunFrom b 2 (stage_after b second second_turn l) (report 30 1 ∷ []) (k ∷ rest) → (first_log ∷ l ∷ k ∷ rest ≡ line_first) ⊎ (first_log ∷ l ∷ k ∷ rest ≡ report_first)
 second_is l k rest x y = by (either l.round (round_at second second_turn l x))
   where
-    follows : (moves : List Move) → l.round ≡ round_of b 20 before moves → events_of b 2 (third moves) (report 30 1) 30 ≡ [] ∷ [] ∷ [] → (max (third moves).moment 30 ≡ 30) → first_log ∷ l ∷ k ∷ rest ≡ run_with moves
+    follows : (moves : List Move) → l.round ≡ round_of b.rules 20 before moves → events_of b 2 (third moves) (report 30 1) 30 ≡ [] ∷ [] ∷ [] → (max (third moves).moment 30 ≡ 30) → first_log ∷ l ∷ k ∷ rest ≡ run_with moves
     follows moves e none_left at =
         let is : l ≡ second_log moves = turn_is second second_turn l moves x e in
         let last : IsTurn b 2 (third moves) (report 30 1) k = subst (λ z. IsTurn b 2 (stage_after b second second_turn z) (report 30 1) k) is y.0 in
         ap (λ z. first_log ∷ z ∷ k ∷ rest) is ∙ ended_so moves k rest last none_left at y.1
 
-    by : (l.round ≡ round_of b 20 before (line ∷ reported ∷ [])) ⊎ (l.round ≡ round_of b 20 before (reported ∷ line ∷ [])) → (first_log ∷ l ∷ k ∷ rest ≡ line_first) ⊎ (first_log ∷ l ∷ k ∷ rest ≡ report_first)
+    by : (l.round ≡ round_of b.rules 20 before (line ∷ reported ∷ [])) ⊎ (l.round ≡ round_of b.rules 20 before (reported ∷ line ∷ [])) → (first_log ∷ l ∷ k ∷ rest ≡ line_first) ⊎ (first_log ∷ l ∷ k ∷ rest ≡ report_first)
     by (inl e) = inl (follows (line ∷ reported ∷ []) e refl refl)
     by (inr e) = inr (follows (reported ∷ line ∷ []) e refl refl)
 

@@ -4,7 +4,7 @@ use Rattle.site_model.specs.PlainSite.{PlainCheck}
 use Rattle.site_model.specs.declared.entry.Entry.{Entry}
 use Rattle.site_model.specs.declared.sight.Sight.{Sight}
 use Rattle.run_meaning.specs.Turns.{Asked, Histories, of_index}
-use Rattle.run_meaning.specs.Acts.{Basis, entry_of}
+use Rattle.run_meaning.specs.Acts.{Rules, entry_of}
 use Rattle.run_meaning.specs.Rounds.{behind, all_seen, IsRound}
 use Rattle.run_meaning.specs.Alone.{Move, sights_now, round_of}
 use Rattle.run_meaning.specs.Shares.{done_in}
@@ -13,7 +13,7 @@ use Rattle.run_meaning.proofs.Sole.{done_by, front, IsNext, sole_is_round_of}
 use Rattle.run_meaning.proofs.Meeting.{sights_are, seen_agree, sight_full, seen_kept}
 
 -- an entry by its parts
-made_same : (b : Basis) (moment c : ℕ) (check : PlainCheck) (history : List Entry) (all now : ℕ → List Entry) (sights : List Sight) (m : Move) (e : Entry) → e ≡ entry_of b c check history (all_seen b.site all e.sights) (record { caller = e.caller; moment = moment; event = e.event; sights = e.sights }) → done_in e ≡ done_by m → e.sights ≡ sights → all_seen b.site all sights ≡ all_seen b.site now sights → e ≡ entry_of b c check history (all_seen b.site now sights) (record { caller = m.caller; moment = moment; event = m.asked.event; sights = sights })
+made_same : (b : Rules) (moment c : ℕ) (check : PlainCheck) (history : List Entry) (all now : ℕ → List Entry) (sights : List Sight) (m : Move) (e : Entry) → e ≡ entry_of b c check history (all_seen b.site all e.sights) (record { caller = e.caller; moment = moment; event = e.event; sights = e.sights }) → done_in e ≡ done_by m → e.sights ≡ sights → all_seen b.site all sights ≡ all_seen b.site now sights → e ≡ entry_of b c check history (all_seen b.site now sights) (record { caller = m.caller; moment = moment; event = m.asked.event; sights = sights })
 made_same b moment c check history all now sights m e made done same seen =
     made
     ∙ ap (λ p. entry_of b c check history (all_seen b.site all e.sights) (record { caller = p.0; moment = moment; event = p.1; sights = e.sights })) done
@@ -29,7 +29,7 @@ abbrev pub AllSeen : Histories → List Move → Histories → Type 0
 AllSeen before moves round =
     (i : ℕ) (m : Move) (e : Entry) → slice_get moves i ≡ Some m → EntryOf moves round i m e → (j : ℕ) (y : Sight) → slice_get e.sights j ≡ Some y → y.count ≡ length (front before moves round i y.checkable)
 
-module _ (b : Basis) (moment : ℕ) (before : Histories) (events : List (List Asked)) (round : Histories) (x : IsRound b moment before events round) (moves : List Move) (taken : (c : ℕ) → map done_in (of_index c round) ≡ map done_by (moves_on c moves)) (seen : AllSeen before moves round) where
+module _ (b : Rules) (moment : ℕ) (before : Histories) (events : List (List Asked)) (round : Histories) (x : IsRound b moment before events round) (moves : List Move) (taken : (c : ℕ) → map done_in (of_index c round) ≡ map done_by (moves_on c moves)) (seen : AllSeen before moves round) where
   len : (c : ℕ) → length (of_index c round) ≡ length (moves_on c moves)
   len c = sym (length_map done_in (of_index c round)) ∙ ap length (taken c) ∙ length_map done_by (moves_on c moves)
 

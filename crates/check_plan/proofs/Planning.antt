@@ -6,7 +6,7 @@ use Rattle.std.proofs.lemmas.List.{append-nil}
 use Rattle.jiff_tz.specs.declared.tzif.Tzif.{Tzif}
 use Rattle.checkable_core.specs.Contents.{Contents, check_at}
 use Rattle.depend_graph.specs.Outlooks.{holds_in}
-use Rattle.run_meaning.specs.Acts.{Basis, Seen}
+use Rattle.run_meaning.specs.Acts.{Rules, Seen}
 use Rattle.run_meaning.specs.Dealing.{dealt, still, taken_reports, ticks_from}
 use Rattle.run_meaning.specs.Reachability.{Outlook, for_checks}
 use Rattle.run_meaning.specs.Rounds.{IsRound, behind}
@@ -175,7 +175,7 @@ followed_at s before k (suc i) (es ∷ round) (w ∷ ws) v at =
     let (u, there, is) = followed_at s before (suc k) i round ws v at in
     (u, there, is ∙ ap (λ n. watch_from (check_at s n) (of_index n before) (of_index i round) u) z)
 
-module _ (b : Basis) (moment : ℕ) (before round : Histories) (callers : ℕ) (lines : List Asked) (rs : List Reported) (p : Plan) (some : 1 ≤ callers) (asked : not (list_any (λ a. not (is_command a.event)) lines) ≡ true)
+module _ (b : Rules) (moment : ℕ) (before round : Histories) (callers : ℕ) (lines : List Asked) (rs : List Reported) (p : Plan) (some : 1 ≤ callers) (asked : not (list_any (λ a. not (is_command a.event)) lines) ≡ true)
     (is : IsRound b moment before (dealt callers lines (taken_reports p.orders.outstanding rs) (ticks_from 0 b.site.checkables before moment)) round) (plan : IsPlan b.site p) where
   abbrev os : List Outstanding
   os = p.orders.outstanding

@@ -3,7 +3,7 @@ use Rattle.std.proofs.Common.{◌≡◌, ℕ, ◌+◌, List, [], ◌∷◌, ◌+
 use Rattle.std.proofs.lemmas.List.{append-nil}
 use Rattle.checkable_core.specs.Contents.{check_at, check_or}
 use Rattle.checkable_core.proofs.Kept.{shown_more}
-use Rattle.run_meaning.specs.Acts.{Act, Basis, Seen, entry_of, is_taken, noted}
+use Rattle.run_meaning.specs.Acts.{Act, Rules, Seen, entry_of, is_taken, noted}
 use Rattle.run_meaning.specs.Rounds.{IsRound, all_seen, behind}
 use Rattle.run_meaning.specs.Turns.{Asked, Histories, of_index}
 use Rattle.run_meaning.specs.View.{view_of}
@@ -13,7 +13,7 @@ use Rattle.site_model.specs.declared.entry.Entry.{Entry}
 use Rattle.site_model.specs.declared.view.View.{View}
 use Rattle.check_plan.specs.Shown.{AreAllShown, AreShown}
 
-module _ (b : Basis) (k : ℕ) (c : PlainCheck) (h : List Entry) (seen : List Seen) (a : Act) where
+module _ (b : Rules) (k : ℕ) (c : PlainCheck) (h : List Entry) (seen : List Seen) (a : Act) where
   abbrev made : Entry
   made = entry_of b k c h seen a
 
@@ -29,7 +29,7 @@ module _ (b : Basis) (k : ℕ) (c : PlainCheck) (h : List Entry) (seen : List Se
   pub shows_hard : (e : Entry) → e ≡ made → (view_of c (h ++ e ∷ [])).hard ≡ e.hard
   shows_hard e is = subst (λ (x : Entry). (view_of c (h ++ x ∷ [])).hard ≡ x.hard) (sym is) (ap (λ (v : View). v.hard) same_view)
 
-module _ (b : Basis) (moment : ℕ) (before round : Histories) (events : List (List Asked)) (is : IsRound b moment before events round) (k : ℕ) where
+module _ (b : Rules) (moment : ℕ) (before round : Histories) (events : List (List Asked)) (is : IsRound b moment before events round) (k : ℕ) where
   shown_from : (done es : List Entry) → of_index k round ≡ done ++ es → AreShown (check_at b.site k) (of_index k before ++ done) es
   shown_from done [] all = tt
   shown_from done (e ∷ es) all =
@@ -56,5 +56,5 @@ module _ (b : Basis) (moment : ℕ) (before round : Histories) (events : List (L
   shown_here : AreShown (check_at b.site k) (of_index k before) (of_index k round)
   shown_here = subst (λ h. AreShown (check_at b.site k) h (of_index k round)) (append-nil (of_index k before)) (shown_from [] (of_index k round) refl)
 
-pub all_shown : (b : Basis) (moment : ℕ) (before round : Histories) (events : List (List Asked)) → IsRound b moment before events round → AreAllShown b.site before round
+pub all_shown : (b : Rules) (moment : ℕ) (before round : Histories) (events : List (List Asked)) → IsRound b moment before events round → AreAllShown b.site before round
 all_shown b moment before round events is k = shown_here b moment before round events is k

@@ -7,7 +7,7 @@ use Rattle.run_meaning.specs.Acts.{draft_of}
 use Rattle.run_meaning.specs.Dealing.{last_moment}
 use Rattle.run_meaning.specs.Downtimes.{is_live}
 use Rattle.run_meaning.specs.Reachability.{ancestors}
-use Rattle.run_meaning.specs.Turns.{Command, Feed, from_on}
+use Rattle.run_meaning.specs.Turns.{from_on}
 use Rattle.site_model.specs.PlainSite.{PlainSite}
 use Rattle.site_model.specs.Sound.{IsIndex, IsSound}
 use Rattle.site_model.specs.declared.entry.Entry.{Entry}
@@ -35,9 +35,9 @@ numbers_more n (x ∷ xs) e h is =
     let tail : map (λ (y : Entry). y.number) xs ≡ from_on (suc n) (length xs) = cc in
     ap (λ k. k ∷ map (λ (y : Entry). y.number) (xs ++ e ∷ [])) head ∙ ap (λ ks. n ∷ ks) (numbers_more (suc n) xs e tail (omega (arith, is)))
 
-module _ (s : PlainSite) (zone : Option Tzif) (command : ℕ → Command) (feed : Feed) (k : ℕ) (h : List Entry) (caller moment : ℕ) (v : Event) (sights : List (ℕ × View)) (sound : IsSound s) (lawful : IsLawful v) (seen : map (λ x. x.0) sights ≡ ancestors s k) where
+module _ (s : PlainSite) (zone : Option Tzif) (k : ℕ) (h : List Entry) (caller moment : ℕ) (v : Event) (sights : List (ℕ × View)) (sound : IsSound s) (lawful : IsLawful v) (seen : map (λ x. x.0) sights ≡ ancestors s k) where
   abbrev e : Entry
-  e = entry_made s zone command feed k h caller moment v sights
+  e = entry_made s zone k h caller moment v sights
 
   abbrev draft : Entry
   draft = draft_of is_live (check_at s k) h (record { caller = caller; moment = moment; event = v; sights = map sight_of sights })

@@ -5,7 +5,6 @@ use Rattle.depend_graph.specs.Outlooks.{holds_in, seen_as}
 use Rattle.run_meaning.specs.Acts.{Act, draft_of, noted, showing}
 use Rattle.run_meaning.specs.Decisions.{decisions_of}
 use Rattle.run_meaning.specs.Downtimes.{is_live}
-use Rattle.run_meaning.specs.Turns.{Command, Feed}
 use Rattle.run_meaning.specs.View.{view_of}
 use Rattle.site_model.specs.PlainSite.{PlainSite}
 use Rattle.site_model.specs.declared.decision.Decision.{Decision}
@@ -56,10 +55,10 @@ module _ (s : PlainSite) (zone : Option Tzif) (k : ℕ) (h : List Entry) (caller
   number_is : d.status.view.count ≡ length h + 1
   number_is = let n : d.status.view.count ≡ 1 + length h = counted (check_at s k) h (bare d.taken) d.status.view shows in omega (arith, n)
 
-  pub made : (command : ℕ → Command) (feed : Feed) (w : View) (ss : List Sight) (ds : List Decision) → w ≡ d.status.view → ss ≡ map sight_of seen →
+  pub made : (w : View) (ss : List Sight) (ds : List Decision) → w ≡ d.status.view → ss ≡ map sight_of seen →
       ds ≡ decisions_of s (holds_in s zone) k (check_at s k) h drafted (map seen_as seen) →
-      parts caller moment v d.taken w w.count ss ds ≡ entry_made s zone command feed k h caller moment v seen
-  made command feed w ss ds view sights decided =
+      parts caller moment v d.taken w w.count ss ds ≡ entry_made s zone k h caller moment v seen
+  made w ss ds view sights decided =
       ap (λ (x : View). parts caller moment v d.taken x x.count ss ds) view
       ∙ ap (λ (n : ℕ). parts caller moment v d.taken d.status.view n ss ds) number_is
       ∙ ap (λ (xs : List Sight). parts caller moment v d.taken d.status.view (length h + 1) xs ds) sights

@@ -3,7 +3,6 @@ use Rattle.std.specs.Prelude.{◌≡◌, ℕ, ◌≤◌, [], map}
 use Rattle.depend_graph.specs.Graph.{IsGraphOf}
 use Rattle.run_meaning.specs.Dealing.{last_moment}
 use Rattle.run_meaning.specs.Reachability.{ancestors}
-use Rattle.run_meaning.specs.Turns.{words}
 use Rattle.site_model.specs.PlainSite.{site_view}
 use Rattle.site_model.specs.declared.entry.Entry.{Entry}
 use Rattle.site_model.specs.declared.view.View.{View}
@@ -24,7 +23,7 @@ pub record IsDeedFor (m : SiteMachine) (d : Deed) : Type 0 where
   pub moment : d.moment ≡ m.moment
   pub sights : map (λ (s : ℕ × View). s.0) d.sights ≡ ancestors (site_view m.site.now) m.checkable
 
--- the entry that a caller's deed makes; it is the same whatever commands are run and lines are fed
+-- the entry that a caller's deed makes
 abbrev pub entry_by : SiteMachine → Contents → ℕ → Deed → Entry
 entry_by m k caller d =
-    entry_made (site_view m.site.now) m.zone.now (λ c. words []) (λ begun. []) m.checkable k.entries caller d.moment d.event d.sights
+    entry_made (site_view m.site.now) m.zone.now m.checkable k.entries caller d.moment d.event d.sights

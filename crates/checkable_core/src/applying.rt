@@ -3,7 +3,6 @@ ghost use Rattle.std.specs.Prelude.{◌≡◌, ℕ, ◌≤◌, ◌++◌, ◌∷�
 ghost use Rattle.site_model.specs.PlainSite.{site_view};
 ghost use Rattle.run_meaning.specs.Dealing.{last_moment};
 ghost use Rattle.run_meaning.specs.Reachability.{ancestors};
-ghost use Rattle.run_meaning.specs.Turns.{Command, Feed};
 ghost use Rattle.depend_graph.specs.Graph.{IsGraphOf};
 ghost use Rattle.check_state.specs.Stands.{StandsFor};
 ghost use Rattle.checkable_core.specs.Contents.{check_at, with_entry};
@@ -41,8 +40,7 @@ impl Checkable {
         requires graph { IsGraphOf (site_view site.now) graph.now }
         requires moment { last_moment self.old.entries ≤ moment }
         requires sights { map (λ s. s.0) sights.now ≡ ancestors (site_view site.now) self.old.index }
-        ensures entry { (command : ℕ → Command) (feed : Feed) →
-            IfOk result (λ e. e ≡ entry_made (site_view site.now) zone.now command feed self.old.index self.old.entries caller moment event sights.now) }
+        ensures entry { IfOk result (λ e. e ≡ entry_made (site_view site.now) zone.now self.old.index self.old.entries caller moment event sights.now) }
         ensures kept { IfOk result (λ e. self.new ≡ with_entry self.old e) }
         ensures refused { IfErr result (λ e. (e ≡ event) × (self.new ≡ self.old)) }
     {

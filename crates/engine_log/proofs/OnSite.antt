@@ -6,12 +6,12 @@ use Rattle.jiff_tz.specs.declared.tzif.Tzif.{Tzif}
 use Rattle.checkable_core.specs.Histories.{DecidesOwn, NamesOwn}
 use Rattle.checkable_core.proofs.Own.{all_parts, ancestors_own, decisions_own}
 use Rattle.depend_graph.specs.Outlooks.{holds_in}
-use Rattle.run_meaning.specs.Acts.{Act, Basis, draft_of}
+use Rattle.run_meaning.specs.Acts.{Act, draft_of}
 use Rattle.run_meaning.specs.Dealing.{Taken, line_events, taken_reports, ticks}
 use Rattle.run_meaning.specs.Downtimes.{is_live}
 use Rattle.run_meaning.specs.Reachability.{Outlook}
 use Rattle.run_meaning.specs.Rounds.{all_seen, behind, events_on}
-use Rattle.run_meaning.specs.Runs.{IsTurn, Stage, TurnLog, reports_of}
+use Rattle.run_meaning.specs.Runs.{Basis, IsTurn, Stage, TurnLog, reports_of}
 use Rattle.run_meaning.specs.Schedule.{Due, Walk, due_from, gets_order, ordering, outlook_after, skipping, walk_from, walk_over, walk_with, watches_after}
 use Rattle.run_meaning.specs.Turns.{Asked, Command, Histories, Ordered, of_index}
 use Rattle.run_meaning.proofs.Dealt.{dealt_to_one}

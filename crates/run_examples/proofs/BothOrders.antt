@@ -17,16 +17,16 @@ abbrev Small : Move → Type 0
 Small m = m.caller < 2
 
 abbrev OnSite : Move → Type 0
-OnSite m = m.asked.checkable < length b.site.checkables
+OnSite m = m.asked.checkable < length b.rules.site.checkables
 
 pub line_is_first : IsRun b 2 first turns line_first
 line_is_first = record {
   someone = lit≤ tt;
-  turns = (record { number = refl; moment = refl; refusals = refl; round = moves_make b 10 ([] ∷ [] ∷ []) 2 [] (none Small) (none OnSite); orders = refl }, (record { number = refl; moment = refl; refusals = refl; round = moves_make b 20 ([] ∷ [] ∷ []) 2 (line ∷ reported ∷ []) (two Small line reported (lit< tt) (lit< tt)) (two OnSite line reported (lit< tt) (lit< tt)); orders = refl }, (record { number = refl; moment = refl; refusals = refl; round = moves_make b 30 _ 2 [] (none Small) (none OnSite); orders = refl }, refl)));
+  turns = (record { number = refl; moment = refl; refusals = refl; round = moves_make b.rules 10 ([] ∷ [] ∷ []) 2 [] (none Small) (none OnSite); orders = refl }, (record { number = refl; moment = refl; refusals = refl; round = moves_make b.rules 20 ([] ∷ [] ∷ []) 2 (line ∷ reported ∷ []) (two Small line reported (lit< tt) (lit< tt)) (two OnSite line reported (lit< tt) (lit< tt)); orders = refl }, (record { number = refl; moment = refl; refusals = refl; round = moves_make b.rules 30 _ 2 [] (none Small) (none OnSite); orders = refl }, refl)));
 }
 
 pub report_is_first : IsRun b 2 first turns report_first
 report_is_first = record {
   someone = lit≤ tt;
-  turns = (record { number = refl; moment = refl; refusals = refl; round = moves_make b 10 ([] ∷ [] ∷ []) 2 [] (none Small) (none OnSite); orders = refl }, (record { number = refl; moment = refl; refusals = refl; round = moves_make b 20 ([] ∷ [] ∷ []) 2 (reported ∷ line ∷ []) (two Small reported line (lit< tt) (lit< tt)) (two OnSite reported line (lit< tt) (lit< tt)); orders = refl }, (record { number = refl; moment = refl; refusals = refl; round = moves_make b 30 _ 2 [] (none Small) (none OnSite); orders = refl }, refl)));
+  turns = (record { number = refl; moment = refl; refusals = refl; round = moves_make b.rules 10 ([] ∷ [] ∷ []) 2 [] (none Small) (none OnSite); orders = refl }, (record { number = refl; moment = refl; refusals = refl; round = moves_make b.rules 20 ([] ∷ [] ∷ []) 2 (reported ∷ line ∷ []) (two Small reported line (lit< tt) (lit< tt)) (two OnSite reported line (lit< tt) (lit< tt)); orders = refl }, (record { number = refl; moment = refl; refusals = refl; round = moves_make b.rules 30 _ 2 [] (none Small) (none OnSite); orders = refl }, refl)));
 }

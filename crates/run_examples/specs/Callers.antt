@@ -3,9 +3,8 @@ use Rattle.std.specs.Prelude.{ℕ, ◌+◌, List, [], ◌∷◌, map, max, Some}
 use Rattle.site_model.specs.PlainSite.{PlainSite}
 use Rattle.site_model.specs.declared.event.Event.{Event}
 use Rattle.run_meaning.specs.Turns.{ReadTurn, of_index}
-use Rattle.run_meaning.specs.Acts.{Basis}
 use Rattle.run_meaning.specs.Dealing.{ordered_result}
-use Rattle.run_meaning.specs.Runs.{Stage, TurnLog, no_entries, planned_of, refusals_of, stage_after, start}
+use Rattle.run_meaning.specs.Runs.{Basis, Stage, TurnLog, no_entries, planned_of, refusals_of, stage_after, start}
 use Rattle.run_meaning.specs.Alone.{Move, round_of}
 use Rattle.run_examples.specs.Checks.{checked, one_service}
 use Rattle.run_examples.specs.Sites.{basis}
@@ -15,7 +14,7 @@ use Rattle.run_examples.specs.Turns.{empty, ended, on, report, of_status, turn}
 abbrev pub turn_by : Basis → Stage → ReadTurn → List Move → TurnLog
 turn_by b st t moves =
     let moment = max st.moment t.moment in
-    let round = round_of b moment st.histories moves in
+    let round = round_of b.rules moment st.histories moves in
     record {
       number = st.turns + 1;
       moment = moment;

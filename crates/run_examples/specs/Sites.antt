@@ -4,8 +4,7 @@ use Rattle.site_model.specs.PlainSite.{PlainCheck, PlainSite, plain_check, plain
 use Rattle.site_model.specs.declared.notify_spec.NotifySpec.{NotifySpec}
 use Rattle.site_model.specs.declared.user_spec.UserSpec.{UserSpec}
 use Rattle.run_meaning.specs.Turns.{Histories, Line, ReadTurn, words}
-use Rattle.run_meaning.specs.Acts.{Basis}
-use Rattle.run_meaning.specs.Runs.{TurnLog, no_entries, start}
+use Rattle.run_meaning.specs.Runs.{Basis, TurnLog, no_entries, start}
 use Rattle.run_meaning.specs.Alone.{run_alone}
 use Rattle.run_meaning.specs.Meaning.{basis_of}
 

@@ -7,9 +7,8 @@ use Rattle.std.proofs.lemmas.Nat.{mod_below}
 use Rattle.std.proofs.lemmas.List.Sorted.{IsPermutation-refl, IsPermutation-sym, IsPermutation-trans, IsPermutation-append, IsPermutation-append_right, IsPermutation-cons, IsPermutation-middle, IsPermutation-map}
 use Rattle.run_meaning.specs.Turns.{Asked, Line, asking, faulty, Outstanding, Reported, ReadTurn, from_on}
 use Rattle.run_meaning.specs.Dealing.{Refusal, Taken, line_events, line_refusals, checkable_of, without, still, taking, taken_reports, refusing, report_refusals, goes_to, lines_to, dealt, ticks}
-use Rattle.run_meaning.specs.Acts.{Basis}
 use Rattle.run_meaning.specs.Rounds.{IsRound}
-use Rattle.run_meaning.specs.Runs.{Stage, TurnLog, IsTurn, begun_by, events_of, refusals_of, reports_of, lines_of, stage_after}
+use Rattle.run_meaning.specs.Runs.{Basis, Stage, TurnLog, IsTurn, begun_by, events_of, refusals_of, reports_of, lines_of, stage_after}
 use Rattle.run_meaning.specs.Shares.{orders_refused, lines_kept, reports_kept, kept_of}
 use Rattle.run_meaning.proofs.Parts.{in_parts, parts, parts_flat, turn_about}
 
@@ -191,7 +190,7 @@ still_past os (d ∷ ds) rs = still_past (without d.order os) ds rs
 pub same_dealt : (b : Basis) (callers : ℕ) (st : Stage) (t : ReadTurn) (moment : ℕ) → events_of b callers st (kept_of st t) moment ≡ events_of b callers st t moment
 same_dealt b callers st t moment =
     let fed = b.feed (begun_by st moment) in
-    let tick = ticks b.site st.histories moment in
+    let tick = ticks b.rules.site st.histories moment in
     let lines : line_events (lines_of b st (kept_of st t) moment) ≡ line_events (lines_of b st t moment) =
     events_append fed (lines_kept t.lines) ∙ ap (λ z. line_events fed ++ z) (same_events t.lines) ∙ sym (events_append fed t.lines) in
     ap (λ z. dealt callers z (taken_reports st.plans.outstanding (reports_of st (kept_of st t))) tick) lines
@@ -206,7 +205,7 @@ same_turn b callers st t l x = record {
   number = x.number;
   moment = x.moment;
   refusals = refl;
-  round = subst (λ z. IsRound b l.moment st.histories z l.round) (sym (same_dealt b callers st t l.moment)) x.round;
+  round = subst (λ z. IsRound b.rules l.moment st.histories z l.round) (sym (same_dealt b callers st t l.moment)) x.round;
   orders = x.orders;
 }
 

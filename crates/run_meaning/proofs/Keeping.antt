@@ -6,13 +6,12 @@ use Rattle.std.proofs.lemmas.List.{append-nil}
 use Rattle.std.proofs.lemmas.List.Folds.{list_any-append}
 use Rattle.site_model.specs.PlainSite.{PlainCheck, PlainSite}
 use Rattle.run_meaning.specs.Turns.{Asked, Command, Feed, Histories, Line, Outstanding, ReadTurn, is_command, of_index}
-use Rattle.run_meaning.specs.Acts.{Basis}
 use Rattle.run_meaning.specs.Reachability.{Outlook}
 use Rattle.run_meaning.specs.Dealing.{Taken, checkable_of, line_events, still, taken_reports}
 use Rattle.run_meaning.specs.Meaning.{basis_of}
-use Rattle.run_meaning.specs.Runs.{Stage, TurnLog, IsTurn, IsRunFrom, IsRun, begun_by, lines_of, reports_of, stage_after, start}
+use Rattle.run_meaning.specs.Runs.{Basis, Stage, TurnLog, IsTurn, IsRunFrom, IsRun, begun_by, lines_of, reports_of, stage_after, stage_by, start}
 use Rattle.run_meaning.specs.Schedule.{Due, Walk, Watch, due_from, gets_order, goes_first, is_waiting, ordering, outlook_after, put_due, skipping, walk_from, walk_over, walk_with, watch_from, watches_after}
-use Rattle.run_meaning.specs.Lookback.{AskCommands, Mark, ask_commands, back_after, back_by, is_outstanding, marks_of, since, slot_back, stage_by}
+use Rattle.run_meaning.specs.Lookback.{AskCommands, Mark, ask_commands, back_after, back_by, is_outstanding, marks_of, since, slot_back}
 use Rattle.run_meaning.proofs.Counting.{AreWithin, IsCounted, as_many_wait, as_many_watches, fewer_still, walk_counted, within_still}
 use Rattle.run_meaning.proofs.Dealing.{events_append}
 use Rattle.run_meaning.proofs.Lists.{get_of_map, length_map, one_at}
@@ -240,7 +239,7 @@ module _ (s : PlainSite) (holds : ℕ → ℕ → Bool) (command : ℕ → Comma
 
     waits_is : (k : ℕ) (c : PlainCheck) → slice_get s.checkables k ≡ Some c → is_waiting left k ≡ is_outstanding (past k c)
     waits_is k c is =
-        let any = round_reports b l.moment st.histories l.round callers (line_events (lines_of b st t l.moment)) os (reports_of st t) k some asked turn.round in
+        let any = round_reports b.rules l.moment st.histories l.round callers (line_events (lines_of b st t l.moment)) os (reports_of st t) k some asked turn.round in
         waits_still (reports_of st t) os k keeps.new.single
         ∙ ap (λ a. a && not (list_any (λ (t : Taken). nat_eq t.asked.checkable k) (taken_reports os (reports_of st t)))) (keeps.outstanding k c is)
         ∙ ap (λ a. is_outstanding (back k c) && not a) (sym any)

@@ -12,3 +12,4 @@ pub mod Lookback
 pub mod Outstanding
 pub mod Keeping
 pub mod Counting
+pub mod Cutting

@@ -10,7 +10,7 @@ use Rattle.site_model.specs.declared.event.Event.{Event}
 use Rattle.site_model.specs.declared.event.Event.TheVariants as event
 use Rattle.run_meaning.specs.View.{view_of}
 use Rattle.run_meaning.specs.Turns.{Asked, Histories, Outstanding, Reported, is_command, of_index}
-use Rattle.run_meaning.specs.Acts.{Basis}
+use Rattle.run_meaning.specs.Acts.{Rules}
 use Rattle.run_meaning.specs.Rounds.{events_on, IsRound}
 use Rattle.run_meaning.specs.Dealing.{Taken, checkable_of, dealt, still, taken_reports, taking, ticks_from, wants_tick, without}
 use Rattle.run_meaning.specs.Schedule.{is_waiting}
@@ -229,7 +229,7 @@ or_false : (b : Bool) → (b || false) ≡ b
 or_false true = refl
 or_false false = refl
 
-pub round_reports : (b : Basis) (moment : ℕ) (before round : Histories) (callers : ℕ) (lines : List Asked) (os : List Outstanding) (rs : List Reported) (k : ℕ) → 1 ≤ callers → not (list_any (λ a. not (is_command a.event)) lines) ≡ true →
+pub round_reports : (b : Rules) (moment : ℕ) (before round : Histories) (callers : ℕ) (lines : List Asked) (os : List Outstanding) (rs : List Reported) (k : ℕ) → 1 ≤ callers → not (list_any (λ a. not (is_command a.event)) lines) ≡ true →
     IsRound b moment before (dealt callers lines (taken_reports os rs) (ticks_from 0 b.site.checkables before moment)) round →
     list_any (λ e. is_report e.event) (of_index k round) ≡ list_any (λ t. nat_eq t.asked.checkable k) (taken_reports os rs)
 round_reports b moment before round callers lines os rs k some asked x =

@@ -5,7 +5,7 @@ use Rattle.std.proofs.lemmas.List.{append-nil, map-append}
 use Rattle.site_model.specs.declared.entry.Entry.{Entry}
 use Rattle.site_model.specs.declared.event.Event.{Event}
 use Rattle.run_meaning.specs.Turns.{Asked, Histories, from_on, of_index}
-use Rattle.run_meaning.specs.Acts.{Basis}
+use Rattle.run_meaning.specs.Acts.{Rules}
 use Rattle.run_meaning.specs.Rounds.{entries_by, events_on, IsRound}
 use Rattle.run_meaning.specs.Alone.{Move, moves_of, one_by_one, taken_by, round_of, AreOnSite}
 use Rattle.run_meaning.specs.Shares.{done_in, dealt_on}
@@ -32,7 +32,7 @@ dealt_parts c es first (evs ∷ more) h =
     ap (λ z. z ++ parts (λ (p : ℕ × Event). p.0) (suc first) (length more) (map done_in es)) (beside first es ∙ ap (map (λ e. (first, e))) here)
     ∙ ap (λ z. map (λ e. (first, e)) (events_on c evs) ++ z) (dealt_parts c es (suc first) more (λ k lt. let e : suc first + k ≡ first + suc k = omega arith in ap (λ k. map (λ (e : Entry). e.event) (entries_by k es)) e ∙ h (suc k) (omega arith)))
 
-pub entries_are_dealt : (b : Basis) (moment : ℕ) (before : Histories) (events : List (List Asked)) (round : Histories) → IsRound b moment before events round → (c : ℕ) → IsPermutation (map done_in (of_index c round)) (dealt_on c 0 events)
+pub entries_are_dealt : (b : Rules) (moment : ℕ) (before : Histories) (events : List (List Asked)) (round : Histories) → IsRound b moment before events round → (c : ℕ) → IsPermutation (map done_in (of_index c round)) (dealt_on c 0 events)
 entries_are_dealt b moment before events round x c =
     subst (IsPermutation (map done_in (of_index c round))) (dealt_parts c (of_index c round) 0 events (λ k lt. let e : 0 + k ≡ k = omega arith in ap (λ k. map (λ (e : Entry). e.event) (entries_by k (of_index c round))) e ∙ x.taken k c lt))
     (in_parts (λ (p : ℕ × Event). p.0) (length events) 0 (map done_in (of_index c round)) few)
@@ -118,7 +118,7 @@ one_of first (es ∷ ess) i m h = by (get_either (moves_of first es) (one_by_one
         record { list = 0; place = i; inside = omega arith; caller = (let e = ap (λ (m : Move). m.caller) is in omega arith); at = at ∙ ap (λ (m : Move). Some m.asked) is }
     by (inr (j, g)) f = let o = f j m g in record { list = suc o.list; place = o.place; inside = (let q = o.inside in omega arith); caller = (let q = o.caller in omega arith); at = o.at }
 
-pub one_after_another : (b : Basis) (moment : ℕ) (before : Histories) (events : List (List Asked)) → ((k : ℕ) → AreOnSite b.site (of_index k events)) → IsRound b moment before events (round_of b moment before (one_by_one 0 events))
+pub one_after_another : (b : Rules) (moment : ℕ) (before : Histories) (events : List (List Asked)) → ((k : ℕ) → AreOnSite b.site (of_index k events)) → IsRound b moment before events (round_of b moment before (one_by_one 0 events))
 one_after_another b moment before events h =
     subst (λ z. IsRound b moment before z (round_of b moment before (one_by_one 0 events))) (all_taken events)
     (moves_make b moment before (length events) (one_by_one 0 events) few on_site)

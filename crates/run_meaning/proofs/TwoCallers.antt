@@ -6,7 +6,7 @@ use Rattle.site_model.specs.declared.sight.Sight.{Sight}
 use Rattle.run_meaning.specs.Turns.{Asked, of_index}
 use Rattle.run_meaning.specs.Rounds.{behind, entries_by, events_on, IsMade, IsEntryFor, IsRound}
 use Rattle.run_meaning.specs.Dealing.{refused_report, dealt, taken_reports, report_refusals, still}
-use Rattle.run_meaning.specs.TwoCallers.{on, checked, reported, outstanding, report_taken, host, service, basis, nothing, down, events, of_host, sight, of_service, round, both, own_service, frozen, twice, second, falling, one_before, on_service, stale}
+use Rattle.run_meaning.specs.TwoCallers.{on, checked, reported, outstanding, report_taken, host, service, rules, nothing, down, events, of_host, sight, of_service, round, both, own_service, frozen, twice, second, falling, one_before, on_service, stale}
 use Rattle.run_meaning.proofs.Parts.{apart}
 
 -- lines to the first, reports by their orders, ticks by their checkables
@@ -56,10 +56,10 @@ taken n (suc zero) (suc zero) h = refl
 taken n (suc zero) (suc (suc c)) h = sym (ap (λ t. cond t (down ∷ []) []) (apart 1 (suc (suc c)) (λ q. omega (arith, q))))
 taken n (suc (suc k)) c h = absurd (omega (arith, h))
 
-made : (n c i : ℕ) (e : Entry) → slice_get (of_index c (round n)) i ≡ Some e → IsMade basis 10 (behind nothing (round n)) c (of_index c nothing ++ take i (of_index c (round n))) e
-made n zero zero e h = subst (λ z. IsMade basis 10 (behind nothing (round n)) 0 [] z) (no_more of_host 0 e h) (record { check = host; is = refl; made = refl })
+made : (n c i : ℕ) (e : Entry) → slice_get (of_index c (round n)) i ≡ Some e → IsMade rules 10 (behind nothing (round n)) c (of_index c nothing ++ take i (of_index c (round n))) e
+made n zero zero e h = subst (λ z. IsMade rules 10 (behind nothing (round n)) 0 [] z) (no_more of_host 0 e h) (record { check = host; is = refl; made = refl })
 made n zero (suc i) e h = absurd cc
-made n (suc zero) zero e h = subst (λ z. IsMade basis 10 (behind nothing (round n)) 1 [] z) (no_more (of_service n) 0 e h) (record { check = service; is = refl; made = refl })
+made n (suc zero) zero e h = subst (λ z. IsMade rules 10 (behind nothing (round n)) 1 [] z) (no_more (of_service n) 0 e h) (record { check = service; is = refl; made = refl })
 made n (suc zero) (suc i) e h = absurd cc
 made n (suc (suc c)) i e h = absurd cc
 
@@ -99,32 +99,32 @@ own n le (suc zero) zero m e x p h =
 own n le (suc zero) (suc i) m e x p h = absurd (omega (arith, first_alone 1 (suc i) p.asked p.at))
 own n le (suc (suc k)) i m e x p h = let q = p.at in absurd cc
 
-pub rounds : (n : ℕ) → n ≤ 1 → IsRound basis 10 nothing events (round n)
+pub rounds : (n : ℕ) → n ≤ 1 → IsRound rules 10 nothing events (round n)
 rounds n le = record {
   whole = refl;
   taken = taken n;
   callers = each n (λ c e. e.caller < 2) (lit< tt) (lit< tt);
   made = made n;
-  ancestors = each n (λ c e. map (λ (x : Sight). x.checkable) e.sights ≡ basis.ancestors c) refl refl;
+  ancestors = each n (λ c e. map (λ (x : Sight). x.checkable) e.sights ≡ rules.ancestors c) refl refl;
   seen = seen n le;
   rising = λ k i j m o e f x y lt p q. let z = first_alone k j q.asked q.at in absurd (omega (arith, lt, z));
   own = own n le;
 }
 
-pub frozen_is_none : IsRound basis 10 nothing both frozen → ⊥
+pub frozen_is_none : IsRound rules 10 nothing both frozen → ⊥
 frozen_is_none x =
     let q : 0 ≡ 1 = x.own 0 1 0 (own_service 0) (record { checkable = 0; count = 0 }) (record { asked = record { checkable = 1; event = down }; at = refl; made = refl }) refl in
     omega (arith, q)
 
-pub falling_is_none : IsRound basis 10 nothing twice falling → ⊥
+pub falling_is_none : IsRound rules 10 nothing twice falling → ⊥
 falling_is_none x =
     let q : 1 ≤ 0 =
     x.rising 1 0 1 0 0 (of_service 1) second (record { checkable = 0; count = 1 }) (record { checkable = 0; count = 0 }) (omega arith)
     (record { asked = record { checkable = 1; event = down }; at = refl; made = refl }) (record { asked = record { checkable = 1; event = down }; at = refl; made = refl }) refl refl refl in
     omega (arith, q)
 
-pub beyond_is_none : IsRound basis 10 nothing events (round 2) → ⊥
+pub beyond_is_none : IsRound rules 10 nothing events (round 2) → ⊥
 beyond_is_none x = let (a, b) = x.seen 1 0 0 (of_service 2) (record { checkable = 0; count = 2 }) refl refl in omega (arith, b)
 
-pub stale_is_none : IsRound basis 10 one_before on_service stale → ⊥
+pub stale_is_none : IsRound rules 10 one_before on_service stale → ⊥
 stale_is_none x = let (a, b) = x.seen 1 0 0 (own_service 0) (record { checkable = 0; count = 0 }) refl refl in omega (arith, a)

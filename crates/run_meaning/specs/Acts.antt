@@ -8,7 +8,6 @@ use Rattle.site_model.specs.declared.event.Event.TheVariants as event
 use Rattle.site_model.specs.declared.sight.Sight.{Sight}
 use Rattle.site_model.specs.declared.view.View.{View}
 use Rattle.run_meaning.specs.View.{view_of, best_state, has_effect}
-use Rattle.run_meaning.specs.Turns.{Histories, Plans, Planned, Feed}
 
 -- an event as a caller takes it: when, and how far it has seen the checkables on which this one depends
 pub record Act : Type 0 where
@@ -26,18 +25,14 @@ pub record Seen : Type 0 where
 abbrev pub Live : Type 0
 Live = PlainCheck → List Entry → ℕ → ℕ → Bool
 
--- What a run stands on: its site, and the rules that have definitions of their own (`Meaning` gives all of them).
-pub record Basis : Type 0 where
+-- What entries are made by: their site, and the rules that have definitions of their own (`Meaning` gives all of them).
+pub record Rules : Type 0 where
   pub site : PlainSite
   pub is_live : Live
   -- the checkables on which one depends, ascending
   pub ancestors : ℕ → List ℕ
   -- what is decided at an entry of a checkable, by those before it and by what was seen
   pub decisions : ℕ → PlainCheck → List Entry → Entry → List Seen → List Decision
-  -- what is ordered after a round at a moment, by the entries before it and its own
-  pub schedule : Plans → ℕ → Histories → Histories → Planned
-  -- the lines that stand before a turn's own
-  pub feed : Feed
 
 -- whether an event has an effect
 abbrev pub is_taken : Live → PlainCheck → List Entry → ℕ → Event → Bool
@@ -70,5 +65,5 @@ draft_of live c history a =
     showing (view_of c (history ++ e ∷ [])) e
 
 -- the entry that an act makes of a checkable with these entries, by what it has seen
-abbrev pub entry_of : Basis → ℕ → PlainCheck → List Entry → List Seen → Act → Entry
-entry_of b k c history seen a = let e = draft_of b.is_live c history a in record e { decisions = b.decisions k c history e seen }
+abbrev pub entry_of : Rules → ℕ → PlainCheck → List Entry → List Seen → Act → Entry
+entry_of r k c history seen a = let e = draft_of r.is_live c history a in record e { decisions = r.decisions k c history e seen }

@@ -5,10 +5,10 @@ use Rattle.site_model.specs.declared.entry.Entry.{Entry}
 use Rattle.site_model.specs.declared.event.Event.{Event}
 use Rattle.site_model.specs.declared.sight.Sight.{Sight}
 use Rattle.run_meaning.specs.Turns.{Asked, Histories, ReadTurn}
-use Rattle.run_meaning.specs.Acts.{Basis, entry_of}
+use Rattle.run_meaning.specs.Acts.{Rules, entry_of}
 use Rattle.run_meaning.specs.Rounds.{behind, all_seen}
 use Rattle.run_meaning.specs.Dealing.{line_events, taken_reports, ticks}
-use Rattle.run_meaning.specs.Runs.{TurnLog, Stage, no_entries, lines_of, reports_of, refusals_of, planned_of, stage_after}
+use Rattle.run_meaning.specs.Runs.{Basis, TurnLog, Stage, no_entries, lines_of, reports_of, refusals_of, planned_of, stage_after}
 
 -- an event on a checkable, and the caller that takes it
 pub record Move : Type 0 where
@@ -29,14 +29,14 @@ abbrev pub taken_by : ℕ → List Move → List Asked
 taken_by k moves = map (λ m. m.asked) (filter (λ m. nat_eq m.caller k) moves)
 
 -- all that stands of each checkable on which this one depends
-abbrev pub sights_now : Basis → ℕ → (ℕ → List Entry) → List Sight
-sights_now b c entries = map (λ p. record { checkable = p; count = length (entries p) }) (b.ancestors c)
+abbrev pub sights_now : Rules → ℕ → (ℕ → List Entry) → List Sight
+sights_now r c entries = map (λ p. record { checkable = p; count = length (entries p) }) (r.ancestors c)
 
 -- the entry that an event makes where all that stands is seen
-abbrev pub next_entry : Basis → ℕ → (ℕ → List Entry) → ℕ → ℕ → PlainCheck → Event → Entry
-next_entry b moment now k c check e =
-    let sights = sights_now b c now in
-    entry_of b c check (now c) (all_seen b.site now sights) (record { caller = k; moment = moment; event = e; sights = sights })
+abbrev pub next_entry : Rules → ℕ → (ℕ → List Entry) → ℕ → ℕ → PlainCheck → Event → Entry
+next_entry r moment now k c check e =
+    let sights = sights_now r c now in
+    entry_of r c check (now c) (all_seen r.site now sights) (record { caller = k; moment = moment; event = e; sights = sights })
 
 -- with one entry more of the checkable of this index
 abbrev pub with_entry : ℕ → Entry → Histories → Histories
@@ -45,34 +45,34 @@ with_entry zero e (es ∷ ess) = (es ++ e ∷ []) ∷ ess
 with_entry (suc k) e (es ∷ ess) = es ∷ with_entry k e ess
 
 -- what one move adds to a round
-abbrev pub adding : Basis → ℕ → Histories → Histories → Move → Option PlainCheck → Histories
-adding b moment before round m None = round
-adding b moment before round m (Some check) =
-    with_entry m.asked.checkable (next_entry b moment (behind before round) m.caller m.asked.checkable check m.asked.event) round
+abbrev pub adding : Rules → ℕ → Histories → Histories → Move → Option PlainCheck → Histories
+adding r moment before round m None = round
+adding r moment before round m (Some check) =
+    with_entry m.asked.checkable (next_entry r moment (behind before round) m.caller m.asked.checkable check m.asked.event) round
 
-abbrev pub round_from : Basis → ℕ → Histories → List Move → Histories → Histories
-round_from b moment before [] round = round
-round_from b moment before (m ∷ moves) round =
-    round_from b moment before moves (adding b moment before round m (slice_get b.site.checkables m.asked.checkable))
+abbrev pub round_from : Rules → ℕ → Histories → List Move → Histories → Histories
+round_from r moment before [] round = round
+round_from r moment before (m ∷ moves) round =
+    round_from r moment before moves (adding r moment before round m (slice_get r.site.checkables m.asked.checkable))
 
 -- the round that moves make, one after the other
-abbrev pub round_of : Basis → ℕ → Histories → List Move → Histories
-round_of b moment before moves = round_from b moment before moves (no_entries b.site)
+abbrev pub round_of : Rules → ℕ → Histories → List Move → Histories
+round_of r moment before moves = round_from r moment before moves (no_entries r.site)
 
 -- the round of one caller
-abbrev pub alone : Basis → ℕ → Histories → List Asked → Histories
-alone b moment before events = round_of b moment before (moves_of 0 events)
+abbrev pub alone : Rules → ℕ → Histories → List Asked → Histories
+alone r moment before events = round_of r moment before (moves_of 0 events)
 
 -- what the one caller takes of a turn: lines, reports, ticks
 abbrev pub all_events : Basis → Stage → ReadTurn → ℕ → List Asked
 all_events b st t moment =
-    line_events (lines_of b st t moment) ++ (map (λ x. x.asked) (taken_reports st.plans.outstanding (reports_of st t)) ++ ticks b.site st.histories moment)
+    line_events (lines_of b st t moment) ++ (map (λ x. x.asked) (taken_reports st.plans.outstanding (reports_of st t)) ++ ticks b.rules.site st.histories moment)
 
 -- the log of one turn
 abbrev pub turn_alone : Basis → Stage → ReadTurn → TurnLog
 turn_alone b st t =
     let moment = max st.moment t.moment in
-    let round = alone b moment st.histories (all_events b st t moment) in
+    let round = alone b.rules moment st.histories (all_events b st t moment) in
     record {
       number = st.turns + 1;
       moment = moment;
@@ -98,4 +98,4 @@ abbrev pub IsOnSite : Basis → Stage → List ReadTurn → Type 0
 IsOnSite b st [] = ⊤
 IsOnSite b st (t ∷ ts) =
     let l = turn_alone b st t in
-    AreOnSite b.site (all_events b st t l.moment) × IsOnSite b (stage_after b st t l) ts
+    AreOnSite b.rules.site (all_events b st t l.moment) × IsOnSite b (stage_after b st t l) ts

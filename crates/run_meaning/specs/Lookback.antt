@@ -9,7 +9,6 @@ use Rattle.site_model.specs.declared.view.View.{View}
 use Rattle.run_meaning.specs.View.{view_of}
 use Rattle.run_meaning.specs.Turns.{Begun, Command, Feed, Line, ReadTurn, Slot, is_command, of_index}
 use Rattle.run_meaning.specs.Dealing.{line_events}
-use Rattle.run_meaning.specs.Acts.{Basis}
 use Rattle.run_meaning.specs.Reachability.{Outlook}
 use Rattle.run_meaning.specs.Runs.{Stage, TurnLog, stage_after}
 use Rattle.run_meaning.specs.Meaning.{basis_of}
@@ -121,12 +120,6 @@ back_by s holds command feed k c back st [] ls = back
 back_by s holds command feed k c back st (t ∷ ts) [] = back
 back_by s holds command feed k c back st (t ∷ ts) (l ∷ ls) =
     back_by s holds command feed k c (back_after s holds command st l k c back) (stage_after (basis_of s holds command feed) st t l) ts ls
-
--- how far these turns come
-abbrev pub stage_by : Basis → Stage → List ReadTurn → List TurnLog → Stage
-stage_by b st [] ls = st
-stage_by b st (t ∷ ts) [] = st
-stage_by b st (t ∷ ts) (l ∷ ls) = stage_by b (stage_after b st t l) ts ls
 
 -- Lines ask for what a command can ask for alone.
 

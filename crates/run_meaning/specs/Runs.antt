@@ -2,10 +2,18 @@
 use Rattle.std.specs.Prelude.{◌≡◌, ◌≤◌, ◌+◌, ℕ, false, codes, List, [], ◌∷◌, ◌++◌, length, map, max}
 use Rattle.site_model.specs.PlainSite.{PlainSite}
 use Rattle.site_model.specs.declared.entry.Entry.{Entry}
-use Rattle.run_meaning.specs.Turns.{Asked, Begun, Histories, Line, Reported, ReadTurn, Command, words, missing, Ordered, Plans, Planned}
-use Rattle.run_meaning.specs.Acts.{Basis}
+use Rattle.run_meaning.specs.Turns.{Asked, Begun, Feed, Histories, Line, Reported, ReadTurn, Command, words, missing, Ordered, Plans, Planned}
+use Rattle.run_meaning.specs.Acts.{Rules}
 use Rattle.run_meaning.specs.Rounds.{IsRound}
 use Rattle.run_meaning.specs.Dealing.{Refusal, line_events, line_refusals, taken_reports, report_refusals, still, ticks, dealt}
+
+-- What a run stands on: the rules of its entries, and how its turns are fed and followed (`Meaning` gives all of it).
+pub record Basis : Type 0 where
+  pub rules : Rules
+  -- what is ordered after a round at a moment, by the entries before it and its own
+  pub schedule : Plans → ℕ → Histories → Histories → Planned
+  -- the lines that stand before a turn's own
+  pub feed : Feed
 
 -- what the log tells of a turn
 pub record TurnLog : Type 0 where
@@ -79,7 +87,7 @@ refusals_of b st t moment = line_refusals 1 (lines_of b st t moment) ++ report_r
 -- what each caller takes of a turn
 abbrev pub events_of : Basis → ℕ → Stage → ReadTurn → ℕ → List (List Asked)
 events_of b callers st t moment =
-    dealt callers (line_events (lines_of b st t moment)) (taken_reports st.plans.outstanding (reports_of st t)) (ticks b.site st.histories moment)
+    dealt callers (line_events (lines_of b st t moment)) (taken_reports st.plans.outstanding (reports_of st t)) (ticks b.rules.site st.histories moment)
 
 -- what a turn orders, and the slots after it
 abbrev pub planned_of : Basis → Stage → ℕ → Histories → Planned
@@ -119,7 +127,7 @@ pub record IsTurn (b : Basis) (callers : ℕ) (st : Stage) (t : ReadTurn) (l : T
   -- a moment never falls
   pub moment : l.moment ≡ max st.moment t.moment
   pub refusals : l.refusals ≡ refusals_of b st t l.moment
-  pub round : IsRound b l.moment st.histories (events_of b callers st t l.moment) l.round
+  pub round : IsRound b.rules l.moment st.histories (events_of b callers st t l.moment) l.round
   pub orders : l.orders ≡ (planned_of b st l.moment l.round).orders
 
 -- the logs of turns, one after the other
@@ -132,3 +140,17 @@ IsRunFrom b callers st (t ∷ ts) (l ∷ ls) = IsTurn b callers st t l × IsRunF
 pub record IsRun (b : Basis) (callers : ℕ) (st : Stage) (ts : List ReadTurn) (ls : List TurnLog) : Type 0 where
   pub someone : 1 ≤ callers
   pub turns : IsRunFrom b callers st ts ls
+
+-- how far these turns come
+abbrev pub stage_by : Basis → Stage → List ReadTurn → List TurnLog → Stage
+stage_by b st [] ls = st
+stage_by b st (t ∷ ts) [] = st
+stage_by b st (t ∷ ts) (l ∷ ls) = stage_by b (stage_after b st t l) ts ls
+
+-- the logs of a run over these turns, and then of one over those from the stage to which it comes
+pub record IsRunInTwo (b : Basis) (callers : ℕ) (st : Stage) (ts us : List ReadTurn) (ls : List TurnLog) : Type 0 where
+  pub first : List TurnLog
+  pub second : List TurnLog
+  pub both : first ++ second ≡ ls
+  pub over_first : IsRunFrom b callers st ts first
+  pub over_second : IsRunFrom b callers (stage_by b st ts first) us second

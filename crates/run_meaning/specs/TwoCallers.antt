@@ -5,11 +5,11 @@ use Rattle.site_model.specs.declared.entry.Entry.{Entry}
 use Rattle.site_model.specs.declared.event.Event.{Event}
 use Rattle.site_model.specs.declared.event.Event.TheVariants as event
 use Rattle.site_model.specs.declared.sight.Sight.{Sight}
-use Rattle.run_meaning.specs.Turns.{Asked, Histories, Outstanding, Reported, words, of_index}
-use Rattle.run_meaning.specs.Acts.{Basis, entry_of}
+use Rattle.run_meaning.specs.Turns.{Asked, Histories, Outstanding, Reported, of_index}
+use Rattle.run_meaning.specs.Acts.{Rules, entry_of}
 use Rattle.run_meaning.specs.Rounds.{all_seen}
 use Rattle.run_meaning.specs.Dealing.{Taken, ordered_result}
-use Rattle.run_meaning.specs.Meaning.{basis_of}
+use Rattle.run_meaning.specs.Meaning.{rules_of}
 
 abbrev pub on : ℕ → Asked
 on c = record { checkable = c; event = event.Tick }
@@ -36,8 +36,8 @@ service = plain_check (2 ∷ []) (Some 0)
 abbrev pub small : PlainSite
 small = plain_site (host ∷ service ∷ []) ((1 ∷ []) ∷ (2 ∷ []) ∷ [])
 
-abbrev pub basis : Basis
-basis = basis_of small (λ p moment. true) (λ c. words []) (λ begun. [])
+abbrev pub rules : Rules
+rules = rules_of small (λ p moment. true)
 
 abbrev pub down : Event
 down = event.Result 2 true [] []
@@ -51,7 +51,7 @@ abbrev pub events : List (List Asked)
 events = (record { checkable = 0; event = down } ∷ []) ∷ (record { checkable = 1; event = down } ∷ []) ∷ []
 
 abbrev pub of_host : Entry
-of_host = entry_of basis 0 host [] [] (record { caller = 0; moment = 10; event = down; sights = [] })
+of_host = entry_of rules 0 host [] [] (record { caller = 0; moment = 10; event = down; sights = [] })
 
 abbrev pub at_host : Histories
 at_host = (of_host ∷ []) ∷ []
@@ -60,7 +60,7 @@ abbrev pub sight : ℕ → List Sight
 sight n = record { checkable = 0; count = n } ∷ []
 
 abbrev pub of_service : ℕ → Entry
-of_service n = entry_of basis 1 service [] (all_seen small (λ c. of_index c at_host) (sight n)) (record { caller = 1; moment = 10; event = down; sights = sight n })
+of_service n = entry_of rules 1 service [] (all_seen small (λ c. of_index c at_host) (sight n)) (record { caller = 1; moment = 10; event = down; sights = sight n })
 
 -- the service's entry has seen n of the host's
 abbrev pub round : ℕ → Histories
@@ -70,7 +70,7 @@ abbrev pub both : List (List Asked)
 both = (record { checkable = 0; event = down } ∷ record { checkable = 1; event = down } ∷ []) ∷ [] ∷ []
 
 abbrev pub own_service : ℕ → Entry
-own_service n = entry_of basis 1 service [] (all_seen small (λ c. of_index c at_host) (sight n)) (record { caller = 0; moment = 10; event = down; sights = sight n })
+own_service n = entry_of rules 1 service [] (all_seen small (λ c. of_index c at_host) (sight n)) (record { caller = 0; moment = 10; event = down; sights = sight n })
 
 -- caller 0 acts on the host and then on the service, but its sight of the host misses its own entry
 abbrev pub frozen : Histories
@@ -81,7 +81,7 @@ abbrev pub twice : List (List Asked)
 twice = (record { checkable = 0; event = down } ∷ []) ∷ (record { checkable = 1; event = down } ∷ record { checkable = 1; event = down } ∷ []) ∷ []
 
 abbrev pub second : Entry
-second = entry_of basis 1 service (of_service 1 ∷ []) (all_seen small (λ c. of_index c at_host) (sight 0)) (record { caller = 1; moment = 10; event = down; sights = sight 0 })
+second = entry_of rules 1 service (of_service 1 ∷ []) (all_seen small (λ c. of_index c at_host) (sight 0)) (record { caller = 1; moment = 10; event = down; sights = sight 0 })
 
 abbrev pub falling : Histories
 falling = (of_host ∷ []) ∷ (of_service 1 ∷ second ∷ []) ∷ []

@@ -2,10 +2,10 @@
 ghost use Rattle.std.specs.Prelude.{◌≡◌, ◌≤◌, ℕ, [], List, Bool, Some, length, slice_get};
 ghost use Rattle.site_model.specs.PlainSite.{PlainCheck, PlainSite};
 ghost use Rattle.run_meaning.specs.Turns.{Command, Feed, Histories, ReadTurn};
-ghost use Rattle.run_meaning.specs.Runs.{TurnLog, IsRun, start};
+ghost use Rattle.run_meaning.specs.Runs.{TurnLog, IsRun, stage_by, start};
 ghost use Rattle.run_meaning.specs.Meaning.{basis_of};
 ghost use Rattle.run_meaning.specs.Schedule.{is_waiting};
-ghost use Rattle.run_meaning.specs.Lookback.{AskCommands, back_by, is_outstanding, slot_back, stage_by};
+ghost use Rattle.run_meaning.specs.Lookback.{AskCommands, back_by, is_outstanding, slot_back};
 
 /// However many callers there are, after each turn of a run the schedule keeps of a checkable what looking back gives: its
 /// next moment is what the last of the events that set it set, and it is forced where a forced Check stands after its last

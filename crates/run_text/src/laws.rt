@@ -3,9 +3,9 @@ ghost use Rattle.std.specs.Prelude.{◌≡◌, ◌≤◌, ℕ, List, [], Bool, S
 ghost use Rattle.site_edge.specs.declared.turn.Turn.{Turn};
 ghost use Rattle.site_model.specs.PlainSite.{PlainCheck, PlainSite};
 ghost use Rattle.site_model.specs.Sound.{HasNames};
-ghost use Rattle.run_meaning.specs.Lookback.{AskCommands, ask_commands, back_by, is_outstanding, slot_back, stage_by};
+ghost use Rattle.run_meaning.specs.Lookback.{AskCommands, ask_commands, back_by, is_outstanding, slot_back};
 ghost use Rattle.run_meaning.specs.Meaning.{basis_of};
-ghost use Rattle.run_meaning.specs.Runs.{TurnLog, IsRun, start};
+ghost use Rattle.run_meaning.specs.Runs.{IsRun, TurnLog, stage_by, start};
 ghost use Rattle.run_meaning.specs.Schedule.{is_waiting};
 ghost use Rattle.run_meaning.specs.Turns.{Command, Histories, ReadTurn};
 ghost use Rattle.run_text.specs.ReadTurns.{AreTurnsRead};

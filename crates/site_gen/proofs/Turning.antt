@@ -2,11 +2,10 @@
 use Rattle.std.proofs.Common.{◌≡◌, ◌≤◌, ◌+◌, ◌-◌, ℕ, suc, List, [], ◌∷◌, ◌++◌, map, Option, refl, ap, ◌∙◌, arith}
 use Rattle.std.proofs.lemmas.List.{map-append}
 use Rattle.jiff_tz.specs.declared.tzif.Tzif.{Tzif}
-use Rattle.run_meaning.specs.Acts.{Basis}
 use Rattle.run_meaning.specs.Alone.{run_alone, turn_alone}
-use Rattle.run_meaning.specs.Lookback.{stage_by}
-use Rattle.run_meaning.specs.Runs.{Stage, TurnLog, no_entries, stage_after, start}
+use Rattle.run_meaning.specs.Runs.{Stage, TurnLog, no_entries, stage_after, stage_by, start}
 use Rattle.run_meaning.specs.Turns.{ReadTurn, from_on}
+use Rattle.run_meaning.proofs.Cutting.{alone_joined, alone_stage}
 use Rattle.run_text.specs.TurnReading.{turn_read}
 use Rattle.site_edge.specs.declared.turn.Turn.{Turn}
 use Rattle.site_model.specs.PlainSite.{PlainSite}
@@ -14,19 +13,6 @@ use Rattle.turn_engine.specs.Stages.{basis_of_site}
 use Rattle.site_gen.specs.Going.{logs_before, stage_before, turns_before}
 use Rattle.site_gen.specs.Turns.{all_turns, turn_of}
 use Rattle.site_gen.proofs.Texts.{from_longer}
-
--- Any run.
-
-run_more : (b : Basis) (st : Stage) (ts : List ReadTurn) (t : ReadTurn) → run_alone b st (ts ++ t ∷ []) ≡ run_alone b st ts ++ turn_alone b (stage_by b st ts (run_alone b st ts)) t ∷ []
-run_more b st [] t = refl
-run_more b st (x ∷ ts) t = let l = turn_alone b st x in ap (λ ls. l ∷ ls) (run_more b (stage_after b st x l) ts t)
-
-stage_more : (b : Basis) (st : Stage) (ts : List ReadTurn) (t : ReadTurn)
-    → stage_by b st (ts ++ t ∷ []) (run_alone b st (ts ++ t ∷ [])) ≡ stage_after b (stage_by b st ts (run_alone b st ts)) t (turn_alone b (stage_by b st ts (run_alone b st ts)) t)
-stage_more b st [] t = refl
-stage_more b st (x ∷ ts) t = stage_more b (stage_after b st x (turn_alone b st x)) ts t
-
--- This one.
 
 before_first : (n : ℕ) → turns_before n 1 ≡ []
 unfolding turns_before
@@ -73,12 +59,12 @@ module _ (n : ℕ) (s : PlainSite) (zone : Option Tzif) where
   pub logs_next : (k : ℕ) → 1 ≤ k → logs_before n s zone (k + 1) ≡ logs_before n s zone k ++ log_at s zone (stage_before n s zone k) (turn_of n k) ∷ []
   unfolding logs_before stage_before
   logs_next k some =
-      ap logs_over (reads_more k some) ∙ run_more (basis_of_site s zone) (start s (no_entries s)) (map (turn_read s) (turns_before n k)) (turn_read s (turn_of n k))
+      ap logs_over (reads_more k some) ∙ alone_joined (basis_of_site s zone) (start s (no_entries s)) (map (turn_read s) (turns_before n k)) (turn_read s (turn_of n k) ∷ [])
 
   pub stage_next : (k : ℕ) → 1 ≤ k → stage_before n s zone (k + 1) ≡ stage_at s zone (stage_before n s zone k) (turn_of n k)
   unfolding stage_before
   stage_next k some =
-      ap stage_over (reads_more k some) ∙ stage_more (basis_of_site s zone) (start s (no_entries s)) (map (turn_read s) (turns_before n k)) (turn_read s (turn_of n k))
+      ap stage_over (reads_more k some) ∙ alone_stage (basis_of_site s zone) (start s (no_entries s)) (map (turn_read s) (turns_before n k)) (turn_read s (turn_of n k) ∷ [])
 
   pub logs_last : logs_before n s zone 7 ≡ run_alone (basis_of_site s zone) (start s (no_entries s)) (map (turn_read s) (all_turns n))
   unfolding logs_before

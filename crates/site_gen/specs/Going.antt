@@ -2,8 +2,7 @@
 use Rattle.std.specs.Prelude.{◌≡◌, ◌≤◌, ◌+◌, ◌-◌, ℕ, false, List, map, Option}
 use Rattle.jiff_tz.specs.declared.tzif.Tzif.{Tzif}
 use Rattle.run_meaning.specs.Alone.{run_alone}
-use Rattle.run_meaning.specs.Lookback.{stage_by}
-use Rattle.run_meaning.specs.Runs.{Stage, TurnLog, no_entries, start}
+use Rattle.run_meaning.specs.Runs.{Stage, TurnLog, no_entries, stage_by, start}
 use Rattle.run_meaning.specs.Turns.{from_on}
 use Rattle.run_text.specs.TurnReading.{turn_read}
 use Rattle.site_edge.specs.declared.turn.Turn.{Turn}

@@ -7,14 +7,14 @@ use Rattle.jiff_tz.specs.declared.tzif.Tzif.{Tzif}
 use Rattle.checkable_core.proofs.Listed.{check_is}
 use Rattle.checkable_core.proofs.Own.{ancestors_own}
 use Rattle.checkable_core.specs.Contents.{check_at}
-use Rattle.checkable_core.specs.Entries.{entry_made, sight_of}
+use Rattle.checkable_core.specs.Entries.{entry_made, rules_in, sight_of}
 use Rattle.depend_graph.specs.Outlooks.{seen_as}
 use Rattle.run_meaning.proofs.Lists.{take_whole}
 use Rattle.run_meaning.specs.Acts.{Seen, entry_of}
 use Rattle.run_meaning.specs.Alone.{sights_now}
 use Rattle.run_meaning.specs.Reachability.{ancestors}
 use Rattle.run_meaning.specs.Rounds.{all_seen, seen_at}
-use Rattle.run_meaning.specs.Turns.{Command, Feed, Histories, of_index}
+use Rattle.run_meaning.specs.Turns.{Histories, of_index}
 use Rattle.run_meaning.specs.View.{view_of}
 use Rattle.site_model.specs.PlainSite.{PlainCheck, PlainSite}
 use Rattle.site_model.specs.Sound.{IsIndex}
@@ -22,7 +22,7 @@ use Rattle.site_model.specs.declared.entry.Entry.{Entry}
 use Rattle.site_model.specs.declared.event.Event.{Event}
 use Rattle.site_model.specs.declared.sight.Sight.{Sight}
 use Rattle.site_model.specs.declared.view.View.{View}
-use Rattle.site_posts.specs.Made.{basis_in, entry_next}
+use Rattle.site_posts.specs.Made.{entry_next}
 use Rattle.site_posts.specs.Sights.{shown, shown_by}
 
 module _ (s : PlainSite) (histories : Histories) where
@@ -61,8 +61,8 @@ module _ (s : PlainSite) (histories : Histories) where
       ∙ sym (ap (λ o. cons_option o (all_seen s now (map sight_at ps))) (seen_whole p (All-head (IsIndex (length s.checkables)) p ps h)))
 
   -- the entry that is made by what the ancestors show
-  pub made_next : (zone : Option Tzif) (command : ℕ → Command) (feed : Feed) (moment k : ℕ) (v : Event) → entry_made s zone command feed k (now k) 0 moment v (shown s histories k) ≡ entry_next s zone command feed moment histories k v
-  made_next zone command feed moment k v =
-      let b = basis_in s zone command feed in
+  pub made_next : (zone : Option Tzif) (moment k : ℕ) (v : Event) → entry_made s zone k (now k) 0 moment v (shown s histories k) ≡ entry_next s zone moment histories k v
+  made_next zone moment k v =
+      let b = rules_in s zone in
       ap (λ xs. entry_of b k (check_at s k) (now k) xs (record { caller = 0; moment = moment; event = v; sights = map sight_of (shown s histories k) })) (seen (ancestors s k) (ancestors_own s k))
       ∙ ap (λ ss. entry_of b k (check_at s k) (now k) (all_seen s now (sights_now b k now)) (record { caller = 0; moment = moment; event = v; sights = ss })) (counted (ancestors s k))

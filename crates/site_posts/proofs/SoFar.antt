@@ -5,51 +5,52 @@ use Rattle.std.specs.Prelude.{IfOk, OnErr, OnOk}
 use Rattle.jiff_tz.specs.declared.tzif.Tzif.{Tzif}
 use Rattle.run_meaning.specs.Alone.{AreOnSite, with_entry}
 use Rattle.run_meaning.specs.Runs.{joined}
-use Rattle.run_meaning.specs.Turns.{Asked, Command, Feed, Histories}
+use Rattle.run_meaning.specs.Turns.{Asked, Histories}
 use Rattle.site_model.specs.PlainSite.{PlainSite}
 use Rattle.site_model.specs.declared.entry.Entry.{Entry}
-use Rattle.site_posts.specs.Made.{IsPartly, basis_in, entry_next, round_made}
+use Rattle.site_posts.specs.Made.{IsPartly, entry_next, round_made}
+use Rattle.checkable_core.specs.Entries.{rules_in}
 use Rattle.site_posts.specs.Segments.{segment_of, segments_of}
 use Rattle.site_posts.proofs.Behind.{joined_nothing}
 use Rattle.site_posts.proofs.OneByOne.{joined_round_more, round_more, round_whole}
 use Rattle.site_posts.proofs.Segmenting.{none_from}
 
 -- these acts are done: what they made stands, and is gathered
-pub record IsGathered (s : PlainSite) (zone : Option Tzif) (command : ℕ → Command) (feed : Feed) (moment : ℕ) (before : Histories) (done : List Asked) (now : Histories) (kept : List (ℕ × List Entry)) : Type 0 where
-  pub stand : now ≡ joined before (round_made s zone command feed moment before done)
-  pub gathered : map segment_of kept ≡ segments_of (round_made s zone command feed moment before done)
+pub record IsGathered (s : PlainSite) (zone : Option Tzif) (moment : ℕ) (before : Histories) (done : List Asked) (now : Histories) (kept : List (ℕ × List Entry)) : Type 0 where
+  pub stand : now ≡ joined before (round_made s zone moment before done)
+  pub gathered : map segment_of kept ≡ segments_of (round_made s zone moment before done)
 
-module _ (s : PlainSite) (zone : Option Tzif) (command : ℕ → Command) (feed : Feed) (moment : ℕ) (before : Histories) where
-  pub none_done : (gathered : List (ℕ × List Entry)) → length before ≡ length s.checkables → gathered ≡ [] → IsGathered s zone command feed moment before [] before gathered
+module _ (s : PlainSite) (zone : Option Tzif) (moment : ℕ) (before : Histories) where
+  pub none_done : (gathered : List (ℕ × List Entry)) → length before ≡ length s.checkables → gathered ≡ [] → IsGathered s zone moment before [] before gathered
   none_done gathered whole none = record {
     stand = sym (joined_nothing before s.checkables whole);
     gathered = ap (map segment_of) none ∙ sym (none_from 0 s.checkables);
   }
 
-  pub one_done : (done : List Asked) (a : Asked) (e : Entry) (now later : Histories) (old new : List (ℕ × List Entry)) → a.checkable < length s.checkables → IsGathered s zone command feed moment before done now old
-      → e ≡ entry_next s zone command feed moment now a.checkable a.event → later ≡ with_entry a.checkable e now
+  pub one_done : (done : List Asked) (a : Asked) (e : Entry) (now later : Histories) (old new : List (ℕ × List Entry)) → a.checkable < length s.checkables → IsGathered s zone moment before done now old
+      → e ≡ entry_next s zone moment now a.checkable a.event → later ≡ with_entry a.checkable e now
       → ((round : Histories) → a.checkable < length round → map segment_of old ≡ segments_of round → map segment_of new ≡ segments_of (with_entry a.checkable e round))
-      → IsGathered s zone command feed moment before (done ++ a ∷ []) later new
+      → IsGathered s zone moment before (done ++ a ∷ []) later new
   one_done done a e now later old new within so_far made kept gather = record {
-    stand = kept ∙ joined_round_more s zone command feed moment before done a e now within so_far.stand made;
+    stand = kept ∙ joined_round_more s zone moment before done a e now within so_far.stand made;
     gathered =
-        gather (round_made s zone command feed moment before done) (subst (λ n. a.checkable < n) (sym (round_whole s zone command feed moment before done)) within) so_far.gathered
-        ∙ ap segments_of (sym (round_more s zone command feed moment before done a e now within so_far.stand made));
+        gather (round_made s zone moment before done) (subst (λ n. a.checkable < n) (sym (round_whole s zone moment before done)) within) so_far.gathered
+        ∙ ap segments_of (sym (round_more s zone moment before done a e now within so_far.stand made));
   }
 
   -- where it stops here, some of the acts are done
-  pub stopped : (acts done rest : List Asked) (now : Histories) → done ++ rest ≡ acts → now ≡ joined before (round_made s zone command feed moment before done) → IsPartly (basis_in s zone command feed) moment before acts now
+  pub stopped : (acts done rest : List Asked) (now : Histories) → done ++ rest ≡ acts → now ≡ joined before (round_made s zone moment before done) → IsPartly (rules_in s zone) moment before acts now
   stopped acts done rest now all stand = record { done = done; rest = rest; first = all; are = stand }
 
   -- and where it stops behind one more
   pub stopped_behind : (acts done rest : List Asked) (a : Asked) (e : Entry) (now later : Histories) → done ++ a ∷ rest ≡ acts → a.checkable < length s.checkables
-      → now ≡ joined before (round_made s zone command feed moment before done) → e ≡ entry_next s zone command feed moment now a.checkable a.event → later ≡ with_entry a.checkable e now
-      → IsPartly (basis_in s zone command feed) moment before acts later
+      → now ≡ joined before (round_made s zone moment before done) → e ≡ entry_next s zone moment now a.checkable a.event → later ≡ with_entry a.checkable e now
+      → IsPartly (rules_in s zone) moment before acts later
   stopped_behind acts done rest a e now later all within stand made kept = record {
     done = done ++ a ∷ [];
     rest = rest;
     first = append_assoc done (a ∷ []) rest ∙ all;
-    are = kept ∙ joined_round_more s zone command feed moment before done a e now within stand made;
+    are = kept ∙ joined_round_more s zone moment before done a e now within stand made;
   }
 
 -- The acts that are left.

@@ -4,10 +4,10 @@ ghost use Rattle.site_model.specs.PlainSite.{site_view};
 ghost use Rattle.run_meaning.specs.Alone.{AreOnSite};
 ghost use Rattle.run_meaning.specs.Rounds.{IsRound};
 ghost use Rattle.run_meaning.specs.Runs.{joined};
-ghost use Rattle.run_meaning.specs.Turns.{Command, Feed};
 ghost use Rattle.depend_graph.specs.Graph.{IsGraphOf};
 ghost use Rattle.site_posts.specs.Books.{AreBooks, histories_of};
-ghost use Rattle.site_posts.specs.Made.{IsPartly, asked_of, basis_in, round_made};
+ghost use Rattle.site_posts.specs.Made.{IsPartly, asked_of, round_made};
+ghost use Rattle.checkable_core.specs.Entries.{rules_in};
 ghost use Rattle.site_posts.specs.Segments.{segments_of as segments_in};
 
 use crate::act::Act;
@@ -45,15 +45,11 @@ pub fn round_one(
     requires graph { IsGraphOf (site_view site.now) graph.now }
     requires books { AreBooks (site_view site.now) moment books.old.items }
     requires acts { AreOnSite (site_view site.now) (map asked_of list.items) }
-    ensures round { (command : ℕ → Command) (feed : Feed) →
-        OnOk result (IsRound (basis_in (site_view site.now) zone.now command feed) moment (histories_of books.old.items) (map asked_of list.items ∷ []) (round_made (site_view site.now) zone.now command feed moment (histories_of books.old.items) (map asked_of list.items))) }
-    ensures segments { (command : ℕ → Command) (feed : Feed) →
-        IfOk result (λ r. r ≡ segments_in (round_made (site_view site.now) zone.now command feed moment (histories_of books.old.items) (map asked_of list.items))) }
-    ensures behind { (command : ℕ → Command) (feed : Feed) →
-        OnOk result (histories_of books.new.items ≡ joined (histories_of books.old.items) (round_made (site_view site.now) zone.now command feed moment (histories_of books.old.items) (map asked_of list.items))) }
+    ensures round { OnOk result (IsRound (rules_in (site_view site.now) zone.now) moment (histories_of books.old.items) (map asked_of list.items ∷ []) (round_made (site_view site.now) zone.now moment (histories_of books.old.items) (map asked_of list.items))) }
+    ensures segments { IfOk result (λ r. r ≡ segments_in (round_made (site_view site.now) zone.now moment (histories_of books.old.items) (map asked_of list.items))) }
+    ensures behind { OnOk result (histories_of books.new.items ≡ joined (histories_of books.old.items) (round_made (site_view site.now) zone.now moment (histories_of books.old.items) (map asked_of list.items))) }
     ensures books { AreBooks (site_view site.now) moment books.new.items }
-    ensures partly { (command : ℕ → Command) (feed : Feed) →
-        OnErr result (IsPartly (basis_in (site_view site.now) zone.now command feed) moment (histories_of books.old.items) (map asked_of list.items) (histories_of books.new.items)) }
+    ensures partly { OnErr result (IsPartly (rules_in (site_view site.now) zone.now) moment (histories_of books.old.items) (map asked_of list.items) (histories_of books.new.items)) }
 {
     let setting = Setting {
         alloc,

@@ -2,7 +2,6 @@
 ghost use Rattle.std.specs.Prelude.{◌≡◌, ◌<◌, ℕ, length, IfOk, OnOk, OnErr};
 ghost use Rattle.site_model.specs.PlainSite.{site_view};
 ghost use Rattle.run_meaning.specs.Alone.{with_entry};
-ghost use Rattle.run_meaning.specs.Turns.{Command, Feed};
 ghost use Rattle.depend_graph.specs.Graph.{IsGraphOf};
 ghost use Rattle.site_posts.specs.Books.{AreBooks, histories_of};
 ghost use Rattle.site_posts.specs.Sights.{shown};
@@ -83,8 +82,7 @@ impl<'a> Setting<'a> {
         requires books { AreBooks (site_view self.now.site.now) self.now.moment books.old.items }
         requires checkable { act.checkable < length (site_view self.now.site.now).checkables }
         requires sights { sights.now ≡ shown (site_view self.now.site.now) (histories_of books.old.items) act.checkable }
-        ensures entry { (command : ℕ → Command) (feed : Feed) →
-            IfOk result (λ e. e ≡ entry_next (site_view self.now.site.now) self.now.zone.now command feed self.now.moment (histories_of books.old.items) act.checkable act.event) }
+        ensures entry { IfOk result (λ e. e ≡ entry_next (site_view self.now.site.now) self.now.zone.now self.now.moment (histories_of books.old.items) act.checkable act.event) }
         ensures kept { IfOk result (λ e. histories_of books.new.items ≡ with_entry act.checkable e (histories_of books.old.items)) }
         ensures books { AreBooks (site_view self.now.site.now) self.now.moment books.new.items }
         ensures err { OnErr result (histories_of books.new.items ≡ histories_of books.old.items) }

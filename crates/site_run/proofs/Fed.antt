@@ -2,11 +2,12 @@
 use Rattle.std.proofs.Common.{◌≡◌, ℕ, max, List, [], ◌∷◌, ◌++◌, map, Option, refl, sym, ap, ◌∙◌, subst, arith}
 use Rattle.std.proofs.lemmas.List.{map-append}
 use Rattle.jiff_tz.specs.declared.tzif.Tzif.{Tzif}
-use Rattle.run_meaning.specs.Acts.{Basis}
+use Rattle.depend_graph.specs.Outlooks.{holds_in}
 use Rattle.run_meaning.specs.Alone.{turn_alone}
 use Rattle.run_meaning.specs.Dealing.{dealt, line_events, line_refusals, report_refusals, taken_reports, ticks}
 use Rattle.run_meaning.specs.Rounds.{IsRound}
-use Rattle.run_meaning.specs.Runs.{IsTurn, Stage, TurnLog, begun_by, lines_of, reports_of, stage_after}
+use Rattle.run_meaning.specs.Meaning.{basis_of}
+use Rattle.run_meaning.specs.Runs.{Basis, IsTurn, Stage, TurnLog, begun_by, lines_of, reports_of, stage_after}
 use Rattle.run_meaning.specs.Turns.{Asked, Begun, Feed, Histories, Line, ReadTurn}
 use Rattle.run_meaning.proofs.OneLog.{only_log}
 use Rattle.event_text.specs.Reading.{line_read}
@@ -14,7 +15,6 @@ use Rattle.run_text.specs.TurnReading.{as_line, lines_read, turn_read}
 use Rattle.run_text.specs.declared.style.Style.{Style}
 use Rattle.site_edge.specs.declared.turn.Turn.{Turn}
 use Rattle.site_model.specs.PlainSite.{PlainSite, site_view}
-use Rattle.site_posts.specs.Made.{basis_in}
 use Rattle.turn_engine.specs.Orders.{command_of}
 use Rattle.turn_engine.specs.Stages.{Running, basis_of_site, stage_of}
 use Rattle.site_run.specs.Courses.{course_alone, course_of}
@@ -30,20 +30,6 @@ lines_behind gives after feed (c ∷ d ∷ bs) b = lines_behind gives after (aft
 pub feed_more : {F : Type 0} (after : Changing F) (feed : F) (bs : List Begun) (b : Begun) → feed_after after feed (bs ++ b ∷ []) ≡ after (feed_after after feed bs) b.histories b.moment
 feed_more after feed [] b = refl
 feed_more after feed (c ∷ bs) b = feed_more after (after feed c.histories c.moment) bs b
-
--- No rule of a round looks at what is fed.
-
-round_with : (b : Basis) (feed : Feed) (moment : ℕ) (before : Histories) (events : List (List Asked)) (round : Histories) → IsRound b moment before events round → IsRound (record b { feed = feed }) moment before events round
-round_with b feed moment before events round x = record {
-  whole = x.whole;
-  taken = x.taken;
-  callers = x.callers;
-  made = λ c i e at. let m = x.made c i e at in record { check = m.check; is = m.is; made = m.made };
-  ancestors = x.ancestors;
-  seen = x.seen;
-  rising = x.rising;
-  own = x.own;
-}
 
 -- A turn.
 
@@ -61,8 +47,7 @@ turn_with b feed st t before l none is x =
       moment = x.moment;
       refusals = x.refusals ∙ ap (λ ls. line_refusals 1 ls ++ report_refusals st.plans.outstanding (reports_of st t)) same;
       round =
-          subst (λ ls. IsRound c m st.histories (dealt 1 (line_events ls) (taken_reports st.plans.outstanding (reports_of st t)) (ticks b.site st.histories m)) l.round) same
-          (round_with b feed m st.histories (dealt 1 (line_events (lines_of b st (with_lines before t) m)) (taken_reports st.plans.outstanding (reports_of st t)) (ticks b.site st.histories m)) l.round x.round);
+          subst (λ ls. IsRound b.rules m st.histories (dealt 1 (line_events ls) (taken_reports st.plans.outstanding (reports_of st t)) (ticks b.rules.site st.histories m)) l.round) same x.round;
       orders = x.orders;
     }
 
@@ -118,4 +103,4 @@ none_fed after first (b ∷ c ∷ bs) = none_fed after (after first b.histories 
 pub course_is_alone : {F : Type 0} (r : Running) (begun : List Begun) (style : Style) (after : Changing F) (first : F) → course_of r begun style (λ _ _ _. []) after first ≡ course_alone r begun style
 course_is_alone r begun style after first =
     let s = site_view r.site in
-    λ i. record { basis = basis_in s r.zone (command_of s) (λ bs. lines_read s (none_fed after first bs i)); stage = stage_of r begun; style = style }
+    λ i. record { basis = basis_of s (holds_in s r.zone) (command_of s) (λ bs. lines_read s (none_fed after first bs i)); stage = stage_of r begun; style = style }

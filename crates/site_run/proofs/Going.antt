@@ -4,11 +4,9 @@ use Rattle.std.proofs.lemmas.Grind.{flat_map-append}
 use Rattle.std.proofs.lemmas.List.{append-nil, map-append}
 use Rattle.std.proofs.lemmas.List.Folds.{concat-append}
 use Rattle.std.specs.List.{concat, flat_map}
-use Rattle.run_meaning.specs.Acts.{Basis}
-use Rattle.run_meaning.specs.Alone.{run_alone, turn_alone}
-use Rattle.run_meaning.specs.Lookback.{stage_by}
-use Rattle.run_meaning.specs.Runs.{Stage, TurnLog, stage_after}
-use Rattle.run_meaning.specs.Turns.{ReadTurn}
+use Rattle.run_meaning.specs.Alone.{run_alone}
+use Rattle.run_meaning.specs.Runs.{TurnLog, stage_by}
+use Rattle.run_meaning.proofs.Cutting.{alone_joined, alone_stage}
 use Rattle.run_text.specs.LogText.{turn_lines}
 use Rattle.run_text.specs.TurnReading.{turn_read}
 use Rattle.site_edge.specs.declared.order.Order.{Order}
@@ -18,29 +16,20 @@ use Rattle.site_run.specs.Starts.{started_of}
 
 -- Logs.
 
-run_both : (b : Basis) (st : Stage) (ts us : List ReadTurn) → run_alone b st (ts ++ us) ≡ run_alone b st ts ++ run_alone b (stage_by b st ts (run_alone b st ts)) us
-run_both b st [] us = refl
-run_both b st (t ∷ ts) us = let l = turn_alone b st t in ap (λ ls. l ∷ ls) (run_both b (stage_after b st t l) ts us)
-
-stage_both : (b : Basis) (st : Stage) (ts us : List ReadTurn) → stage_by b st (ts ++ us) (run_alone b st (ts ++ us))
-    ≡ stage_by b (stage_by b st ts (run_alone b st ts)) us (run_alone b (stage_by b st ts (run_alone b st ts)) us)
-stage_both b st [] us = refl
-stage_both b st (t ∷ ts) us = stage_both b (stage_after b st t (turn_alone b st t)) ts us
-
 reads_both : (c : Course) (done more : List Turn) → reads c (done ++ more) ≡ reads c done ++ reads c more
-reads_both c done more = map-append (turn_read c.basis.site) done more
+reads_both c done more = map-append (turn_read c.basis.rules.site) done more
 
 logs_both : (c : Course) (done more : List Turn) → logs c (done ++ more) ≡ logs c done ++ logs (behind c done) more
-logs_both c done more = ap (run_alone c.basis c.stage) (reads_both c done more) ∙ run_both c.basis c.stage (reads c done) (reads c more)
+logs_both c done more = ap (run_alone c.basis c.stage) (reads_both c done more) ∙ alone_joined c.basis c.stage (reads c done) (reads c more)
 
 pub behind_both : (c : Course) (done more : List Turn) → (behind c (done ++ more)).stage ≡ (behind (behind c done) more).stage
-behind_both c done more = ap (λ rs. stage_by c.basis c.stage rs (run_alone c.basis c.stage rs)) (reads_both c done more) ∙ stage_both c.basis c.stage (reads c done) (reads c more)
+behind_both c done more = ap (λ rs. stage_by c.basis c.stage rs (run_alone c.basis c.stage rs)) (reads_both c done more) ∙ alone_stage c.basis c.stage (reads c done) (reads c more)
 
 -- Their text, and the orders of them.
 
 pub text_both : (c : Course) (done more : List Turn) → text c (done ++ more) ≡ text c done ++ text (behind c done) more
 text_both c done more =
-    let lines = turn_lines c.style c.basis.site in
+    let lines = turn_lines c.style c.basis.rules.site in
     ap (λ ls. concat (flat_map lines ls)) (logs_both c done more)
     ∙ ap concat (flat_map-append lines (logs c done) (logs (behind c done) more))
     ∙ concat-append (flat_map lines (logs c done)) (flat_map lines (logs (behind c done) more))
@@ -55,7 +44,7 @@ orders_both c done more =
 pub text_more : (c : Course) (done : List Turn) (t : Turn) → text c (done ++ t ∷ []) ≡ text c done ++ text_of (behind c done) (log_of (behind c done) t)
 text_more c done t =
     text_both c done (t ∷ [])
-    ∙ ap (λ ls. text c done ++ concat ls) (append-nil (turn_lines c.style c.basis.site (log_of (behind c done) t)))
+    ∙ ap (λ ls. text c done ++ concat ls) (append-nil (turn_lines c.style c.basis.rules.site (log_of (behind c done) t)))
 
 pub orders_more : (c : Course) (done : List Turn) (t : Turn) → orders c (done ++ t ∷ []) ≡ orders c done ++ started_of (log_of (behind c done) t).orders
 orders_more c done t = orders_both c done (t ∷ []) ∙ ap (λ os. orders c done ++ os) (append-nil (started_of (log_of (behind c done) t).orders))

@@ -1,10 +1,8 @@
 -- Turns of a run, one after another: their logs, what is written and started of them, and what stands behind them.
 use Rattle.std.specs.Prelude.{ℕ, List, [], map}
 use Rattle.std.specs.List.{concat, flat_map}
-use Rattle.run_meaning.specs.Acts.{Basis}
 use Rattle.run_meaning.specs.Alone.{run_alone, turn_alone}
-use Rattle.run_meaning.specs.Lookback.{stage_by}
-use Rattle.run_meaning.specs.Runs.{Stage, TurnLog}
+use Rattle.run_meaning.specs.Runs.{Basis, Stage, TurnLog, stage_by}
 use Rattle.run_meaning.specs.Turns.{Begun, ReadTurn}
 use Rattle.run_text.specs.LogText.{turn_lines}
 use Rattle.run_text.specs.TurnReading.{turn_read}
@@ -33,14 +31,14 @@ course_alone r begun style = record { basis = basis_of_site (site_view r.site) r
 
 -- the log of the next turn
 abbrev pub log_of : Course → Turn → TurnLog
-log_of c t = turn_alone c.basis c.stage (turn_read c.basis.site t)
+log_of c t = turn_alone c.basis c.stage (turn_read c.basis.rules.site t)
 
 -- its text
 abbrev pub text_of : Course → TurnLog → List ℕ
-text_of c l = concat (turn_lines c.style c.basis.site l)
+text_of c l = concat (turn_lines c.style c.basis.rules.site l)
 
 abbrev pub reads : Course → List Turn → List ReadTurn
-reads c ts = map (turn_read c.basis.site) ts
+reads c ts = map (turn_read c.basis.rules.site) ts
 
 -- the logs of the next turns
 abbrev pub logs : Course → List Turn → List TurnLog
@@ -48,7 +46,7 @@ logs c ts = run_alone c.basis c.stage (reads c ts)
 
 -- their text
 abbrev pub text : Course → List Turn → List ℕ
-text c ts = concat (flat_map (turn_lines c.style c.basis.site) (logs c ts))
+text c ts = concat (flat_map (turn_lines c.style c.basis.rules.site) (logs c ts))
 
 -- the orders that are started of them
 abbrev pub orders : Course → List Turn → List Order

@@ -1,13 +1,14 @@
 -- What a feed gives over the turns of a run, and what a run with it stands on.
 use Rattle.std.specs.Prelude.{ℕ, List, [], ◌∷◌, Option}
 use Rattle.checkable_core.specs.Contents.{Contents}
+use Rattle.depend_graph.specs.Outlooks.{holds_in}
 use Rattle.jiff_tz.specs.declared.tzif.Tzif.{Tzif}
-use Rattle.run_meaning.specs.Acts.{Basis}
+use Rattle.run_meaning.specs.Meaning.{basis_of}
+use Rattle.run_meaning.specs.Runs.{Basis}
 use Rattle.run_meaning.specs.Turns.{Begun, Feed, Histories}
 use Rattle.run_text.specs.TurnReading.{lines_read}
 use Rattle.site_model.specs.PlainSite.{PlainSite}
 use Rattle.site_posts.specs.Books.{AreBooks}
-use Rattle.site_posts.specs.Made.{basis_in}
 use Rattle.turn_engine.specs.Orders.{command_of}
 
 -- they are those of a site that a feed was made for
@@ -41,4 +42,4 @@ feed_of s gives after feed begun = lines_read s (lines_fed gives after feed begu
 
 -- what a run over a site in a zone stands on whose turns are fed so
 abbrev pub basis_fed : {F : Type 0} → PlainSite → Option Tzif → Giving F → Changing F → F → Basis
-basis_fed s zone gives after feed = basis_in s zone (command_of s) (feed_of s gives after feed)
+basis_fed s zone gives after feed = basis_of s (holds_in s zone) (command_of s) (feed_of s gives after feed)

@@ -12,11 +12,10 @@ use Rattle.checkable_core.specs.Contents.{Contents}
 use Rattle.lasting_problems.specs.Lasting.{lasting}
 use Rattle.lasting_problems.specs.Noted.{late_in, noted}
 use Rattle.lasting_problems.proofs.Ticking.{ticks_are}
-use Rattle.run_meaning.specs.Acts.{Basis}
 use Rattle.run_meaning.specs.Alone.{AreOnSite, all_events, alone, turn_alone}
 use Rattle.run_meaning.specs.Dealing.{Taken, dealt, line_events, line_refusals, report_refusals, still, taken_reports, ticks}
 use Rattle.run_meaning.specs.Rounds.{IsRound}
-use Rattle.run_meaning.specs.Runs.{IsTurn, Stage, TurnLog, begun_by, due_of, joined, stage_after}
+use Rattle.run_meaning.specs.Runs.{Basis, IsTurn, Stage, TurnLog, begun_by, due_of, joined, stage_after}
 use Rattle.run_meaning.specs.Turns as turns
 use Rattle.run_meaning.specs.Turns.{Asked, Begun, Histories, Outstanding, Plans, ReadTurn, Reported, Slot}
 use Rattle.run_meaning.proofs.Dealt.{dealt_to_one}
@@ -86,13 +85,13 @@ module _ (s : PlainSite) (zone : Option Tzif) (r : Running) (plan : Plan) (plans
   log = turn_alone b st t
 
   abbrev pub round : Histories
-  round = alone b m r.histories events
+  round = alone b.rules m r.histories events
 
   pub round_is : round ≡ log.round
-  round_is = ap (alone b m r.histories) events_are ∙ ap (λ n. alone b n r.histories (all_events b st t n)) m_is
+  round_is = ap (alone b.rules m r.histories) events_are ∙ ap (λ n. alone b.rules n r.histories (all_events b st t n)) m_is
 
-  dealt_so : IsRound b m r.histories (dealt 1 (line_events (lines_read s turn.lines)) (taken_reports os told) (ticks s r.histories m)) round
-  dealt_so = subst (λ es. IsRound b m r.histories es round) (sym (dealt_to_one (line_events (lines_read s turn.lines)) (taken_reports os told) (ticks s r.histories m))) (is_alone b m r.histories events on_site)
+  dealt_so : IsRound b.rules m r.histories (dealt 1 (line_events (lines_read s turn.lines)) (taken_reports os told) (ticks s r.histories m)) round
+  dealt_so = subst (λ es. IsRound b.rules m r.histories es round) (sym (dealt_to_one (line_events (lines_read s turn.lines)) (taken_reports os told) (ticks s r.histories m))) (is_alone b.rules m r.histories events on_site)
 
   pub is_turn : IsTurn b 1 st t log
   is_turn = record {
@@ -100,21 +99,21 @@ module _ (s : PlainSite) (zone : Option Tzif) (r : Running) (plan : Plan) (plans
     moment = refl;
     refusals = refl;
     round =
-        subst (λ n. IsRound b n r.histories (dealt 1 (line_events (lines_read s turn.lines)) (taken_reports r.plans.outstanding told) (ticks s r.histories n)) log.round) m_is
-        (subst (λ h. IsRound b m r.histories (dealt 1 (line_events (lines_read s turn.lines)) (taken_reports r.plans.outstanding told) (ticks s r.histories m)) h) round_is
-        (subst (λ (p : Plans). IsRound b m r.histories (dealt 1 (line_events (lines_read s turn.lines)) (taken_reports p.outstanding told) (ticks s r.histories m)) round) (sym plans_are) dealt_so));
+        subst (λ n. IsRound b.rules n r.histories (dealt 1 (line_events (lines_read s turn.lines)) (taken_reports r.plans.outstanding told) (ticks s r.histories n)) log.round) m_is
+        (subst (λ h. IsRound b.rules m r.histories (dealt 1 (line_events (lines_read s turn.lines)) (taken_reports r.plans.outstanding told) (ticks s r.histories m)) h) round_is
+        (subst (λ (p : Plans). IsRound b.rules m r.histories (dealt 1 (line_events (lines_read s turn.lines)) (taken_reports p.outstanding told) (ticks s r.histories m)) round) (sym plans_are) dealt_so));
     orders = refl;
   }
 
   pub many : length round ≡ length s.checkables
-  many = alone_whole b m r.histories events
+  many = alone_whole b.rules m r.histories events
 
   -- the plan goes on from the one before the turn
   pub begins : BeginsWith s r.plans taken_plan
   begins = subst (λ p. BeginsWith s p taken_plan) (sym plans_are) (begins_own s plan (still told os) is_plan)
 
   pub round_of_turn : (books : List Contents) (segments : List Segment) → histories_of books ≡ joined r.histories round → segments ≡ segments_of round → IsRoundOf s books segments r.histories round
-  round_of_turn books segments stand gathered = record { whole = many; stand = stand; gathered = gathered; shown = all_shown b m r.histories round (events ∷ []) (is_alone b m r.histories events on_site) }
+  round_of_turn books segments stand gathered = record { whole = many; stand = stand; gathered = gathered; shown = all_shown b.rules m r.histories round (events ∷ []) (is_alone b.rules m r.histories events on_site) }
 
   pub inside : (segments : List Segment) → segments ≡ segments_of round → (n : ℕ) → n ≡ length s.checkables → (k : ℕ) (d : Segment) → k < length segments → (slice_index_or segments k d).checkable < n
   inside segments gathered n is =
@@ -122,7 +121,7 @@ module _ (s : PlainSite) (zone : Option Tzif) (r : Running) (plan : Plan) (plans
 
   -- between this turn and the next one it is a plan again
   pub still_plan : IsPlan s (with_round s r.histories round taken_plan)
-  still_plan = plan_after b m r.histories round 1 (line_events (lines_read s turn.lines)) told plan (omega arith) (lines_ask s turn.lines) dealt_so is_plan
+  still_plan = plan_after b.rules m r.histories round 1 (line_events (lines_read s turn.lines)) told plan (omega arith) (lines_ask s turn.lines) dealt_so is_plan
 
   orders_over : (b.schedule r.plans m r.histories round).orders ≡ log.orders
   orders_over = ap (λ h. (b.schedule r.plans m r.histories h).orders) round_is ∙ ap (λ n. (b.schedule r.plans n r.histories log.round).orders) m_is

@@ -1,12 +1,12 @@
 -- What an engine is at, in the words of runs.
 use Rattle.std.specs.Prelude.{◌≡◌, ℕ, List, map, Option}
 use Rattle.jiff_tz.specs.declared.tzif.Tzif.{Tzif}
-use Rattle.run_meaning.specs.Acts.{Basis}
-use Rattle.run_meaning.specs.Runs.{Stage, TurnLog}
+use Rattle.depend_graph.specs.Outlooks.{holds_in}
+use Rattle.run_meaning.specs.Meaning.{basis_of}
+use Rattle.run_meaning.specs.Runs.{Basis, Stage, TurnLog}
 use Rattle.run_meaning.specs.Turns.{Begun, Histories, Plans, Reported}
 use Rattle.site_model.specs.PlainSite.{PlainSite}
 use Rattle.site_model.specs.declared.site.Site.{Site}
-use Rattle.site_posts.specs.Made.{basis_in}
 use Rattle.site_posts.specs.Segments.{segments_of}
 use Rattle.run_text.specs.TurnReading.{nothing_fed}
 use Rattle.turn_deal.specs.Dealt.{refusal_of}
@@ -25,7 +25,7 @@ pub record Running : Type 0 where
 
 -- what its run stands on: commands are those of the site, and nothing is fed
 abbrev pub basis_of_site : PlainSite → Option Tzif → Basis
-basis_of_site s zone = basis_in s zone (command_of s) nothing_fed
+basis_of_site s zone = basis_of s (holds_in s zone) (command_of s) nothing_fed
 
 -- where this is what stood when each turn so far began
 abbrev pub stage_of : Running → List Begun → Stage

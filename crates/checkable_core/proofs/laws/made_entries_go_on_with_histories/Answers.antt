@@ -4,6 +4,6 @@ use Rattle.checkable_core.proofs.laws.made_entries_go_on_with_histories.Goals as
 
 pub returns : goal.returns
 returns c = record {
-  entry = λ s zone command feed k h caller moment v sights sound lawful seen. made_own s zone command feed k h caller moment v sights sound lawful seen;
-  history = λ s zone command feed k h caller moment v sights sound lawful seen is late. made_on s zone command feed k h caller moment v sights sound lawful seen is late;
+  entry = λ s zone k h caller moment v sights sound lawful seen. made_own s zone k h caller moment v sights sound lawful seen;
+  history = λ s zone k h caller moment v sights sound lawful seen is late. made_on s zone k h caller moment v sights sound lawful seen is late;
 }

@@ -1,6 +1,5 @@
 -- The segments of the round are of the site's checkables.
 use Rattle.std.proofs.Common.{◌≡◌, ◌<◌, ℕ, [], map, length, slice_index_or, sym, subst, ◌∙◌}
-use Rattle.run_meaning.specs.Turns.{words}
 use Rattle.site_model.specs.PlainSite.{site_view}
 use Rattle.site_posts.specs.Books.{histories_of}
 use Rattle.site_posts.specs.Made.{asked_of, round_made}
@@ -16,5 +15,5 @@ after_round-requires-clause-within c =
     let m = c.args.setting.now.moment in
     let before = histories_of c.args.books.now.items in
     let acts = map asked_of c.args.acts.items in
-    subst (λ xs. (k : ℕ) (d : Segment) → k < length xs → (slice_index_or xs k d).checkable < length s.checkables) (sym (c.as_slice-2.ensures ∙ c.in_ok-segments.ensures.segments (λ k. words []) (λ begun. [])))
-    (segments_within (length s.checkables) (round_made s zone (λ k. words []) (λ begun. []) m before acts) (round_whole s zone (λ k. words []) (λ begun. []) m before acts))
+    subst (λ xs. (k : ℕ) (d : Segment) → k < length xs → (slice_index_or xs k d).checkable < length s.checkables) (sym (c.as_slice-2.ensures ∙ c.in_ok-segments.ensures.segments))
+    (segments_within (length s.checkables) (round_made s zone m before acts) (round_whole s zone m before acts))

@@ -9,7 +9,8 @@ use Rattle.run_meaning.specs.Runs.{joined}
 use Rattle.run_meaning.specs.Turns.{Asked}
 use Rattle.site_model.specs.PlainSite.{site_view}
 use Rattle.site_posts.specs.Books.{histories_of}
-use Rattle.site_posts.specs.Made.{asked_of, basis_in, round_made}
+use Rattle.site_posts.specs.Made.{asked_of, round_made}
+use Rattle.checkable_core.specs.Entries.{rules_in}
 use Rattle.site_posts.specs.Segments.{segments_of}
 use Rattle.site_posts.specs.declared.act.Act.{Act}
 use Rattle.site_posts.proofs.SoFar.{all_done, if_ok, none_done, on_any, on_any_err, on_site_first, on_site_rest, one_done, stopped, stopped_behind}
@@ -26,7 +27,7 @@ loop-act-init c =
       so_far = (
         [],
         ap (map asked_of) items,
-        λ command feed. none_done s c.args.zone.now command feed c.args.moment (histories_of c.args.books.now.items) c.new-gathered.result.entries
+        none_done s c.args.zone.now c.args.moment (histories_of c.args.books.now.items) c.new-gathered.result.entries
             (length_map (λ (k : Contents). k.entries) c.args.books.now.items ∙ c.requires.books.whole) none,
       );
     }
@@ -44,8 +45,8 @@ loop-act-preserved c =
       so_far = (
         before.so_far.0 ++ a ∷ [],
         append_assoc before.so_far.0 (a ∷ []) _ ∙ ap (λ (xs : List Asked). before.so_far.0 ++ xs) (sym step) ∙ before.so_far.1,
-        λ command feed. one_done s c.args.zone.now command feed c.args.moment (histories_of c.args.books.now.items) before.so_far.0 a c.in_ok-entry.entry (histories_of c.loop-act.books.items) (histories_of c.take.new.books.items) c.loop-act.gathered.entries c.gather.new.gathered.entries
-            within (before.so_far.2 command feed) (c.in_ok-entry.ensures.entry command feed) c.in_ok-entry.ensures.kept c.in_ok-gather.ensures,
+        one_done s c.args.zone.now c.args.moment (histories_of c.args.books.now.items) before.so_far.0 a c.in_ok-entry.entry (histories_of c.loop-act.books.items) (histories_of c.take.new.books.items) c.loop-act.gathered.entries c.gather.new.gathered.entries
+            within before.so_far.2 c.in_ok-entry.ensures.entry c.in_ok-entry.ensures.kept c.in_ok-gather.ensures,
       );
     }
 
@@ -58,63 +59,63 @@ take-requires-clause-checkable c = on_site_first (site_view c.args.site.now) (as
 -- Where it stops.
 
 pub returns-in_err-look-clause-partly : goal.returns-in_err-look-clause-partly
-returns-in_err-look-clause-partly c = λ command feed.
+returns-in_err-look-clause-partly c =
     let so_far = c.loop-act.invariant.so_far in
-    let done = so_far.2 command feed in
+    let done = so_far.2 in
     on_any_err _
-    (stopped (site_view c.args.site.now) c.args.zone.now command feed c.args.moment (histories_of c.args.books.now.items) (map asked_of c.args.list.items) so_far.0 _ (histories_of c.loop-act.books.items) so_far.1 done.stand)
+    (stopped (site_view c.args.site.now) c.args.zone.now c.args.moment (histories_of c.args.books.now.items) (map asked_of c.args.list.items) so_far.0 _ (histories_of c.loop-act.books.items) so_far.1 done.stand)
     c.from_residual.result
 
 pub returns-in_err-entry-clause-partly : goal.returns-in_err-entry-clause-partly
-returns-in_err-entry-clause-partly c = λ command feed.
+returns-in_err-entry-clause-partly c =
     let so_far = c.loop-act.invariant.so_far in
-    let done = so_far.2 command feed in
+    let done = so_far.2 in
     on_any_err _
-    (stopped (site_view c.args.site.now) c.args.zone.now command feed c.args.moment (histories_of c.args.books.now.items) (map asked_of c.args.list.items) so_far.0 _ (histories_of c.take.new.books.items) so_far.1 (c.in_err-entry.ensures.err ∙ done.stand))
+    (stopped (site_view c.args.site.now) c.args.zone.now c.args.moment (histories_of c.args.books.now.items) (map asked_of c.args.list.items) so_far.0 _ (histories_of c.take.new.books.items) so_far.1 (c.in_err-entry.ensures.err ∙ done.stand))
     c.from_residual-in_err-entry.result
 
 pub returns-in_err-gather-clause-partly : goal.returns-in_err-gather-clause-partly
-returns-in_err-gather-clause-partly c = λ command feed.
+returns-in_err-gather-clause-partly c =
     let s = site_view c.args.site.now in
     let a = asked_of c.in-Some.act in
     let so_far = c.loop-act.invariant.so_far in
-    let done = so_far.2 command feed in
+    let done = so_far.2 in
     let step = ap (map asked_of) c.in-Some.ensures.steps.0 in
     on_any_err _
-    (stopped_behind s c.args.zone.now command feed c.args.moment (histories_of c.args.books.now.items) (map asked_of c.args.list.items) so_far.0 _ a c.in_ok-entry.entry (histories_of c.loop-act.books.items) (histories_of c.take.new.books.items)
-    (ap (λ (xs : List Asked). so_far.0 ++ xs) (sym step) ∙ so_far.1) (on_site_first s a _ _ step c.loop-act.invariant.acts) done.stand (c.in_ok-entry.ensures.entry command feed) c.in_ok-entry.ensures.kept)
+    (stopped_behind s c.args.zone.now c.args.moment (histories_of c.args.books.now.items) (map asked_of c.args.list.items) so_far.0 _ a c.in_ok-entry.entry (histories_of c.loop-act.books.items) (histories_of c.take.new.books.items)
+    (ap (λ (xs : List Asked). so_far.0 ++ xs) (sym step) ∙ so_far.1) (on_site_first s a _ _ step c.loop-act.invariant.acts) done.stand c.in_ok-entry.ensures.entry c.in_ok-entry.ensures.kept)
     c.from_residual-in_err-gather.result
 
 -- At the end.
 
 pub returns-clause-round : goal.returns-clause-round
-returns-clause-round c = λ command feed.
-    on_any _ (is_alone (basis_in (site_view c.args.site.now) c.args.zone.now command feed) c.args.moment (histories_of c.args.books.now.items) (map asked_of c.args.list.items) c.requires.acts) c.segments_of.result
+returns-clause-round c =
+    on_any _ (is_alone (rules_in (site_view c.args.site.now) c.args.zone.now) c.args.moment (histories_of c.args.books.now.items) (map asked_of c.args.list.items) c.requires.acts) c.segments_of.result
 
 pub returns-clause-segments : goal.returns-clause-segments
-returns-clause-segments c = λ command feed.
+returns-clause-segments c =
     let so_far = c.loop-act.invariant.so_far in
-    let done = so_far.2 command feed in
+    let done = so_far.2 in
     let empty : length (into_iter_items c.loop-act.act-iterator) ≡ 0 = search (rules, c.in-None.ensures.steps) in
     let all = all_done asked_of so_far.0 (map asked_of c.args.list.items) (into_iter_items c.loop-act.act-iterator) so_far.1 empty in
     if_ok _ _
-    (λ r is. is ∙ done.gathered ∙ ap (λ (xs : List Asked). segments_of (round_made (site_view c.args.site.now) c.args.zone.now command feed c.args.moment (histories_of c.args.books.now.items) xs)) all)
+    (λ r is. is ∙ done.gathered ∙ ap (λ (xs : List Asked). segments_of (round_made (site_view c.args.site.now) c.args.zone.now c.args.moment (histories_of c.args.books.now.items) xs)) all)
     c.segments_of.result c.segments_of.ensures
 
 pub returns-clause-behind : goal.returns-clause-behind
-returns-clause-behind c = λ command feed.
+returns-clause-behind c =
     let so_far = c.loop-act.invariant.so_far in
-    let done = so_far.2 command feed in
+    let done = so_far.2 in
     let empty : length (into_iter_items c.loop-act.act-iterator) ≡ 0 = search (rules, c.in-None.ensures.steps) in
     let all = all_done asked_of so_far.0 (map asked_of c.args.list.items) (into_iter_items c.loop-act.act-iterator) so_far.1 empty in
     on_any _
-    (done.stand ∙ ap (λ (xs : List Asked). joined (histories_of c.args.books.now.items) (round_made (site_view c.args.site.now) c.args.zone.now command feed c.args.moment (histories_of c.args.books.now.items) xs)) all)
+    (done.stand ∙ ap (λ (xs : List Asked). joined (histories_of c.args.books.now.items) (round_made (site_view c.args.site.now) c.args.zone.now c.args.moment (histories_of c.args.books.now.items) xs)) all)
     c.segments_of.result
 
 pub returns-clause-partly : goal.returns-clause-partly
-returns-clause-partly c = λ command feed.
+returns-clause-partly c =
     let so_far = c.loop-act.invariant.so_far in
-    let done = so_far.2 command feed in
+    let done = so_far.2 in
     on_any_err _
-    (stopped (site_view c.args.site.now) c.args.zone.now command feed c.args.moment (histories_of c.args.books.now.items) (map asked_of c.args.list.items) so_far.0 _ (histories_of c.loop-act.books.items) so_far.1 done.stand)
+    (stopped (site_view c.args.site.now) c.args.zone.now c.args.moment (histories_of c.args.books.now.items) (map asked_of c.args.list.items) so_far.0 _ (histories_of c.loop-act.books.items) so_far.1 done.stand)
     c.segments_of.result

@@ -2,7 +2,7 @@
 use Rattle.std.proofs.Common.{◌≡◌, ◌++◌, ℕ, List, map}
 use Rattle.std.specs.Vec.Iter.{into_iter_items}
 use Rattle.run_meaning.specs.Alone.{AreOnSite}
-use Rattle.run_meaning.specs.Turns.{Asked, Command, Feed}
+use Rattle.run_meaning.specs.Turns.{Asked}
 use Rattle.site_model.specs.PlainSite.{site_view}
 use Rattle.site_posts.specs.Books.{AreBooks, histories_of}
 use Rattle.site_posts.specs.Made.{asked_of}
@@ -17,5 +17,5 @@ invariant-loop-act l =
       acts : AreOnSite s (map asked_of (into_iter_items l.act-iterator));
       so_far : (done : List Asked)
           × (done ++ map asked_of (into_iter_items l.act-iterator) ≡ map asked_of l.fn.list.items)
-          × ((command : ℕ → Command) (feed : Feed) → IsGathered s l.zone command feed l.fn.moment (histories_of l.initial.books.items) done (histories_of l.books.items) l.gathered.entries);
+          × IsGathered s l.zone l.fn.moment (histories_of l.initial.books.items) done (histories_of l.books.items) l.gathered.entries;
     }

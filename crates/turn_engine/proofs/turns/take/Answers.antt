@@ -56,8 +56,8 @@ after_round-requires-clause-within c =
     (c.in_ok-dealt.ensures.events ∙ ap (λ xs. line_events (lines_read s turn.lines) ++ (map (λ x. x.asked) (taken_reports w.plan.orders.outstanding (map report_read xs ++ map report_read turn.reports)) ++ map tick_of (late_in m w.problems))) c.as_slice.ensures.value) in
     let made = round s zone r w.plan refl is turn m m_is [] in
     let b = basis_of_site s zone in
-    let stand : histories_of c.round_one.new.books.items ≡ joined r.histories made = c.in_ok-segments.ensures.behind (command_of s) nothing_fed ∙ ap (λ xs. joined r.histories (alone b m r.histories xs)) dealt in
-    let gathered : c.in_ok-segments.segments ≡ segments_of made = c.in_ok-segments.ensures.segments (command_of s) nothing_fed ∙ ap (λ xs. segments_of (alone b m r.histories xs)) dealt in
+    let stand : histories_of c.round_one.new.books.items ≡ joined r.histories made = c.in_ok-segments.ensures.behind ∙ ap (λ xs. joined r.histories (alone b.rules m r.histories xs)) dealt in
+    let gathered : c.in_ok-segments.segments ≡ segments_of made = c.in_ok-segments.ensures.segments ∙ ap (λ xs. segments_of (alone b.rules m r.histories xs)) dealt in
     inside s zone r w.plan refl is turn m m_is [] c.as_slice-3.result.now (c.as_slice-3.ensures ∙ gathered) (length s.checkables) refl
 
 pub follow-requires : goal.follow-requires
@@ -75,8 +75,8 @@ follow-requires c =
     (c.in_ok-dealt.ensures.events ∙ ap (λ xs. line_events (lines_read s turn.lines) ++ (map (λ x. x.asked) (taken_reports w.plan.orders.outstanding (map report_read xs ++ map report_read turn.reports)) ++ map tick_of (late_in m w.problems))) c.as_slice.ensures.value) in
     let made = round s zone r w.plan refl is turn m m_is [] in
     let b = basis_of_site s zone in
-    let stand : histories_of c.round_one.new.books.items ≡ joined r.histories made = c.in_ok-segments.ensures.behind (command_of s) nothing_fed ∙ ap (λ xs. joined r.histories (alone b m r.histories xs)) dealt in
-    let gathered : c.in_ok-segments.segments ≡ segments_of made = c.in_ok-segments.ensures.segments (command_of s) nothing_fed ∙ ap (λ xs. segments_of (alone b m r.histories xs)) dealt in
+    let stand : histories_of c.round_one.new.books.items ≡ joined r.histories made = c.in_ok-segments.ensures.behind ∙ ap (λ xs. joined r.histories (alone b.rules m r.histories xs)) dealt in
+    let gathered : c.in_ok-segments.segments ≡ segments_of made = c.in_ok-segments.ensures.segments ∙ ap (λ xs. segments_of (alone b.rules m r.histories xs)) dealt in
     inside s zone r w.plan refl is turn m m_is [] c.as_slice-5.result.now (c.as_slice-5.ensures ∙ gathered) (length c.as_slice-4.result.now) (ap length c.as_slice-4.ensures.value ∙ c.in_ok-segments.ensures.books.whole)
 
 pub returns-clause-tells : goal.returns-clause-tells
@@ -94,8 +94,8 @@ returns-clause-tells c = λ begun.
     (c.in_ok-dealt.ensures.events ∙ ap (λ xs. line_events (lines_read s turn.lines) ++ (map (λ x. x.asked) (taken_reports w.plan.orders.outstanding (map report_read xs ++ map report_read turn.reports)) ++ map tick_of (late_in m w.problems))) c.as_slice.ensures.value) in
     let made = round s zone r w.plan refl is turn m m_is begun in
     let b = basis_of_site s zone in
-    let stand : histories_of c.round_one.new.books.items ≡ joined r.histories made = c.in_ok-segments.ensures.behind (command_of s) nothing_fed ∙ ap (λ xs. joined r.histories (alone b m r.histories xs)) dealt in
-    let gathered : c.in_ok-segments.segments ≡ segments_of made = c.in_ok-segments.ensures.segments (command_of s) nothing_fed ∙ ap (λ xs. segments_of (alone b m r.histories xs)) dealt in
+    let stand : histories_of c.round_one.new.books.items ≡ joined r.histories made = c.in_ok-segments.ensures.behind ∙ ap (λ xs. joined r.histories (alone b.rules m r.histories xs)) dealt in
+    let gathered : c.in_ok-segments.segments ≡ segments_of made = c.in_ok-segments.ensures.segments ∙ ap (λ xs. segments_of (alone b.rules m r.histories xs)) dealt in
     let now : c.deal.new.plan ≡ with_outstanding (still told w.plan.orders.outstanding) w.plan = c.in_ok-dealt.ensures.plan ∙ ap (λ xs. with_outstanding (still (map report_read xs ++ map report_read turn.reports) w.plan.orders.outstanding) w.plan) c.as_slice.ensures.value in
     let starts = subst (BeginsWith s r.plans) (sym now) (begins s zone r w.plan refl is turn m m_is begun) in
     let rounded = round_of_turn s zone r w.plan refl is turn m m_is begun c.as_slice-2.result.now c.as_slice-3.result.now (ap histories_of c.as_slice-2.ensures.value ∙ stand) (c.as_slice-3.ensures ∙ gathered) in
@@ -129,8 +129,8 @@ returns-clause-stage c = λ begun.
     (c.in_ok-dealt.ensures.events ∙ ap (λ xs. line_events (lines_read s turn.lines) ++ (map (λ x. x.asked) (taken_reports w.plan.orders.outstanding (map report_read xs ++ map report_read turn.reports)) ++ map tick_of (late_in m w.problems))) c.as_slice.ensures.value) in
     let made = round s zone r w.plan refl is turn m m_is begun in
     let b = basis_of_site s zone in
-    let stand : histories_of c.round_one.new.books.items ≡ joined r.histories made = c.in_ok-segments.ensures.behind (command_of s) nothing_fed ∙ ap (λ xs. joined r.histories (alone b m r.histories xs)) dealt in
-    let gathered : c.in_ok-segments.segments ≡ segments_of made = c.in_ok-segments.ensures.segments (command_of s) nothing_fed ∙ ap (λ xs. segments_of (alone b m r.histories xs)) dealt in
+    let stand : histories_of c.round_one.new.books.items ≡ joined r.histories made = c.in_ok-segments.ensures.behind ∙ ap (λ xs. joined r.histories (alone b.rules m r.histories xs)) dealt in
+    let gathered : c.in_ok-segments.segments ≡ segments_of made = c.in_ok-segments.ensures.segments ∙ ap (λ xs. segments_of (alone b.rules m r.histories xs)) dealt in
     let now : c.deal.new.plan ≡ with_outstanding (still told w.plan.orders.outstanding) w.plan = c.in_ok-dealt.ensures.plan ∙ ap (λ xs. with_outstanding (still (map report_read xs ++ map report_read turn.reports) w.plan.orders.outstanding) w.plan) c.as_slice.ensures.value in
     let starts = subst (BeginsWith s r.plans) (sym now) (begins s zone r w.plan refl is turn m m_is begun) in
     let rounded = round_of_turn s zone r w.plan refl is turn m m_is begun c.as_slice-2.result.now c.as_slice-3.result.now (ap histories_of c.as_slice-2.ensures.value ∙ stand) (c.as_slice-3.ensures ∙ gathered) in
@@ -157,8 +157,8 @@ returns-clause-ready c =
     (c.in_ok-dealt.ensures.events ∙ ap (λ xs. line_events (lines_read s turn.lines) ++ (map (λ x. x.asked) (taken_reports w.plan.orders.outstanding (map report_read xs ++ map report_read turn.reports)) ++ map tick_of (late_in m w.problems))) c.as_slice.ensures.value) in
     let made = round s zone r w.plan refl is turn m m_is [] in
     let b = basis_of_site s zone in
-    let stand : histories_of c.round_one.new.books.items ≡ joined r.histories made = c.in_ok-segments.ensures.behind (command_of s) nothing_fed ∙ ap (λ xs. joined r.histories (alone b m r.histories xs)) dealt in
-    let gathered : c.in_ok-segments.segments ≡ segments_of made = c.in_ok-segments.ensures.segments (command_of s) nothing_fed ∙ ap (λ xs. segments_of (alone b m r.histories xs)) dealt in
+    let stand : histories_of c.round_one.new.books.items ≡ joined r.histories made = c.in_ok-segments.ensures.behind ∙ ap (λ xs. joined r.histories (alone b.rules m r.histories xs)) dealt in
+    let gathered : c.in_ok-segments.segments ≡ segments_of made = c.in_ok-segments.ensures.segments ∙ ap (λ xs. segments_of (alone b.rules m r.histories xs)) dealt in
     let now : c.deal.new.plan ≡ with_outstanding (still told w.plan.orders.outstanding) w.plan = c.in_ok-dealt.ensures.plan ∙ ap (λ xs. with_outstanding (still (map report_read xs ++ map report_read turn.reports) w.plan.orders.outstanding) w.plan) c.as_slice.ensures.value in
     let starts = subst (BeginsWith s r.plans) (sym now) (begins s zone r w.plan refl is turn m m_is []) in
     let rounded = round_of_turn s zone r w.plan refl is turn m m_is [] c.as_slice-2.result.now c.as_slice-3.result.now (ap histories_of c.as_slice-2.ensures.value ∙ stand) (c.as_slice-3.ensures ∙ gathered) in

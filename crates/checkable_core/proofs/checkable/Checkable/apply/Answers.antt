@@ -40,7 +40,7 @@ keep-requires-clause-shown c =
     (subst (λ (t : PlainSite). shown.StandsFor made.status (check_at t k) (h ++ e ∷ [])) (sym own) (drafts.status e refl refl refl))
 
 pub returns-in-Ok-keep-clause-entry : goal.returns-in-Ok-keep-clause-entry
-returns-in-Ok-keep-clause-entry c = λ command feed.
+returns-in-Ok-keep-clause-entry c =
     let s = site_view c.args.site.now in
     let zone = c.args.zone.now in
     let k = c.self.inside.index in
@@ -52,5 +52,5 @@ returns-in-Ok-keep-clause-entry c = λ command feed.
     let d = c.draft-made.result in
     let drafts = drafts_at c.args.site.now c.as_slice.result.now k c.index-as_slice-index.result c.self.inside.running h c.args.moment v d kept c.as_slice.ensures c.index-as_slice-index.is c.draft-made.ensures in
     let draft = drafted s zone k h c.args.caller c.args.moment v seen d drafts in
-    made s zone k h c.args.caller c.args.moment v seen d drafts command feed c.view-view.result c.in-Ok-sights_of.seen c.in-Ok.decided c.view-view.ensures c.in-Ok-sights_of.ensures (c.in-Ok.ensures h draft kept drafts refl refl refl)
-    ∙ ap (λ (x : Contents). entry_made s zone command feed x.index x.entries c.args.caller c.args.moment v seen) c.self.view_is
+    made s zone k h c.args.caller c.args.moment v seen d drafts c.view-view.result c.in-Ok-sights_of.seen c.in-Ok.decided c.view-view.ensures c.in-Ok-sights_of.ensures (c.in-Ok.ensures h draft kept drafts refl refl refl)
+    ∙ ap (λ (x : Contents). entry_made s zone x.index x.entries c.args.caller c.args.moment v seen) c.self.view_is

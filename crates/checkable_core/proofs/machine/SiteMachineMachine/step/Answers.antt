@@ -1,7 +1,6 @@
 -- A deed is applied to the machine's checkable.
 use Rattle.std.proofs.Common.{◌≡◌, ◌++◌, ◌∷◌, [], ℕ, sym, ap, ◌∙◌, arith, subst}
 use Rattle.run_meaning.specs.Dealing.{last_moment}
-use Rattle.run_meaning.specs.Turns.{words}
 use Rattle.site_model.specs.PlainSite.{site_view}
 use Rattle.site_model.specs.declared.entry.Entry.{Entry}
 use Rattle.checkable_core.specs.Contents.{with_entry}
@@ -16,9 +15,9 @@ returns-in-Ok-clause-entry c =
     let k = c.args.state.now in
     let d = c.args.event in
     let made : c.in-Ok.entry ≡ entry_by m k c.args.caller d =
-    c.in-Ok.ensures.entry (λ i. words []) (λ begun. [])
-    ∙ ap (λ (i : ℕ). entry_made (site_view m.site.now) m.zone.now (λ j. words []) (λ begun. []) i k.entries c.args.caller d.moment d.event c.as_slice.result.now) c.requires.fit.index
-    ∙ ap (λ seen. entry_made (site_view m.site.now) m.zone.now (λ j. words []) (λ begun. []) m.checkable k.entries c.args.caller d.moment d.event seen) c.as_slice.ensures in
+    c.in-Ok.ensures.entry
+    ∙ ap (λ (i : ℕ). entry_made (site_view m.site.now) m.zone.now i k.entries c.args.caller d.moment d.event c.as_slice.result.now) c.requires.fit.index
+    ∙ ap (λ seen. entry_made (site_view m.site.now) m.zone.now m.checkable k.entries c.args.caller d.moment d.event seen) c.as_slice.ensures in
     (made, ap (λ (e : Entry). e.caller) made)
 
 pub returns-in-Ok-clause-state : goal.returns-in-Ok-clause-state
@@ -27,7 +26,7 @@ returns-in-Ok-clause-state c =
     let k = c.args.state.now in
     let e = c.in-Ok.entry in
     let fit = c.requires.fit in
-    let at : e.moment ≡ c.args.event.moment = ap (λ (x : Entry). x.moment) (c.in-Ok.ensures.entry (λ i. words []) (λ begun. [])) in
+    let at : e.moment ≡ c.args.event.moment = ap (λ (x : Entry). x.moment) c.in-Ok.ensures.entry in
     let last : last_moment (k.entries ++ e ∷ []) ≡ e.moment = last_more k.entries e in
     let due = c.requires.lawful.moment in
     let more : IsFit m (with_entry k e) = record { site = fit.site; index = fit.index; graph = fit.graph; moment = omega (arith, last, at, due) } in

@@ -25,14 +25,14 @@ apply-requires-clause-sights c =
     ap (map (λ x. x.0)) c.requires.sights ∙ shown_names s (histories_of books) k ∙ ap (ancestors s) (sym mine.index)
 
 pub returns-in-Ok-clause-entry : goal.returns-in-Ok-clause-entry
-returns-in-Ok-clause-entry c = λ command feed.
+returns-in-Ok-clause-entry c =
     let s = site_view c.args.self.now.site.now in
     let now = c.args.self.now.moment in
     let k = c.args.act.checkable in
     let books = c.args.books.now.items in
     let book = c.index_mut-book.result.now in
     let at = book_at s now books c.requires.books k book c.requires.checkable c.index_mut-book.ensures.value in
-    made_is s now books c.requires.books c.args.self.now.zone.now k book c.apply.new.self c.args.sights.now c.in-Ok.entry c.args.act.event at c.requires.sights command feed (c.in-Ok.ensures.entry command feed)
+    made_is s now books c.requires.books c.args.self.now.zone.now k book c.apply.new.self c.args.sights.now c.in-Ok.entry c.args.act.event at c.requires.sights c.in-Ok.ensures.entry
 
 pub returns-in-Ok-clause-kept : goal.returns-in-Ok-clause-kept
 returns-in-Ok-clause-kept c =
