@@ -6,3 +6,4 @@ pub mod Tests
 pub mod Made
 pub mod Own
 pub mod Going
+pub mod Behind

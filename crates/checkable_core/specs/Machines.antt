@@ -1,12 +1,13 @@
 -- A checkable as the machine of a turn lock.
-use Rattle.std.specs.Prelude.{◌≡◌, ℕ, ◌≤◌, [], map}
+use Rattle.std.specs.Prelude.{◌≡◌, ℕ, ◌≤◌, List, ◌++◌, map}
 use Rattle.depend_graph.specs.Graph.{IsGraphOf}
 use Rattle.run_meaning.specs.Dealing.{last_moment}
 use Rattle.run_meaning.specs.Reachability.{ancestors}
+use Rattle.run_meaning.specs.View.{view_of}
 use Rattle.site_model.specs.PlainSite.{site_view}
 use Rattle.site_model.specs.declared.entry.Entry.{Entry}
 use Rattle.site_model.specs.declared.view.View.{View}
-use Rattle.checkable_core.specs.Contents.{Contents}
+use Rattle.checkable_core.specs.Contents.{Contents, check_at, with_entry}
 use Rattle.checkable_core.specs.Entries.{entry_made}
 use Rattle.checkable_core.specs.declared.deed.Deed.{Deed}
 use Rattle.checkable_core.specs.declared.machine.SiteMachine.{SiteMachine}
@@ -27,3 +28,15 @@ pub record IsDeedFor (m : SiteMachine) (d : Deed) : Type 0 where
 abbrev pub entry_by : SiteMachine → Contents → ℕ → Deed → Entry
 entry_by m k caller d =
     entry_made (site_view m.site.now) m.zone.now m.checkable k.entries caller d.moment d.event d.sights
+
+-- what an entry makes of it
+abbrev pub after_entry : SiteMachine → Contents → Entry → Contents
+after_entry m k e = with_entry k e
+
+-- what is seen of it
+abbrev pub glance_by : SiteMachine → Contents → View
+glance_by m k = view_of (check_at (site_view k.site) k.index) k.entries
+
+-- with these entries behind its own
+abbrev pub with_entries : Contents → List Entry → Contents
+with_entries k es = record k { entries = k.entries ++ es }

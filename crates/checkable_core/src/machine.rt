@@ -18,10 +18,7 @@ pub struct SiteMachine<'a> {
 }
 
 impl<'a> Machine for SiteMachine<'a> {
-    ghost use Rattle.run_meaning.specs.View.{view_of};
-    ghost use Rattle.site_model.specs.PlainSite.{site_view};
-    ghost use Rattle.checkable_core.specs.Contents.{check_at, with_entry};
-    ghost use Rattle.checkable_core.specs.Machines.{IsFit, IsDeedFor, entry_by};
+    ghost use Rattle.checkable_core.specs.Machines.{IsFit, IsDeedFor, after_entry, entry_by, glance_by};
 
     type State = Checkable;
 
@@ -39,9 +36,9 @@ impl<'a> Machine for SiteMachine<'a> {
 
     ghost caller_of = { λ e. e.caller };
 
-    ghost after = { λ _ k e. with_entry k e };
+    ghost after = { after_entry };
 
-    ghost glance_of = { λ _ k. view_of (check_at (site_view k.site) k.index) k.entries };
+    ghost glance_of = { glance_by };
 
     fn step(&self, state: &mut Checkable, caller: u32, event: Deed) -> Result<Entry, Deed> {
         let Deed {
