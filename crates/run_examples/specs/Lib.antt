@@ -5,3 +5,4 @@ pub mod Histories
 pub mod Outlooks
 pub mod Checks
 pub mod Callers
+pub mod Causes

@@ -1,11 +1,12 @@
 //! Worked runs, stated as laws of the definitions in run_meaning and closed by computing them.
 //!
 //! In reading order: what results, acknowledgements and switches make of a checkable (`states`), `flapping`, `downtimes`,
-//! `notifications`, what holds checkables back (`reachability`), which checks are ordered (`schedule`), runs as a whole
-//! (`runs`), and two callers at once (`callers`). The sites and turns that they speak of stand in `specs/`.
+//! `notifications`, which cause of a suppression is told (`causes`), what holds checkables back (`reachability`), which checks
+//! are ordered (`schedule`), runs as a whole (`runs`), and two callers at once (`callers`). The sites and turns that they speak of stand in `specs/`.
 #![tactic(auto)]
 
 mod callers;
+mod causes;
 mod downtimes;
 mod flapping;
 mod notifications;
@@ -15,6 +16,7 @@ mod schedule;
 mod states;
 
 pub use callers::two_callers_on_a_service;
+pub use causes::{dependency_in_a_run, each_cause_in_its_turn};
 pub use downtimes::{
     downtime_then_problem, flexible_downtime, live_downtimes, triggered_by_its_own_problem,
     triggering_problem, two_downtimes, void_ends,
