@@ -5,9 +5,9 @@ ghost use Rattle.run_meaning.specs.Dealing.{line_events, line_refusals, report_r
 ghost use Rattle.run_text.specs.TurnReading.{lines_read, report_read};
 ghost use Rattle.site_posts.specs.Made.{asked_of};
 ghost use Rattle.lasting_problems.specs.Noted.{late_in};
-ghost use Rattle.turn_deal.specs.Dealt.{refusal_of, tick_of, with_outstanding};
+ghost use Rattle.turn_deal.specs.Dealt.{refusal_of, taken_of, tick_of, with_outstanding};
 
-use crate::dealt::Dealt;
+use crate::dealt::{Acts, Dealt};
 use crate::lines::deal_lines;
 use crate::reports::deal_reports;
 use crate::ticks::add_ticks;
@@ -18,8 +18,8 @@ use site_edge::{Report, Turn};
 use site_model::Site;
 use std::alloc::Global;
 
-/// The acts that a turn at a moment gives to its one caller, and what it refuses: its lines come first, then the reports of checks that
-/// could not be started and those of the turn, and then the ticks of problems that last.
+/// The acts that a turn at a moment gives, and what it refuses: those of its lines, those of the reports of checks that could not be
+/// started and then of the turn's, and the ticks of problems that last.
 ///
 /// It takes a time that grows with the lines, with the reports times the logarithm of how many orders have none, and with the problems that
 /// last.
@@ -36,20 +36,35 @@ pub fn deal(
     turn: &Turn,
     moment: Moment,
 ) -> Result<Dealt, OutOfMemory>
-    ensures events { IfOk result (λ d. map asked_of d.acts.items ≡
-        line_events (lines_read (site_view site.now) turn.now.lines) ++ (map (λ t. t.asked) (taken_reports plan.old.orders.outstanding (map report_read not_started.now ++ map report_read turn.now.reports)) ++ map tick_of (late_in moment problems.now))) }
+    ensures lines { IfOk result (λ d. map asked_of d.acts.lines.items ≡ line_events (lines_read (site_view site.now) turn.now.lines)) }
+    ensures reports { IfOk result (λ d. map taken_of d.acts.reports.items ≡ taken_reports plan.old.orders.outstanding (map report_read not_started.now ++ map report_read turn.now.reports)) }
+    ensures ticks { IfOk result (λ d. map asked_of d.acts.ticks.items ≡ map tick_of (late_in moment problems.now)) }
     ensures refusals { IfOk result (λ d. map refusal_of d.refusals.items ≡
         line_refusals 1 (lines_read (site_view site.now) turn.now.lines) ++ report_refusals plan.old.orders.outstanding (map report_read not_started.now ++ map report_read turn.now.reports)) }
     ensures plan { OnOk result (plan.new ≡ with_outstanding (still (map report_read not_started.now ++ map report_read turn.now.reports) plan.old.orders.outstanding) plan.old) }
 {
-    let mut dealt = Dealt {
-        acts: Vec::new(alloc),
-        refusals: Vec::new(alloc),
+    let mut acts = Acts {
+        lines: Vec::new(alloc),
+        reports: Vec::new(alloc),
+        ticks: Vec::new(alloc),
     };
-    deal_lines(alloc, site, turn.lines.as_slice(), &mut dealt)?;
-    deal_reports(alloc, plan, not_started, &mut dealt)?;
-    deal_reports(alloc, plan, turn.reports.as_slice(), &mut dealt)?;
+    let mut refusals = Vec::new(alloc);
+    deal_lines(
+        alloc,
+        site,
+        turn.lines.as_slice(),
+        &mut acts.lines,
+        &mut refusals,
+    )?;
+    deal_reports(alloc, plan, not_started, &mut acts.reports, &mut refusals)?;
+    deal_reports(
+        alloc,
+        plan,
+        turn.reports.as_slice(),
+        &mut acts.reports,
+        &mut refusals,
+    )?;
     let late = problems.late(alloc, moment)?;
-    add_ticks(late.as_slice(), &mut dealt.acts)?;
-    Ok(dealt)
+    add_ticks(late.as_slice(), &mut acts.ticks)?;
+    Ok(Dealt { acts, refusals })
 }

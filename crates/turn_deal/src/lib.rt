@@ -12,5 +12,5 @@ mod reports;
 mod ticks;
 
 pub use dealing::deal;
-pub use dealt::Dealt;
+pub use dealt::{Acts, Dealt, ReportAct};
 pub use refusal::Refusal;

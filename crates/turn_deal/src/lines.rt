@@ -7,7 +7,6 @@ ghost use Rattle.run_text.specs.TurnReading.{as_line, lines_read};
 ghost use Rattle.site_posts.specs.Made.{asked_of};
 ghost use Rattle.turn_deal.specs.Dealt.{refusal_of};
 
-use crate::dealt::Dealt;
 use crate::refusal::Refusal;
 use event_text::{LineError, read_line};
 use site_base::{Blob, OutOfMemory};
@@ -20,13 +19,14 @@ pub(crate) fn deal_lines(
     alloc: Global,
     site: &Site,
     lines: &[Blob],
-    dealt: &mut Dealt,
+    acts: &mut Vec<Act>,
+    refusals: &mut Vec<Refusal>,
 ) -> Result<(), OutOfMemory>
-    ensures events { OnOk result (map asked_of dealt.new.acts.items ≡ map asked_of dealt.old.acts.items ++ line_events (lines_read (site_view site.now) lines.now)) }
-    ensures refusals { OnOk result (map refusal_of dealt.new.refusals.items ≡ map refusal_of dealt.old.refusals.items ++ line_refusals 1 (lines_read (site_view site.now) lines.now)) }
+    ensures events { OnOk result (map asked_of acts.new.items ≡ map asked_of acts.old.items ++ line_events (lines_read (site_view site.now) lines.now)) }
+    ensures refusals { OnOk result (map refusal_of refusals.new.items ≡ map refusal_of refusals.old.items ++ line_refusals 1 (lines_read (site_view site.now) lines.now)) }
 {
     for (i, line) in lines.iter().enumerate() {
-        deal_line(alloc, site, i as u64 + 1, line.as_slice(), dealt)?;
+        deal_line(alloc, site, i as u64 + 1, line.as_slice(), acts, refusals)?;
     }
     Ok(())
 }
@@ -37,14 +37,15 @@ fn deal_line(
     site: &Site,
     number: u64,
     line: &[u8],
-    dealt: &mut Dealt,
+    acts: &mut Vec<Act>,
+    refusals: &mut Vec<Refusal>,
 ) -> Result<(), OutOfMemory>
-    ensures events { OnOk result (map asked_of dealt.new.acts.items ≡ map asked_of dealt.old.acts.items ++ line_events (as_line (line_read (site_view site.now) line.now) ∷ [])) }
-    ensures refusals { OnOk result (map refusal_of dealt.new.refusals.items ≡ map refusal_of dealt.old.refusals.items ++ line_refusals number (as_line (line_read (site_view site.now) line.now) ∷ [])) }
+    ensures events { OnOk result (map asked_of acts.new.items ≡ map asked_of acts.old.items ++ line_events (as_line (line_read (site_view site.now) line.now) ∷ [])) }
+    ensures refusals { OnOk result (map refusal_of refusals.new.items ≡ map refusal_of refusals.old.items ++ line_refusals number (as_line (line_read (site_view site.now) line.now) ∷ [])) }
 {
     match read_line(alloc, line, site) {
-        Ok((checkable, event)) => dealt.acts.push(Act { checkable, event })?,
-        Err(LineError::Fault(fault)) => dealt.refusals.push(Refusal::Line { number, fault })?,
+        Ok((checkable, event)) => acts.push(Act { checkable, event })?,
+        Err(LineError::Fault(fault)) => refusals.push(Refusal::Line { number, fault })?,
         Err(LineError::OutOfMemory) => return Err(OutOfMemory),
     }
     Ok(())

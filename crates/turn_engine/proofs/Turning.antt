@@ -35,6 +35,13 @@ use Rattle.turn_engine.specs.Stages.{Running, Tells, basis_of_site, stage_of}
 use Rattle.turn_engine.specs.declared.turn_out.TurnOut.{TurnOut}
 use Rattle.turn_engine.proofs.OnSite.{both_on_site, lines_on_site, reports_on_site, ticks_on_site}
 
+-- one list of lines, reports and ticks
+pub one_list : (ls ms : List Asked) (ts us : List Taken) (ks js : List Asked) → ls ≡ ms → ts ≡ us → ks ≡ js → ls ++ (map (λ t. t.asked) ts ++ ks) ≡ ms ++ (map (λ t. t.asked) us ++ js)
+one_list ls ms ts us ks js lines reports ticks =
+    ap (λ z. z ++ (map (λ (t : Taken). t.asked) ts ++ ks)) lines
+    ∙ ap (λ z. ms ++ (map (λ (t : Taken). t.asked) z ++ ks)) reports
+    ∙ ap (λ z. ms ++ (map (λ (t : Taken). t.asked) us ++ z)) ticks
+
 -- no moment is after a later one
 pub later_books : (s : PlainSite) (m n : ℕ) (books : List Contents) → m ≤ n → AreBooks s m books → AreBooks s n books
 later_books s m n books l are = record {

@@ -44,6 +44,7 @@ pub(crate) fn take(works: &mut Works, turn: &Turn) -> Result<TurnOut, OutOfMemor
         turn,
         moment,
     )?;
+    let acts = dealt.acts.for_one()?;
     let segments = round_one(
         works.alloc,
         &works.site,
@@ -51,7 +52,7 @@ pub(crate) fn take(works: &mut Works, turn: &Turn) -> Result<TurnOut, OutOfMemor
         &works.zone,
         &mut works.books,
         moment,
-        dealt.acts,
+        acts,
     )?;
     let setting = Setting {
         alloc: works.alloc,

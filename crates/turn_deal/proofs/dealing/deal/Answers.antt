@@ -1,32 +1,35 @@
--- Lines come first, then the reports of orders that weren't started and the turn's, and then ticks.
+-- Reports of orders that weren't started come before the turn's.
 use Rattle.std.proofs.Common.{◌++◌, map, sym, ap, ◌∙◌}
 use Rattle.site_model.specs.PlainSite.{site_view}
 use Rattle.run_meaning.specs.Dealing.{line_events, line_refusals, report_refusals, still, taken_reports}
 use Rattle.run_text.specs.TurnReading.{lines_read, report_read}
 use Rattle.site_posts.specs.Made.{asked_of}
 use Rattle.lasting_problems.specs.Noted.{late_in}
-use Rattle.turn_deal.specs.Dealt.{refusal_of, tick_of, with_outstanding}
-use Rattle.turn_deal.proofs.Reporting.{events_both, refusals_both, still_both}
+use Rattle.turn_deal.specs.Dealt.{refusal_of, taken_of, tick_of, with_outstanding}
+use Rattle.turn_deal.proofs.Reporting.{refusals_both, still_both, taken_both}
 use Rattle.turn_deal.proofs.dealing.deal.Goals as goal
 
-pub returns-clause-events : goal.returns-clause-events
-returns-clause-events c =
+pub returns-clause-lines : goal.returns-clause-lines
+returns-clause-lines c =
     let s = site_view c.args.site.now in
+    c.in_ok-deal_lines.ensures.events ∙ ap (λ xs. map asked_of xs ++ line_events (lines_read s c.as_slice.result.now)) c.new.ensures.items ∙ ap (λ ls. line_events (lines_read s ls)) c.as_slice.ensures
+
+pub returns-clause-reports : goal.returns-clause-reports
+returns-clause-reports c =
     let os = c.args.plan.now.orders.outstanding in
     let rs = map report_read c.args.not_started.now in
     let qs = map report_read c.as_slice-2.result.now in
-    let lines = line_events (lines_read s c.args.turn.now.lines) in
-    let first = c.in_ok-deal_lines.ensures.events ∙ ap (λ xs. map asked_of xs ++ line_events (lines_read s c.as_slice.result.now)) c.new.ensures.items ∙ ap (λ ls. line_events (lines_read s ls)) c.as_slice.ensures in
-    let second = c.in_ok-deal_reports.ensures.events ∙ ap (λ xs. xs ++ map (λ t. t.asked) (taken_reports os rs)) first in
-    let third =
     c.in_ok-deal_reports-2.ensures.events
-    ∙ ap (λ p. map asked_of c.deal_reports.new.dealt.acts.items ++ map (λ t. t.asked) (taken_reports p.orders.outstanding qs)) c.in_ok-deal_reports.ensures.plan
-    ∙ ap (λ xs. xs ++ map (λ t. t.asked) (taken_reports (still rs os) qs)) second in
+    ∙ ap (λ p. map taken_of c.deal_reports.new.acts.items ++ taken_reports p.orders.outstanding qs) c.in_ok-deal_reports.ensures.plan
+    ∙ ap (λ xs. xs ++ taken_reports (still rs os) qs) (c.in_ok-deal_reports.ensures.events ∙ ap (λ xs. map taken_of xs ++ taken_reports os rs) c.new-2.ensures.items)
+    ∙ sym (taken_both rs qs os)
+    ∙ ap (λ xs. taken_reports os (rs ++ map report_read xs)) c.as_slice-2.ensures
+
+pub returns-clause-ticks : goal.returns-clause-ticks
+returns-clause-ticks c =
     c.in_ok-add_ticks.ensures
-    ∙ ap (λ xs. xs ++ map tick_of c.as_slice-3.result.now) third
-    ∙ events_both lines rs qs os (map tick_of c.as_slice-3.result.now)
-    ∙ ap (λ ks. lines ++ (map (λ t. t.asked) (taken_reports os (rs ++ qs)) ++ map tick_of ks)) (c.as_slice-3.ensures.value ∙ c.in_ok-late.ensures)
-    ∙ ap (λ xs. lines ++ (map (λ t. t.asked) (taken_reports os (rs ++ map report_read xs)) ++ map tick_of (late_in c.args.moment c.args.problems.now))) c.as_slice-2.ensures
+    ∙ ap (λ xs. map asked_of xs ++ map tick_of c.as_slice-3.result.now) c.new-3.ensures.items
+    ∙ ap (map tick_of) (c.as_slice-3.ensures.value ∙ c.in_ok-late.ensures)
 
 pub returns-clause-refusals : goal.returns-clause-refusals
 returns-clause-refusals c =
@@ -35,9 +38,9 @@ returns-clause-refusals c =
     let rs = map report_read c.args.not_started.now in
     let qs = map report_read c.as_slice-2.result.now in
     let lines = line_refusals 1 (lines_read s c.args.turn.now.lines) in
-    let first = c.in_ok-deal_lines.ensures.refusals ∙ ap (λ xs. map refusal_of xs ++ line_refusals 1 (lines_read s c.as_slice.result.now)) c.new-2.ensures.items ∙ ap (λ ls. line_refusals 1 (lines_read s ls)) c.as_slice.ensures in
+    let first = c.in_ok-deal_lines.ensures.refusals ∙ ap (λ xs. map refusal_of xs ++ line_refusals 1 (lines_read s c.as_slice.result.now)) c.new-refusals.ensures.items ∙ ap (λ ls. line_refusals 1 (lines_read s ls)) c.as_slice.ensures in
     c.in_ok-deal_reports-2.ensures.refusals
-    ∙ ap (λ p. map refusal_of c.deal_reports.new.dealt.refusals.items ++ report_refusals p.orders.outstanding qs) c.in_ok-deal_reports.ensures.plan
+    ∙ ap (λ p. map refusal_of c.deal_reports.new.refusals.items ++ report_refusals p.orders.outstanding qs) c.in_ok-deal_reports.ensures.plan
     ∙ ap (λ xs. xs ++ report_refusals (still rs os) qs) (c.in_ok-deal_reports.ensures.refusals ∙ ap (λ xs. xs ++ report_refusals os rs) first)
     ∙ refusals_both lines rs qs os
     ∙ ap (λ xs. lines ++ report_refusals os (rs ++ map report_read xs)) c.as_slice-2.ensures

@@ -3,8 +3,7 @@ use Rattle.std.proofs.Common.{◌+◌, ◌++◌, ◌∷◌, [], map, drop, sym, 
 use Rattle.notify_rules.proofs.Lists.{drop_next}
 use Rattle.run_meaning.specs.Dealing.{report_refusals, still, taken_reports}
 use Rattle.run_text.specs.TurnReading.{report_read}
-use Rattle.site_posts.specs.Made.{asked_of}
-use Rattle.turn_deal.specs.Dealt.{refusal_of, with_outstanding}
+use Rattle.turn_deal.specs.Dealt.{refusal_of, taken_of, with_outstanding}
 use Rattle.turn_deal.proofs.Reporting.{events_step, refusals_step, still_step}
 use Rattle.turn_deal.proofs.reports.deal_reports.Goals as goal
 
@@ -21,11 +20,11 @@ loop-report-preserved c =
     let now = c.in_ok-deal_report.ensures.plan in
     record {
       events =
-          ap (λ ps. map asked_of c.deal_report.new.dealt.acts.items ++ map (λ t. t.asked) (taken_reports ps rest)) (ap (λ p. p.orders.outstanding) now)
-          ∙ events_step (report_read x) rest left os (map asked_of l.dealt.acts.items) _ _ is c.in_ok-deal_report.ensures.events l.invariant.events;
+          ap (λ ps. map taken_of c.deal_report.new.acts.items ++ taken_reports ps rest) (ap (λ p. p.orders.outstanding) now)
+          ∙ events_step (report_read x) rest left os (map taken_of l.acts.items) _ _ is c.in_ok-deal_report.ensures.events l.invariant.events;
       refusals =
-          ap (λ ps. map refusal_of c.deal_report.new.dealt.refusals.items ++ report_refusals ps rest) (ap (λ p. p.orders.outstanding) now)
-          ∙ refusals_step (report_read x) rest left os (map refusal_of l.dealt.refusals.items) _ _ is c.in_ok-deal_report.ensures.refusals l.invariant.refusals;
+          ap (λ ps. map refusal_of c.deal_report.new.refusals.items ++ report_refusals ps rest) (ap (λ p. p.orders.outstanding) now)
+          ∙ refusals_step (report_read x) rest left os (map refusal_of l.refusals.items) _ _ is c.in_ok-deal_report.ensures.refusals l.invariant.refusals;
       still = ap (still rest) (ap (λ p. p.orders.outstanding) now) ∙ still_step (report_read x) rest left os _ is l.invariant.still;
       plan = now ∙ ap (λ p. with_outstanding (still (report_read x ∷ []) os) p) l.invariant.plan ∙ ap (λ ps. with_outstanding ps c.args.plan.now) (sym (ap (λ p. p.orders.outstanding) now));
     }

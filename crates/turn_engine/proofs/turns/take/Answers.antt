@@ -17,7 +17,7 @@ use Rattle.turn_deal.specs.Dealt.{tick_of, with_outstanding}
 use Rattle.turn_engine.specs.Orders.{command_of}
 use Rattle.turn_engine.specs.Ready.{running}
 use Rattle.turn_engine.specs.Stages.{basis_of_site}
-use Rattle.turn_engine.proofs.Turning.{acts_are, begins, few_given, inside, is_turn, later_books, many, on_site, round, round_of_turn, stage_is, still_plan, tells}
+use Rattle.turn_engine.proofs.Turning.{acts_are, begins, few_given, inside, is_turn, later_books, many, on_site, one_list, round, round_of_turn, stage_is, still_plan, tells}
 use Rattle.turn_engine.proofs.turns.take.Goals as goal
 
 pub round_one-requires-clause-books : goal.round_one-requires-clause-books
@@ -37,8 +37,8 @@ round_one-requires-clause-acts c =
     let m_is = c.later_of-moment.ensures in
     let told = r.due ++ map report_read turn.reports in
     let is = c.requires.ready.plan in
-    let dealt = acts_are s zone r w.plan refl is turn m m_is [] (map asked_of c.in_ok-dealt.dealt.acts.items) w.problems c.requires.ready.problems
-    (c.in_ok-dealt.ensures.events ∙ ap (λ xs. line_events (lines_read s turn.lines) ++ (map (λ x. x.asked) (taken_reports w.plan.orders.outstanding (map report_read xs ++ map report_read turn.reports)) ++ map tick_of (late_in m w.problems))) c.as_slice.ensures.value) in
+    let dealt = acts_are s zone r w.plan refl is turn m m_is [] (map asked_of c.in_ok-acts.acts.items) w.problems c.requires.ready.problems
+    (c.in_ok-acts.ensures ∙ one_list _ _ _ _ _ _ c.in_ok-dealt.ensures.lines c.in_ok-dealt.ensures.reports c.in_ok-dealt.ensures.ticks ∙ ap (λ xs. line_events (lines_read s turn.lines) ++ (map (λ x. x.asked) (taken_reports w.plan.orders.outstanding (map report_read xs ++ map report_read turn.reports)) ++ map tick_of (late_in m w.problems))) c.as_slice.ensures.value) in
     subst (AreOnSite s) (sym dealt) (on_site s zone r w.plan refl is turn m m_is [])
 
 pub after_round-requires-clause-within : goal.after_round-requires-clause-within
@@ -52,8 +52,8 @@ after_round-requires-clause-within c =
     let m_is = c.later_of-moment.ensures in
     let told = r.due ++ map report_read turn.reports in
     let is = c.requires.ready.plan in
-    let dealt = acts_are s zone r w.plan refl is turn m m_is [] (map asked_of c.in_ok-dealt.dealt.acts.items) w.problems c.requires.ready.problems
-    (c.in_ok-dealt.ensures.events ∙ ap (λ xs. line_events (lines_read s turn.lines) ++ (map (λ x. x.asked) (taken_reports w.plan.orders.outstanding (map report_read xs ++ map report_read turn.reports)) ++ map tick_of (late_in m w.problems))) c.as_slice.ensures.value) in
+    let dealt = acts_are s zone r w.plan refl is turn m m_is [] (map asked_of c.in_ok-acts.acts.items) w.problems c.requires.ready.problems
+    (c.in_ok-acts.ensures ∙ one_list _ _ _ _ _ _ c.in_ok-dealt.ensures.lines c.in_ok-dealt.ensures.reports c.in_ok-dealt.ensures.ticks ∙ ap (λ xs. line_events (lines_read s turn.lines) ++ (map (λ x. x.asked) (taken_reports w.plan.orders.outstanding (map report_read xs ++ map report_read turn.reports)) ++ map tick_of (late_in m w.problems))) c.as_slice.ensures.value) in
     let made = round s zone r w.plan refl is turn m m_is [] in
     let b = basis_of_site s zone in
     let stand : histories_of c.round_one.new.books.items ≡ joined r.histories made = c.in_ok-segments.ensures.behind ∙ ap (λ xs. joined r.histories (alone b.rules m r.histories xs)) dealt in
@@ -71,8 +71,8 @@ follow-requires c =
     let m_is = c.later_of-moment.ensures in
     let told = r.due ++ map report_read turn.reports in
     let is = c.requires.ready.plan in
-    let dealt = acts_are s zone r w.plan refl is turn m m_is [] (map asked_of c.in_ok-dealt.dealt.acts.items) w.problems c.requires.ready.problems
-    (c.in_ok-dealt.ensures.events ∙ ap (λ xs. line_events (lines_read s turn.lines) ++ (map (λ x. x.asked) (taken_reports w.plan.orders.outstanding (map report_read xs ++ map report_read turn.reports)) ++ map tick_of (late_in m w.problems))) c.as_slice.ensures.value) in
+    let dealt = acts_are s zone r w.plan refl is turn m m_is [] (map asked_of c.in_ok-acts.acts.items) w.problems c.requires.ready.problems
+    (c.in_ok-acts.ensures ∙ one_list _ _ _ _ _ _ c.in_ok-dealt.ensures.lines c.in_ok-dealt.ensures.reports c.in_ok-dealt.ensures.ticks ∙ ap (λ xs. line_events (lines_read s turn.lines) ++ (map (λ x. x.asked) (taken_reports w.plan.orders.outstanding (map report_read xs ++ map report_read turn.reports)) ++ map tick_of (late_in m w.problems))) c.as_slice.ensures.value) in
     let made = round s zone r w.plan refl is turn m m_is [] in
     let b = basis_of_site s zone in
     let stand : histories_of c.round_one.new.books.items ≡ joined r.histories made = c.in_ok-segments.ensures.behind ∙ ap (λ xs. joined r.histories (alone b.rules m r.histories xs)) dealt in
@@ -90,8 +90,8 @@ returns-clause-tells c = λ begun.
     let m_is = c.later_of-moment.ensures in
     let told = r.due ++ map report_read turn.reports in
     let is = c.requires.ready.plan in
-    let dealt = acts_are s zone r w.plan refl is turn m m_is begun (map asked_of c.in_ok-dealt.dealt.acts.items) w.problems c.requires.ready.problems
-    (c.in_ok-dealt.ensures.events ∙ ap (λ xs. line_events (lines_read s turn.lines) ++ (map (λ x. x.asked) (taken_reports w.plan.orders.outstanding (map report_read xs ++ map report_read turn.reports)) ++ map tick_of (late_in m w.problems))) c.as_slice.ensures.value) in
+    let dealt = acts_are s zone r w.plan refl is turn m m_is begun (map asked_of c.in_ok-acts.acts.items) w.problems c.requires.ready.problems
+    (c.in_ok-acts.ensures ∙ one_list _ _ _ _ _ _ c.in_ok-dealt.ensures.lines c.in_ok-dealt.ensures.reports c.in_ok-dealt.ensures.ticks ∙ ap (λ xs. line_events (lines_read s turn.lines) ++ (map (λ x. x.asked) (taken_reports w.plan.orders.outstanding (map report_read xs ++ map report_read turn.reports)) ++ map tick_of (late_in m w.problems))) c.as_slice.ensures.value) in
     let made = round s zone r w.plan refl is turn m m_is begun in
     let b = basis_of_site s zone in
     let stand : histories_of c.round_one.new.books.items ≡ joined r.histories made = c.in_ok-segments.ensures.behind ∙ ap (λ xs. joined r.histories (alone b.rules m r.histories xs)) dealt in
@@ -125,8 +125,8 @@ returns-clause-stage c = λ begun.
     let m_is = c.later_of-moment.ensures in
     let told = r.due ++ map report_read turn.reports in
     let is = c.requires.ready.plan in
-    let dealt = acts_are s zone r w.plan refl is turn m m_is begun (map asked_of c.in_ok-dealt.dealt.acts.items) w.problems c.requires.ready.problems
-    (c.in_ok-dealt.ensures.events ∙ ap (λ xs. line_events (lines_read s turn.lines) ++ (map (λ x. x.asked) (taken_reports w.plan.orders.outstanding (map report_read xs ++ map report_read turn.reports)) ++ map tick_of (late_in m w.problems))) c.as_slice.ensures.value) in
+    let dealt = acts_are s zone r w.plan refl is turn m m_is begun (map asked_of c.in_ok-acts.acts.items) w.problems c.requires.ready.problems
+    (c.in_ok-acts.ensures ∙ one_list _ _ _ _ _ _ c.in_ok-dealt.ensures.lines c.in_ok-dealt.ensures.reports c.in_ok-dealt.ensures.ticks ∙ ap (λ xs. line_events (lines_read s turn.lines) ++ (map (λ x. x.asked) (taken_reports w.plan.orders.outstanding (map report_read xs ++ map report_read turn.reports)) ++ map tick_of (late_in m w.problems))) c.as_slice.ensures.value) in
     let made = round s zone r w.plan refl is turn m m_is begun in
     let b = basis_of_site s zone in
     let stand : histories_of c.round_one.new.books.items ≡ joined r.histories made = c.in_ok-segments.ensures.behind ∙ ap (λ xs. joined r.histories (alone b.rules m r.histories xs)) dealt in
@@ -153,8 +153,8 @@ returns-clause-ready c =
     let m_is = c.later_of-moment.ensures in
     let told = r.due ++ map report_read turn.reports in
     let is = c.requires.ready.plan in
-    let dealt = acts_are s zone r w.plan refl is turn m m_is [] (map asked_of c.in_ok-dealt.dealt.acts.items) w.problems c.requires.ready.problems
-    (c.in_ok-dealt.ensures.events ∙ ap (λ xs. line_events (lines_read s turn.lines) ++ (map (λ x. x.asked) (taken_reports w.plan.orders.outstanding (map report_read xs ++ map report_read turn.reports)) ++ map tick_of (late_in m w.problems))) c.as_slice.ensures.value) in
+    let dealt = acts_are s zone r w.plan refl is turn m m_is [] (map asked_of c.in_ok-acts.acts.items) w.problems c.requires.ready.problems
+    (c.in_ok-acts.ensures ∙ one_list _ _ _ _ _ _ c.in_ok-dealt.ensures.lines c.in_ok-dealt.ensures.reports c.in_ok-dealt.ensures.ticks ∙ ap (λ xs. line_events (lines_read s turn.lines) ++ (map (λ x. x.asked) (taken_reports w.plan.orders.outstanding (map report_read xs ++ map report_read turn.reports)) ++ map tick_of (late_in m w.problems))) c.as_slice.ensures.value) in
     let made = round s zone r w.plan refl is turn m m_is [] in
     let b = basis_of_site s zone in
     let stand : histories_of c.round_one.new.books.items ≡ joined r.histories made = c.in_ok-segments.ensures.behind ∙ ap (λ xs. joined r.histories (alone b.rules m r.histories xs)) dealt in
