@@ -1,11 +1,12 @@
 -- Events of a turn that can be printed.
-use Rattle.std.proofs.Common.{◌≡◌, ◌≤◌, ℕ, zero, suc, min, nat_eq, Bool, true, false, cond, List, [], ◌∷◌, ◌++◌, All, map, slice_get, Option, Some, None, refl, sym, ◌∙◌, ap, subst, arith}
+use Rattle.std.proofs.Common.{◌≡◌, ◌<◌, ◌≤◌, ◌+◌, ℕ, zero, suc, min, nat_eq, Bool, true, false, cond, List, [], ◌∷◌, ◌++◌, All, filter, map, slice_get, Option, Some, None, refl, sym, ◌∙◌, ap, subst, arith}
 use Rattle.std.proofs.lemmas.List.Elements.{All-append, All-cons, All-head, All-nil, All-tail}
 use Rattle.event_text.specs.Lines.{Answer, told, faulty}
 use Rattle.event_text.specs.Reading.{line_read}
-use Rattle.run_meaning.specs.Dealing.{Taken, checkable_of, line_events, taken_reports, taking, ticks_from, wants_tick, without}
+use Rattle.run_meaning.specs.Dealing.{Taken, checkable_of, dealt, dealt_to, goes_to, line_events, lines_to, taken_reports, taking, ticks_from, wants_tick, without}
 use Rattle.run_meaning.specs.Rounds.{entries_by, events_on}
 use Rattle.run_meaning.specs.Turns.{Asked, Histories, Outstanding, Reported, of_index}
+use Rattle.run_meaning.proofs.Lists.{of_index_each}
 use Rattle.site_model.specs.PlainSite.{PlainCheck, PlainSite}
 use Rattle.site_model.specs.declared.entry.Entry.{Entry}
 use Rattle.site_model.specs.declared.event.Event.TheVariants as event
@@ -49,13 +50,42 @@ ticks_in_form k (c ∷ cs) before moment = by (wants_tick c (of_index k before) 
     by true rest = one_more (record { checkable = k; event = event.Tick }) (ticks_from (suc k) cs before moment) tt rest
     by false rest = rest
 
--- all that a turn brings
-pub all_in_form : (s : PlainSite) (lines : List (List ℕ)) (os : List Outstanding) (rs : List Reported) (before : Histories) (moment : ℕ) →
-    AreInForm (line_events (lines_read s lines) ++ (map (λ t. t.asked) (taken_reports os rs) ++ ticks_from 0 s.checkables before moment))
-all_in_form s lines os rs before moment =
+-- What a caller takes of a turn.
+
+lines_kept : (k : ℕ) (lines : List Asked) → AreInForm lines → AreInForm (lines_to k lines)
+lines_kept zero lines h = h
+lines_kept (suc k) lines h = nothing
+
+reports_kept : (test : Taken → Bool) (ts : List Taken) → AreInForm (map (λ t. t.asked) ts) → AreInForm (map (λ t. t.asked) (filter test ts))
+reports_kept test [] h = nothing
+reports_kept test (t ∷ ts) h = by (test t) (reports_kept test ts (All-tail (λ (a : Asked). IsInForm a.event) t.asked (map (λ (t : Taken). t.asked) ts) h))
+  where
+    by : (b : Bool) → AreInForm (map (λ (t : Taken). t.asked) (filter test ts)) → AreInForm (map (λ (t : Taken). t.asked) (cond b (t ∷ filter test ts) (filter test ts)))
+    by true rest = one_more t.asked (map (λ (t : Taken). t.asked) (filter test ts)) (All-head (λ (a : Asked). IsInForm a.event) t.asked (map (λ (t : Taken). t.asked) ts) h) rest
+    by false rest = rest
+
+ticks_kept : (test : Asked → Bool) (as' : List Asked) → AreInForm as' → AreInForm (filter test as')
+ticks_kept test [] h = nothing
+ticks_kept test (a ∷ as') h = by (test a) (ticks_kept test as' (All-tail (λ (a : Asked). IsInForm a.event) a as' h))
+  where
+    by : (b : Bool) → AreInForm (filter test as') → AreInForm (cond b (a ∷ filter test as') (filter test as'))
+    by true rest = one_more a (filter test as') (All-head (λ (a : Asked). IsInForm a.event) a as' h) rest
+    by false rest = rest
+
+pub dealt_in_form : (s : PlainSite) (lines : List (List ℕ)) (os : List Outstanding) (rs : List Reported) (before : Histories) (moment callers k : ℕ) → k < callers →
+    AreInForm (of_index k (dealt callers (line_events (lines_read s lines)) (taken_reports os rs) (ticks_from 0 s.checkables before moment)))
+dealt_in_form s lines os rs before moment callers k h =
     let P : Asked → Type 0 = λ a. IsInForm a.event in
-    All-append P (line_events (lines_read s lines)) (map (λ (t : Taken). t.asked) (taken_reports os rs) ++ ticks_from 0 s.checkables before moment) (lines_in_form s lines)
-    (All-append P (map (λ (t : Taken). t.asked) (taken_reports os rs)) (ticks_from 0 s.checkables before moment) (reports_in_form os rs) (ticks_in_form 0 s.checkables before moment))
+    let events = line_events (lines_read s lines) in
+    let reports = taken_reports os rs in
+    let late = ticks_from 0 s.checkables before moment in
+    let e : 0 + k ≡ k = omega arith in
+    let of_reports = filter (λ (t : Taken). goes_to callers k t.order) reports in
+    let of_ticks = filter (λ (a : Asked). goes_to callers k a.checkable) late in
+    let all : AreInForm (dealt_to callers events reports late k) =
+    All-append P (lines_to k events) (map (λ (t : Taken). t.asked) of_reports ++ of_ticks) (lines_kept k events (lines_in_form s lines))
+    (All-append P (map (λ (t : Taken). t.asked) of_reports) of_ticks (reports_kept (λ (t : Taken). goes_to callers k t.order) reports (reports_in_form os rs)) (ticks_kept (λ (a : Asked). goes_to callers k a.checkable) late (ticks_in_form 0 s.checkables before moment))) in
+    subst AreInForm (sym (of_index_each (dealt_to callers events reports late) 0 callers k h ∙ ap (dealt_to callers events reports late) e)) all
 
 pub on_one : (c : ℕ) (as' : List Asked) → AreInForm as' → All IsInForm (events_on c as')
 on_one c [] h = All-nil IsInForm

@@ -1,5 +1,5 @@
 -- All that a turn names is the site's.
-use Rattle.std.proofs.Common.{◌≡◌, ◌<◌, ◌+◌, ℕ, zero, suc, nat_eq, nat_lt, Bool, true, false, cond, List, [], ◌∷◌, ◌++◌, All, length, map, slice_get, take, Option, Some, None, refl, sym, subst, arith}
+use Rattle.std.proofs.Common.{◌≡◌, ◌<◌, ◌+◌, ℕ, zero, suc, nat_eq, nat_lt, Bool, true, false, cond, List, [], ◌∷◌, ◌++◌, All, length, map, slice_get, take, Option, Some, None, refl, sym, ◌∙◌, subst, arith, eq-eqb}
 use Rattle.std.proofs.lemmas.List.Elements.{All-cons, All-nil, All-push, All-weaker}
 use Rattle.std.proofs.lemmas.Option.{slice_get_within}
 use Rattle.jiff_tz.specs.declared.tzif.Tzif.{Tzif}
@@ -7,14 +7,14 @@ use Rattle.checkable_core.specs.Histories.{DecidesOwn, NamesOwn}
 use Rattle.checkable_core.proofs.Own.{all_parts, ancestors_own, decisions_own}
 use Rattle.depend_graph.specs.Outlooks.{holds_in}
 use Rattle.run_meaning.specs.Acts.{Act, draft_of}
-use Rattle.run_meaning.specs.Dealing.{Taken, line_events, taken_reports, ticks}
+use Rattle.run_meaning.specs.Dealing.{dealt, dealt_to, line_events, taken_reports, ticks}
 use Rattle.run_meaning.specs.Downtimes.{is_live}
 use Rattle.run_meaning.specs.Reachability.{Outlook}
-use Rattle.run_meaning.specs.Rounds.{all_seen, behind, events_on}
+use Rattle.run_meaning.specs.Rounds.{all_seen, behind}
 use Rattle.run_meaning.specs.Runs.{Basis, IsTurn, Stage, TurnLog, reports_of}
 use Rattle.run_meaning.specs.Schedule.{Due, Walk, due_from, gets_order, ordering, outlook_after, skipping, walk_from, walk_over, walk_with, watches_after}
-use Rattle.run_meaning.specs.Turns.{Asked, Command, Histories, Ordered, of_index}
-use Rattle.run_meaning.proofs.Dealt.{dealt_to_one}
+use Rattle.run_meaning.specs.Turns.{Command, Histories, Ordered, from_on, of_index}
+use Rattle.run_meaning.proofs.Lists.{length_from_on, length_map}
 use Rattle.site_edge.specs.declared.turn.Turn.{Turn}
 use Rattle.site_model.specs.PlainSite.{PlainCheck, PlainSite}
 use Rattle.site_model.specs.Sound.{IsIndex, IsSound}
@@ -31,7 +31,7 @@ use Rattle.turn_engine.specs.Orders.{command_of, order_as}
 use Rattle.turn_engine.specs.Stages.{basis_of_site}
 use Rattle.turn_engine.specs.declared.turn_out.TurnOut.{TurnOut}
 use Rattle.engine_log.specs.OnSite.{IsTurnOf}
-use Rattle.engine_log.proofs.EventForms.{all_in_form, of_caller, on_one}
+use Rattle.engine_log.proofs.EventForms.{dealt_in_form, of_caller, on_one}
 
 -- Orders.
 
@@ -92,13 +92,9 @@ segments_printable s k ((f ∷ fs) ∷ round) h =
     (each (IsPrintable s k) (f ∷ fs) (λ i e at. let n : k + 0 ≡ k = omega arith in subst (λ m. IsPrintable s m e) n (h zero i e at)))
     (segments_printable s (suc k) round (λ j i e at. let n : k + suc j ≡ suc k + j = omega arith in subst (λ m. IsPrintable s m e) n (h (suc j) i e at)))
 
-module _ (s : PlainSite) (zone : Option Tzif) (st : Stage) (turn : Turn) (l : TurnLog) (is : IsTurn (basis_of_site s zone) 1 st (turn_read s turn) l) (sound : IsSound s) where
+module _ (s : PlainSite) (zone : Option Tzif) (callers : ℕ) (st : Stage) (turn : Turn) (l : TurnLog) (is : IsTurn (basis_of_site s zone) callers st (turn_read s turn) l) (sound : IsSound s) where
   abbrev b : Basis
   b = basis_of_site s zone
-
-  caller_is : (n : ℕ) → n < 1 → nat_eq n 0 ≡ true
-  caller_is zero h = refl
-  caller_is (suc n) h = absurd (omega (arith, h))
 
   in_form : (c i : ℕ) (e : Entry) → slice_get (of_index c l.round) i ≡ Some e → IsInForm e.event
   in_form c i e at =
@@ -106,9 +102,10 @@ module _ (s : PlainSite) (zone : Option Tzif) (st : Stage) (turn : Turn) (l : Tu
       let lines = line_events (lines_read s turn.lines) in
       let reports = taken_reports st.plans.outstanding (reports_of st t) in
       let late = ticks s st.histories l.moment in
-      let all = on_one c (lines ++ (map (λ (x : Taken). x.asked) reports ++ late)) (all_in_form s turn.lines st.plans.outstanding (reports_of st t) st.histories l.moment) in
-      let dealt = subst (λ (es : List (List Asked)). All IsInForm (events_on c (of_index 0 es))) (sym (dealt_to_one lines reports late)) all in
-      of_caller 0 (of_index c l.round) (subst (All IsInForm) (sym (is.round.taken 0 c (omega arith))) dealt) i e at (caller_is e.caller (is.round.callers c i e at))
+      let lt = is.round.callers c i e at in
+      let many : length (dealt callers lines reports late) ≡ callers = length_map (dealt_to callers lines reports late) (from_on 0 callers) ∙ length_from_on 0 callers in
+      let all = on_one c _ (dealt_in_form s turn.lines st.plans.outstanding (reports_of st t) st.histories l.moment callers e.caller (subst (λ n. e.caller < n) many lt)) in
+      of_caller e.caller (of_index c l.round) (subst (All IsInForm) (sym (is.round.taken e.caller c lt)) all) i e at (eq-eqb e.caller e.caller refl)
 
   printable : (c i : ℕ) (e : Entry) → slice_get (of_index c l.round) i ≡ Some e → IsPrintable s c e
   printable c i e at =
@@ -137,10 +134,10 @@ module _ (s : PlainSite) (zone : Option Tzif) (st : Stage) (turn : Turn) (l : Tu
 
 -- the entries of a turn can be printed
 pub entries_are : (s : PlainSite) (out : TurnOut) → IsSound s → IsTurnOf s out → ArePrintable s out.segments
-entries_are s out sound t = subst (ArePrintable s) (sym t.tells.entries) (round_printable s t.zone t.stage t.turn t.log t.is sound)
+entries_are s out sound t = subst (ArePrintable s) (sym t.tells.entries) (round_printable s t.zone t.callers t.stage t.turn t.log t.is sound)
 
 -- and its orders are of checkables of the site
 pub orders_are : (s : PlainSite) (out : TurnOut) → IsSound s → IsTurnOf s out → All (λ o. o.checkable < length s.checkables) out.orders.items
 orders_are s out sound t =
     all_parts (λ (x : Ordered). x.checkable < length s.checkables) order_as out.orders.items
-    (subst (AreWithin (length s.checkables)) (sym t.tells.ordered) (orders_within s t.zone t.stage t.turn t.log t.is sound))
+    (subst (AreWithin (length s.checkables)) (sym t.tells.ordered) (orders_within s t.zone t.callers t.stage t.turn t.log t.is sound))

@@ -39,5 +39,5 @@ counts_of ls =
 -- they are those of a run of all turns over so many hosts, with one caller
 pub record AreCounts (n : ℕ) (s : PlainSite) (c : Counts) : Type 0 where
   pub logs : List TurnLog
-  pub are : AreLogs s (all_turns n) logs
+  pub are : AreLogs 1 s (all_turns n) logs
   pub counts : c ≡ counts_of logs

@@ -81,9 +81,9 @@ pub as_found : (told : Option Files) (name : List ℕ) (found : Option (List ℕ
 as_found None name found P e p = tt
 as_found (Some files) name found P e p = subst P e p
 
-log_as : (style : Style) (s : PlainSite) (turns : List Turn) (w : Whole) → AnswersWorld style most_turns (Some turns) s w → IsLog style most_turns s turns w
-log_as style s turns w a = subst (λ ts. IsLog style most_turns s ts w) a.told a.log
+log_as : (style : Style) (s : PlainSite) (turns : List Turn) (w : Whole) → AnswersWorld 1 style most_turns (Some turns) s w → IsLog 1 style most_turns s turns w
+log_as style s turns w a = subst (λ ts. IsLog 1 style most_turns s ts w) a.told a.log
 
 -- a world of told turns gives their log
-pub script_log : (style : Style) (s : PlainSite) (turns : List Turn) (told : Option (List Turn)) (w : Whole) → told ≡ Some turns → AnswersWorld style most_turns told s w → IsLog style most_turns s turns w
-script_log style s turns told w e a = log_as style s turns w (subst (λ t. AnswersWorld style most_turns t s w) e a)
+pub script_log : (style : Style) (s : PlainSite) (turns : List Turn) (told : Option (List Turn)) (w : Whole) → told ≡ Some turns → AnswersWorld 1 style most_turns told s w → IsLog 1 style most_turns s turns w
+script_log style s turns told w e a = log_as style s turns w (subst (λ t. AnswersWorld 1 style most_turns t s w) e a)

@@ -53,7 +53,7 @@ most_turns = 100000000
 
 -- the log of a script's turns, or that its first line that is none is this one
 abbrev pub AnswersScript : Style → List ℕ → PlainSite → Answer → Whole → Type 0
-AnswersScript style script s (told turns) w = IsLog style most_turns s turns w
+AnswersScript style script s (told turns) w = IsLog 1 style most_turns s turns w
 AnswersScript style script s (bad_line n) w = w ≡ replied (bad_script script n)
 
 abbrev pub AnswersBytes : Style → List ℕ → PlainSite → Option (List ℕ) → Whole → Type 0
@@ -85,7 +85,7 @@ abbrev pub Answers : Task → Option Files → Option (List Turn) → Whole → 
 Answers (check root) files turns w = IfSome files (λ all. AnswersShown all shown.Count root w)
 Answers (objects root) files turns w = IfSome files (λ all. AnswersShown all shown.Listing root w)
 Answers (replay style root script) files turns w = IfSome files (λ all. AnswersSite all root (λ s. AnswersBytes style script s (find_file script all)) w)
-Answers (daemon style root) files turns w = IfSome files (λ all. AnswersSite all root (AnswersWorld style most_turns turns) w)
+Answers (daemon style root) files turns w = IfSome files (λ all. AnswersSite all root (AnswersWorld 1 style most_turns turns) w)
 Answers (generate hosts) files turns w = AnswersGenerated hosts w
 
 abbrev pub is_daemon : Task → Bool
@@ -104,7 +104,7 @@ IsSiteOf files root s = AnswersRoot files root (λ names c. c ≡ commits.site s
 pub record IsOverSite (status : Status) (style : Style) (root : List ℕ) (files : Option Files) (old new : Outside) : Type 0 where
   pub site : PlainSite
   pub is : IfSome files (λ all. IsSiteOf all root site)
-  pub went : Went status style most_turns site old new
+  pub went : Went status 1 style most_turns site old new
 
 abbrev pub CameFar : Status → Style → List ℕ → Option Files → Outside → Outside → Type 0
 CameFar status style root files old new = ((new.turns ≡ old.turns) × (new.started ≡ old.started)) ⊎ IsOverSite status style root files old new

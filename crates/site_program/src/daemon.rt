@@ -27,7 +27,7 @@ pub fn watch<F: Files, W: World, S: Sink>(
     out: &mut S,
 ) -> Status
     ensures never_usage { result ≢ Status.Usage }
-    ensures written { EndsRun result (λ w. IfSome (F.told files.old) (λ all. AnswersSite all root.now (AnswersWorld style most_turns (W.turns world.old)) w)) (S.written out.old) (S.written out.new) }
+    ensures written { EndsRun result (λ w. IfSome (F.told files.old) (λ all. AnswersSite all root.now (AnswersWorld 1 style most_turns (W.turns world.old)) w)) (S.written out.old) (S.written out.new) }
     // Which turns were taken, what was written of them, and which of their checks were started.
     ensures came { CameFar result style root.now (F.told files.old) (outside (W.turns world.old) (W.started world.old) (S.written out.old)) (outside (W.turns world.new) (W.started world.new) (S.written out.new)) }
     ensures told { F.told files.new ≡ F.told files.old }

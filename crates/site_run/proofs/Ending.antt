@@ -1,7 +1,7 @@
 -- How far a run came, from turn to turn.
 use Rattle.std.proofs.Common.{◌≡◌, ◌+◌, ◌<◌, ◌≤◌, ℕ, false, Option, Some, None, List, [], ◌∷◌, ◌++◌, length, ◌⊎◌, inl, inr, refl, sym, ap, ◌∙◌, subst, arith, length-append}
 use Rattle.std.proofs.lemmas.List.{append-nil}
-use Rattle.run_meaning.specs.Runs.{Stage, begun_by}
+use Rattle.run_meaning.specs.Runs.{Stage, TurnLog, begun_by}
 use Rattle.run_meaning.specs.Turns.{Begun}
 use Rattle.run_text.specs.declared.style.Style.{Style}
 use Rattle.site_edge.specs.Lists.{Adds, TakesFirst}
@@ -12,8 +12,8 @@ use Rattle.site_edge.specs.declared.world_error.WorldError.TheVariants as world
 use Rattle.site_model.specs.PlainSite.{site_view}
 use Rattle.turn_engine.specs.Ready.{Held}
 use Rattle.turn_engine.specs.Stages.{Running, stage_of}
-use Rattle.site_run.specs.Courses.{Course, behind, course_of, log_of, orders, text, text_of}
-use Rattle.site_run.specs.Ends.{Ends, EndsBehind, IsAt, IsBefore, IsBetween, IsInLines, IsInOrders, IsPartStarted, IsPartWritten, Outside, Stands, StopsIn, Takes}
+use Rattle.site_run.specs.Courses.{AreLogsOf, Course, IsNextLog, behind, course_of, log_of, logs, orders, text, text_of}
+use Rattle.site_run.specs.Ends.{Ends, EndsBehind, IsAt, IsBefore, IsBetween, IsInLines, IsInOrders, IsPartStarted, IsPartWritten, Outside, Stands, StopsIn, Takes, TakesTurn}
 use Rattle.site_run.specs.Feeds.{Changing, Giving, basis_fed, feed_after}
 use Rattle.site_run.specs.Starts.{started_of}
 use Rattle.site_run.specs.Stops.{status_of, stop_of_world}
@@ -23,14 +23,15 @@ use Rattle.site_run.specs.declared.stop.Stop.{Stop}
 use Rattle.site_run.specs.declared.stop.Stop.TheVariants as stop
 use Rattle.site_run.proofs.Adding.{adds_same, at_more, at_within, none_left, started_within, takes_first, takes_nothing, written_within}
 use Rattle.site_run.proofs.Fed.{feed_more}
-use Rattle.site_run.proofs.Going.{behind_both, orders_more, text_more}
+use Rattle.site_run.proofs.Going.{behind_both, logs_more, orders_more, text_more}
 
 -- so many turns are done, and engine and feed stand behind them
 pub record IsOnWay {F : Type 0} (c : Course) (after : Changing F) (first : F) (count : ℕ) (engine : Held) (feed : F) (old new : Outside) : Type 0 where
   pub done : List Turn
   pub many : length done ≡ count
-  pub stands : Stands c after first done engine feed
-  pub at : IsBetween c done old new
+  pub are : AreLogsOf 1 c done (logs c done)
+  pub stands : Stands c after first done (logs c done) engine feed
+  pub at : IsBetween c done (logs c done) old new
 
 -- the course of an engine that stands behind some turns is the run behind them
 pub course_is : {F : Type 0} (r r0 : Running) (begun : List Begun) (style : Style) (gives : Giving F) (after : Changing F) (first : F) (st : Stage) → r.site ≡ r0.site → r.zone ≡ r0.zone → stage_of r begun ≡ st
@@ -47,41 +48,49 @@ unchanged a w s o m n t r v p = record {
 }
 
 -- one turn more was taken
-pub before_turn : (c : Course) (done : List Turn) (t : Turn) (o m n : Outside) → TakesFirst m.turns n.turns (Some t) → n.started ≡ m.started → n.written ≡ m.written → IsBetween c done o m → IsBefore c done t o n
+pub before_turn : (c : Course) (done : List Turn) (t : Turn) (o m n : Outside) → TakesFirst m.turns n.turns (Some t) → n.started ≡ m.started → n.written ≡ m.written → IsBetween c done (logs c done) o m → IsBefore c done (logs c done) t o n
 before_turn c done t o m n first r v p =
     let taken : IsAt (t ∷ []) [] [] m n = record { turns = takes_first t m.turns n.turns first; written = adds_same m.written n.written v; started = adds_same m.started n.started r } in
     subst (λ w. IsAt (done ++ t ∷ []) w (orders c done) o n) (append-nil (text c done))
     (subst (λ os. IsAt (done ++ t ∷ []) (text c done ++ []) os o n) (append-nil (orders c done)) (at_more done (t ∷ []) (text c done) [] (orders c done) [] o m n p taken))
 
+-- the log of that turn
+abbrev next_log : Course → List Turn → Turn → TurnLog
+next_log c done t = log_of (behind c done) t
+
 -- a turn was gone through
-pub one_done : (c : Course) (done : List Turn) (t : Turn) (o m n : Outside) → IsBefore c done t o m → IsAt [] (text_of (behind c done) (log_of (behind c done) t)) (started_of (log_of (behind c done) t).orders) m n → IsBetween c (done ++ t ∷ []) o n
+pub one_done : (c : Course) (done : List Turn) (t : Turn) (o m n : Outside) → IsBefore c done (logs c done) t o m → IsAt [] (text_of (behind c done) (next_log c done t)) (started_of (next_log c done t).orders) m n
+    → IsBetween c (done ++ t ∷ []) (logs c (done ++ t ∷ [])) o n
 one_done c done t o m n p q =
     subst (λ w. IsAt (done ++ t ∷ []) w (orders c (done ++ t ∷ [])) o n) (sym (text_more c done t))
-    (subst (λ os. IsAt (done ++ t ∷ []) (text c done ++ text_of (behind c done) (log_of (behind c done) t)) os o n) (sym (orders_more c done t))
+    (subst (λ os. IsAt (done ++ t ∷ []) (text c done ++ text_of (behind c done) (next_log c done t)) os o n) (sym (orders_more c done t))
     (at_within (done ++ t ∷ []) (text c done) _ (orders c done) _ o m n p q))
 
-in_lines : (c : Course) (done : List Turn) (t : Turn) (o m n : Outside) → IsBefore c done t o m → IsPartWritten [] [] (text_of (behind c done) (log_of (behind c done) t)) [] m n → IsInLines c done t o n
+in_lines : (c : Course) (done : List Turn) (t : Turn) (o m n : Outside) → IsBefore c done (logs c done) t o m → IsPartWritten [] [] (text_of (behind c done) (next_log c done t)) [] m n → IsInLines c done (logs c done) t (next_log c done t) o n
 in_lines c done t o m n p q = written_within (done ++ t ∷ []) (text c done) _ (orders c done) o m n p q
 
-in_orders : (c : Course) (done : List Turn) (t : Turn) (o m n : Outside) → IsBefore c done t o m → IsPartStarted [] (text_of (behind c done) (log_of (behind c done) t)) [] (started_of (log_of (behind c done) t).orders) m n → IsInOrders c done t o n
-in_orders c done t o m n p q =
-    subst (λ w. IsPartStarted (done ++ t ∷ []) w (orders c done) (started_of (log_of (behind c done) t).orders) o n) (sym (text_more c done t))
-    (started_within (done ++ t ∷ []) (text c done) _ (orders c done) _ o m n p q)
+in_orders : (c : Course) (done : List Turn) (t : Turn) (o m n : Outside) → IsBefore c done (logs c done) t o m → IsPartStarted [] (text_of (behind c done) (next_log c done t)) [] (started_of (next_log c done t).orders) m n
+    → IsInOrders c done (logs c done) t (next_log c done t) o n
+in_orders c done t o m n p q = started_within (done ++ t ∷ []) (text c done) _ (orders c done) _ o m n p q
 
 -- or it wasn't
-pub stopped : (s : Stop) (c : Course) (limit : ℕ) (stands : List Turn → Type 0) (done : List Turn) (t : Turn) (o m n : Outside) → length done < limit → IsBefore c done t o m
-    → StopsIn s (text_of (behind c done) (log_of (behind c done) t)) (started_of (log_of (behind c done) t).orders) m n → Ends (status_of s) c limit stands o n
-stopped stop.Sink c limit stands done t o m n few p q = record { done = done; few = omega (arith, few); ends = (few, (t, in_lines c done t o m n p q)) }
-stopped stop.World c limit stands done t o m n few p q = record { done = done; few = omega (arith, few); ends = inr (few, (t, in_orders c done t o m n p q)) }
-stopped stop.OutOfMemory c limit stands done t o m n few p (inl q) = record { done = done; few = omega (arith, few); ends = inr (few, (t, inl (in_lines c done t o m n p q))) }
-stopped stop.OutOfMemory c limit stands done t o m n few p (inr q) = record { done = done; few = omega (arith, few); ends = inr (few, (t, inr (in_orders c done t o m n p q))) }
+pub stopped : (s : Stop) (c : Course) (limit : ℕ) (stands : List Turn → List TurnLog → Type 0) (done : List Turn) (t : Turn) (o m n : Outside) → length done < limit → AreLogsOf 1 c done (logs c done) → IsBefore c done (logs c done) t o m
+    → StopsIn s (text_of (behind c done) (next_log c done t)) (started_of (next_log c done t).orders) m n → TakesTurn s (IsNextLog 1 c done (logs c done) t (next_log c done t)) m n → Ends (status_of s) 1 c limit stands o n
+stopped s c limit stands done t o m n few are p q taken = record { done = done; logs = logs c done; few = omega (arith, few); are = are; ends = by s q taken }
+  where
+    by : (s : Stop) → StopsIn s (text_of (behind c done) (next_log c done t)) (started_of (next_log c done t).orders) m n → TakesTurn s (IsNextLog 1 c done (logs c done) t (next_log c done t)) m n → EndsBehind (status_of s) 1 c limit stands done (logs c done) o n
+    by stop.Sink q is = (few, (t, (next_log c done t, is, in_lines c done t o m n p q)))
+    by stop.World q is = inr (few, (t, (next_log c done t, is, in_orders c done t o m n p q)))
+    by stop.OutOfMemory q (inl same) = inr (few, (t, inl (subst (IsBefore c done (logs c done) t o) (sym same) p)))
+    by stop.OutOfMemory (inl q) (inr is) = inr (few, (t, inr (next_log c done t, is, inl (in_lines c done t o m n p q))))
+    by stop.OutOfMemory (inr q) (inr is) = inr (few, (t, inr (next_log c done t, is, inr (in_orders c done t o m n p q))))
 
 -- what is asked of where engine and feed stand may be less
-pub less_asked : (s : Status) (c : Course) (limit : ℕ) (P Q : List Turn → Type 0) (o n : Outside) → ((done : List Turn) → P done → Q done) → Ends s c limit P o n → Ends s c limit Q o n
-less_asked s c limit P Q o n h e = record { done = e.done; few = e.few; ends = by s e.ends }
+pub less_asked : (s : Status) (callers : ℕ) (c : Course) (limit : ℕ) (P Q : List Turn → List TurnLog → Type 0) (o n : Outside) → ((done : List Turn) (ls : List TurnLog) → P done ls → Q done ls) → Ends s callers c limit P o n → Ends s callers c limit Q o n
+less_asked s callers c limit P Q o n h e = record { done = e.done; logs = e.logs; few = e.few; are = e.are; ends = by s e.ends }
   where
-    by : (s : Status) → EndsBehind s c limit P e.done o n → EndsBehind s c limit Q e.done o n
-    by status.Done x = (h e.done x.0, x.1, x.2)
+    by : (s : Status) → EndsBehind s callers c limit P e.done e.logs o n → EndsBehind s callers c limit Q e.done e.logs o n
+    by status.Done x = (h e.done e.logs x.0, x.1, x.2)
     by status.TurnsSpent x = x
     by status.WriteFault x = x
     by status.WorldFault x = x
@@ -101,24 +110,26 @@ module _ {F : Type 0} (r : Running) (style : Style) (gives : Giving F) (after : 
     few_done = let n = way.many in omega (arith, few, n)
 
     -- the world gave no turn since it failed
-    pub failed : (e : WorldError) (stands : List Turn → Type 0) (n : Outside) → n.turns ≡ m.turns → n.started ≡ m.started → n.written ≡ m.written → Ends (status_of (stop_of_world e)) c limit stands o n
+    pub failed : (e : WorldError) (stands : List Turn → List TurnLog → Type 0) (n : Outside) → n.turns ≡ m.turns → n.started ≡ m.started → n.written ≡ m.written → Ends (status_of (stop_of_world e)) 1 c limit stands o n
     failed e stands n t r' v = by e (unchanged way.done (text c way.done) (orders c way.done) o m n t r' v way.at)
       where
-        by : (e : WorldError) → IsBetween c way.done o n → Ends (status_of (stop_of_world e)) c limit stands o n
-        by world.Failed p = record { done = way.done; few = few_done; ends = inl p }
-        by world.OutOfMemory p = record { done = way.done; few = few_done; ends = inl p }
+        by : (e : WorldError) → IsBetween c way.done (logs c way.done) o n → Ends (status_of (stop_of_world e)) 1 c limit stands o n
+        by world.Failed p = record { done = way.done; logs = logs c way.done; few = few_done; are = way.are; ends = inl p }
+        by world.OutOfMemory p = record { done = way.done; logs = logs c way.done; few = few_done; are = way.are; ends = inl p }
 
     -- it had no more
-    pub all_done : (n : Outside) → TakesFirst m.turns n.turns None → n.started ≡ m.started → n.written ≡ m.written → Ends status.Done c limit (λ done. Stands c after first done engine feed) o n
+    pub all_done : (n : Outside) → TakesFirst m.turns n.turns None → n.started ≡ m.started → n.written ≡ m.written → Ends status.Done 1 c limit (λ done ls. Stands c after first done ls engine feed) o n
     all_done n none r' v = record {
       done = way.done;
+      logs = logs c way.done;
       few = few_done;
+      are = way.are;
       ends = (way.stands, unchanged way.done (text c way.done) (orders c way.done) o m n (takes_nothing m.turns n.turns none) r' v way.at, none_left m.turns n.turns none);
     }
 
     -- it gave one more than may be taken
-    pub spent : (t : Turn) (stands : List Turn → Type 0) (n : Outside) → count ≡ limit → TakesFirst m.turns n.turns (Some t) → n.started ≡ m.started → n.written ≡ m.written → Ends status.TurnsSpent c limit stands o n
-    spent t stands n all one r' v = record { done = way.done; few = few_done; ends = (way.many ∙ all, (t, before_turn c way.done t o m n one r' v way.at)) }
+    pub spent : (t : Turn) (stands : List Turn → List TurnLog → Type 0) (n : Outside) → count ≡ limit → TakesFirst m.turns n.turns (Some t) → n.started ≡ m.started → n.written ≡ m.written → Ends status.TurnsSpent 1 c limit stands o n
+    spent t stands n all one r' v = record { done = way.done; logs = logs c way.done; few = few_done; are = way.are; ends = (way.many ∙ all, (t, before_turn c way.done t o m n one r' v way.at)) }
 
     -- it gave one
 
@@ -132,26 +143,29 @@ module _ {F : Type 0} (r : Running) (style : Style) (gives : Giving F) (after : 
       next_is : next ≡ behind c way.done
       next_is = course_is engine.run r begun style gives after first (behind c way.done).stage site zone way.stands.stage
 
-      before : IsBefore c way.done t o n
+      before : IsBefore c way.done (logs c way.done) t o n
       before = before_turn c way.done t o m n one same kept way.at
 
       -- in which the run stops
-      pub stops : (why : Stop) (stands : List Turn → Type 0) (x : Outside) → StopsIn why (text_of next (log_of next t)) (started_of (log_of next t).orders) n x → Ends (status_of why) c limit stands o x
-      stops why stands x p =
+      pub stops : (why : Stop) (stands : List Turn → List TurnLog → Type 0) (x : Outside) → StopsIn why (text_of next (log_of next t)) (started_of (log_of next t).orders) n x → TakesTurn why (IsNextLog 1 next [] [] t (log_of next t)) n x
+          → Ends (status_of why) 1 c limit stands o x
+      stops why stands x p taken =
           let k = way.many in
-          stopped why c limit stands way.done t o n x (omega (arith, k, more)) before (subst (λ (d : Course). StopsIn why (text_of d (log_of d t)) (started_of (log_of d t).orders) n x) next_is p)
+          stopped why c limit stands way.done t o n x (omega (arith, k, more)) way.are before (subst (λ (d : Course). StopsIn why (text_of d (log_of d t)) (started_of (log_of d t).orders) n x) next_is p)
+          (subst (λ (d : Course). TakesTurn why (IsNextLog 1 d [] [] t (log_of d t)) n x) next_is taken)
 
       -- or behind which it goes on
-      pub goes_on : (x : Outside) (moved : Held) (fed : F) → IsAt [] (text_of next (log_of next t)) (started_of (log_of next t).orders) n x → moved.spent ≡ false
+      pub goes_on : (x : Outside) (moved : Held) (fed : F) → IsAt [] (text_of next (log_of next t)) (started_of (log_of next t).orders) n x → IsNextLog 1 next [] [] t (log_of next t) → moved.spent ≡ false
           → stage_of moved.run (begun_by (stage_of engine.run begun) moved.run.moment) ≡ (behind next (t ∷ [])).stage → fed ≡ after feed engine.run.histories moved.run.moment
           → IsOnWay c after first (count + 1) moved fed o x
-      goes_on x moved fed p fresh stage fed_is =
+      goes_on x moved fed p is fresh stage fed_is =
           let now : Begun = record { histories = engine.run.histories; moment = moved.run.moment } in
           let reached = stage ∙ ap (λ (d : Course). (behind d (t ∷ [])).stage) next_is ∙ sym (behind_both c way.done (t ∷ [])) in
           let so : begun ++ now ∷ [] ≡ (behind c (way.done ++ t ∷ [])).stage.begun = ap (λ (st : Stage). st.begun) reached in
           record {
             done = way.done ++ t ∷ [];
             many = (let l = length-append way.done (t ∷ []) in let k = way.many in omega (arith, l, k));
+            are = logs_more c way.done t way.are (subst (λ (d : Course). IsNextLog 1 d [] [] t (log_of d t)) next_is is);
             stands = record {
               fresh = fresh;
               stage = ap (stage_of moved.run) (sym so) ∙ reached;

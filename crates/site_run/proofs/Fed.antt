@@ -9,7 +9,6 @@ use Rattle.run_meaning.specs.Rounds.{IsRound}
 use Rattle.run_meaning.specs.Meaning.{basis_of}
 use Rattle.run_meaning.specs.Runs.{Basis, IsTurn, Stage, TurnLog, begun_by, lines_of, reports_of, stage_after}
 use Rattle.run_meaning.specs.Turns.{Asked, Begun, Feed, Histories, Line, ReadTurn}
-use Rattle.run_meaning.proofs.OneLog.{only_log}
 use Rattle.event_text.specs.Reading.{line_read}
 use Rattle.run_text.specs.TurnReading.{as_line, lines_read, turn_read}
 use Rattle.run_text.specs.declared.style.Style.{Style}
@@ -19,6 +18,7 @@ use Rattle.turn_engine.specs.Orders.{command_of}
 use Rattle.turn_engine.specs.Stages.{Running, basis_of_site, stage_of}
 use Rattle.site_run.specs.Courses.{course_alone, course_of}
 use Rattle.site_run.specs.Feeds.{Changing, Giving, basis_fed, feed_after, feed_of, lines_fed}
+use Rattle.site_run.proofs.Going.{turn_is}
 
 -- What a feed gives for the last of some turns.
 
@@ -51,12 +51,6 @@ turn_with b feed st t before l none is x =
       orders = x.orders;
     }
 
-first_of : {A : Type 0} (x y : A) → x ∷ [] ≡ y ∷ [] → x ≡ y
-first_of x y e = cc
-
-log_is : (b : Basis) (st : Stage) (t : ReadTurn) (l : TurnLog) → IsTurn b 1 st t l → l ≡ turn_alone b st t
-log_is b st t l x = first_of l (turn_alone b st t) (only_log b st (t ∷ []) (l ∷ []) (record { someone = omega arith; turns = (x, refl) }))
-
 module _ {F : Type 0} (s : PlainSite) (zone : Option Tzif) (gives : Giving F) (after : Changing F) (first now : F) (st : Stage) (t fed : Turn) (given : List (List ℕ)) (now_is : now ≡ feed_after after first st.begun) (given_is : given ≡ gives now st.histories (max st.moment t.moment)) (fed_is : fed ≡ record t { lines = given ++ t.lines }) (x : IsTurn (basis_of_site s zone) 1 st (turn_read s fed) (turn_alone (basis_of_site s zone) st (turn_read s fed))) where
   abbrev plain : Basis
   plain = basis_of_site s zone
@@ -84,9 +78,15 @@ module _ {F : Type 0} (s : PlainSite) (zone : Option Tzif) (gives : Giving F) (a
       ∙ ap (gives (feed_after after first st.begun) st.histories) (sym moment_is)
       ∙ sym (lines_behind gives after first st.begun (record { histories = st.histories; moment = log.moment })))
 
+  fed_so : IsTurn basis 1 st own log
+  fed_so = turn_with plain (feed_of s gives after first) st own (lines_read s given) log (λ bs. refl) given_so (subst (λ (r : ReadTurn). IsTurn plain 1 st r log) read_is x)
+
   -- it has the same log
   pub log_fed : log ≡ turn_alone basis st own
-  log_fed = log_is basis st own log (turn_with plain (feed_of s gives after first) st own (lines_read s given) log (λ bs. refl) given_so (subst (λ (r : ReadTurn). IsTurn plain 1 st r log) read_is x))
+  log_fed = turn_is basis st own log fed_so
+
+  pub turn_fed : IsTurn basis 1 st own (turn_alone basis st own)
+  turn_fed = subst (IsTurn basis 1 st own) log_fed fed_so
 
   -- and leads to the same stage
   pub stage_fed : stage_after plain st (turn_read s fed) log ≡ stage_after basis st own (turn_alone basis st own)

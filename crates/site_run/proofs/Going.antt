@@ -1,17 +1,19 @@
 -- More turns of a run.
-use Rattle.std.proofs.Common.{◌≡◌, ◌+◌, ◌≤◌, ℕ, suc, List, [], ◌∷◌, ◌++◌, length, map, Option, refl, sym, ap, ◌∙◌, subst, arith, append_assoc}
+use Rattle.std.proofs.Common.{◌≡◌, ◌+◌, ◌≤◌, ℕ, suc, List, [], ◌∷◌, ◌++◌, length, map, Option, refl, sym, ap, ◌∙◌, subst₂, arith}
 use Rattle.std.proofs.lemmas.Grind.{flat_map-append}
 use Rattle.std.proofs.lemmas.List.{append-nil, map-append}
 use Rattle.std.proofs.lemmas.List.Folds.{concat-append}
 use Rattle.std.specs.List.{concat, flat_map}
-use Rattle.run_meaning.specs.Alone.{run_alone}
-use Rattle.run_meaning.specs.Runs.{TurnLog, stage_by}
-use Rattle.run_meaning.proofs.Cutting.{alone_joined, alone_stage}
+use Rattle.run_meaning.specs.Alone.{run_alone, turn_alone}
+use Rattle.run_meaning.specs.Runs.{Basis, IsRunFrom, IsTurn, Stage, TurnLog, stage_by}
+use Rattle.run_meaning.specs.Turns.{ReadTurn}
+use Rattle.run_meaning.proofs.Cutting.{alone_joined, alone_stage, is_joined}
+use Rattle.run_meaning.proofs.OneLog.{only_log}
 use Rattle.run_text.specs.LogText.{turn_lines}
 use Rattle.run_text.specs.TurnReading.{turn_read}
 use Rattle.site_edge.specs.declared.order.Order.{Order}
 use Rattle.site_edge.specs.declared.turn.Turn.{Turn}
-use Rattle.site_run.specs.Courses.{Course, behind, log_of, logs, orders, reads, text, text_of}
+use Rattle.site_run.specs.Courses.{AreLogsOf, Course, IsNextLog, behind, log_of, logs, orders, reads, text, text_of}
 use Rattle.site_run.specs.Starts.{started_of}
 
 -- Logs.
@@ -48,3 +50,23 @@ text_more c done t =
 
 pub orders_more : (c : Course) (done : List Turn) (t : Turn) → orders c (done ++ t ∷ []) ≡ orders c done ++ started_of (log_of (behind c done) t).orders
 orders_more c done t = orders_both c done (t ∷ []) ∙ ap (λ os. orders c done ++ os) (append-nil (started_of (log_of (behind c done) t).orders))
+
+-- The logs of one caller's turns are those of a run.
+
+pub logs_more : (c : Course) (done : List Turn) (t : Turn) → AreLogsOf 1 c done (logs c done) → IsNextLog 1 c done (logs c done) t (log_of (behind c done) t) → AreLogsOf 1 c (done ++ t ∷ []) (logs c (done ++ t ∷ []))
+logs_more c done t are is =
+    subst₂ (IsRunFrom c.basis 1 c.stage) (sym (reads_both c done (t ∷ []))) (sym (logs_both c done (t ∷ [])))
+    (is_joined c.basis 1 c.stage (reads c done) (reads c (t ∷ [])) (logs c done) (log_of (behind c done) t ∷ []) are (is, refl))
+
+first_of : {A : Type 0} (x y : A) → x ∷ [] ≡ y ∷ [] → x ≡ y
+first_of x y e = cc
+
+pub turn_is : (b : Basis) (st : Stage) (t : ReadTurn) (l : TurnLog) → IsTurn b 1 st t l → l ≡ turn_alone b st t
+turn_is b st t l x = first_of l (turn_alone b st t) (only_log b st (t ∷ []) (l ∷ []) (record { someone = omega arith; turns = (x, refl) }))
+
+-- and no others are
+pub logs_are : (c : Course) (ts : List Turn) (ls : List TurnLog) → AreLogsOf 1 c ts ls → ls ≡ logs c ts
+logs_are c ts ls are = only_log c.basis c.stage (reads c ts) ls (record { someone = omega arith; turns = are })
+
+pub log_is : (c : Course) (ts : List Turn) (t : Turn) (l : TurnLog) → IsNextLog 1 c ts (logs c ts) t l → l ≡ log_of (behind c ts) t
+log_is c ts t l is = turn_is c.basis (behind c ts).stage (turn_read c.basis.rules.site t) l is

@@ -4,7 +4,7 @@ use Rattle.std.proofs.lemmas.Bool.{le-ltb, lt-ltb}
 use Rattle.std.proofs.lemmas.List.Folds.{concat-append}
 use Rattle.std.specs.List.{concat, flat_map}
 use Rattle.jiff_tz.specs.declared.tzif.Tzif.{Tzif}
-use Rattle.run_meaning.specs.Runs.{no_entries, start}
+use Rattle.run_meaning.specs.Runs.{TurnLog, no_entries, start}
 use Rattle.run_text.specs.LogText.{first_lines, log_text, turn_lines}
 use Rattle.run_text.specs.declared.style.Style.{Style}
 use Rattle.run_text.proofs.ReadLaws.{turns_are_read}
@@ -57,7 +57,7 @@ module _ (style : Style) (limit : ℕ) (s : PlainSite) (names : HasNames s) (zon
   abbrev whole : List Turn → Whole
   whole came = record { text = log_text style s (logs c (take limit came)); ends = end_of (nat_lt limit (length came)) }
 
-  is_log : (came : List Turn) → IsLog style limit s came (whole came)
+  is_log : (came : List Turn) → IsLog 1 style limit s came (whole came)
   is_log came = record {
     logs = logs c (take limit came);
     are = record {
@@ -74,10 +74,10 @@ module _ (style : Style) (limit : ℕ) (s : PlainSite) (names : HasNames s) (zon
   text_is : (came : List Turn) → (whole came).text ≡ concat (first_lines style) ++ text c (take limit came)
   text_is came = concat-append (first_lines style) (flat_map (turn_lines style s) (logs c (take limit came)))
 
-  answers : (turns : Option (List Turn)) (came : List Turn) → Came turns came → AnswersWorld style limit turns s (whole came)
+  answers : (turns : Option (List Turn)) (came : List Turn) → Came turns came → AnswersWorld 1 style limit turns s (whole came)
   answers turns came told = record { came = came; told = told; log = is_log came }
 
-  one : (x : Status) (turns : Option (List Turn)) (came : List Turn) (o n : Option (List ℕ)) → Came turns came → EndsWhole x (whole came) o n → EndsOne x (AnswersWorld style limit turns s) o n
+  one : (x : Status) (turns : Option (List Turn)) (came : List Turn) (o n : Option (List ℕ)) → Came turns came → EndsWhole x (whole came) o n → EndsOne x (AnswersWorld 1 style limit turns s) o n
   one x turns came o n told e = (whole came, answers turns came told, e)
 
   -- in what stands before the first turn
@@ -86,13 +86,13 @@ module _ (style : Style) (limit : ℕ) (s : PlainSite) (names : HasNames s) (zon
       let some = some_came turns in
       (some.0, some.1, subst (λ xs. AddsPart xs o n) (sym (text_is some.0)) (part_longer (concat (first_lines style)) (text c (take limit some.0)) o n p))
 
-  pub first_written : (x : Status) (old new : Outside) → IsAtFirst x style old new → EndsRun x (AnswersWorld style limit old.turns s) old.written new.written
+  pub first_written : (x : Status) (old new : Outside) → IsAtFirst x style old new → EndsRun x (AnswersWorld 1 style limit old.turns s) old.written new.written
   first_written x old new p =
       let more = adds_part p.at.part p.at.rest old.written new.written p.at.at.written in
       let w = first_part old.turns old.written new.written (subst (λ xs. AddsPart xs old.written new.written) (sym p.at.are) more) in
       elim p.cause [
-        | inl e ↦ subst (λ y. EndsRun y (AnswersWorld style limit old.turns s) old.written new.written) (sym e) (one status.WriteFault old.turns w.0 old.written new.written w.1 w.2)
-        | inr e ↦ subst (λ y. EndsRun y (AnswersWorld style limit old.turns s) old.written new.written) (sym e) (inr (one status.OutOfMemory old.turns w.0 old.written new.written w.1 w.2))
+        | inl e ↦ subst (λ y. EndsRun y (AnswersWorld 1 style limit old.turns s) old.written new.written) (sym e) (one status.WriteFault old.turns w.0 old.written new.written w.1 w.2)
+        | inr e ↦ subst (λ y. EndsRun y (AnswersWorld 1 style limit old.turns s) old.written new.written) (sym e) (inr (one status.OutOfMemory old.turns w.0 old.written new.written w.1 w.2))
       ]
 
   -- over turns
@@ -103,7 +103,7 @@ module _ (style : Style) (limit : ℕ) (s : PlainSite) (names : HasNames s) (zon
     part_written : AddsPart (text c (take limit came)) m n → AddsPart (whole came).text o n
     part_written p = subst (λ xs. AddsPart xs o n) (sym (text_is came)) (part_behind (concat (first_lines style)) (text c (take limit came)) o m n first p)
 
-    over : (x : Status) → (x ≡ status.Diagnosed → ⊥) → (x ≡ status.Usage → ⊥) → (x ≡ status.ReadFault → ⊥) → WritesOf x c limit came m n → EndsRun x (AnswersWorld style limit turns s) o n
+    over : (x : Status) → (x ≡ status.Diagnosed → ⊥) → (x ≡ status.Usage → ⊥) → (x ≡ status.ReadFault → ⊥) → WritesOf x c limit came m n → EndsRun x (AnswersWorld 1 style limit turns s) o n
     over status.Done d u r w = one status.Done turns came o n told (ap end_of (le-ltb limit (length came) w.0), all_written w.1)
     over status.TurnsSpent d u r w = one status.TurnsSpent turns came o n told (ap end_of (lt-ltb limit (length came) w.0), all_written w.1)
     over status.WriteFault d u r w = one status.WriteFault turns came o n told (part_written w)
@@ -114,17 +114,17 @@ module _ (style : Style) (limit : ℕ) (s : PlainSite) (names : HasNames s) (zon
     over status.ReadFault d u r w = absurd (r refl)
 
 -- a run ends with none of these
-pub never : (c : Course) (limit : ℕ) (stands : List Turn → Type 0) (old new : Outside) (x : Status) → Ends x c limit stands old new → (x ≡ status.Diagnosed → ⊥) × (x ≡ status.Usage → ⊥) × (x ≡ status.ReadFault → ⊥)
+pub never : (c : Course) (limit : ℕ) (stands : List Turn → List TurnLog → Type 0) (old new : Outside) (x : Status) → Ends x 1 c limit stands old new → (x ≡ status.Diagnosed → ⊥) × (x ≡ status.Usage → ⊥) × (x ≡ status.ReadFault → ⊥)
 never c limit stands old new x e = (
-  λ is. (subst (λ y. Ends y c limit stands old new) is e).ends,
-  λ is. (subst (λ y. Ends y c limit stands old new) is e).ends,
-  λ is. (subst (λ y. Ends y c limit stands old new) is e).ends,
+  λ is. (subst (λ y. Ends y 1 c limit stands old new) is e).ends,
+  λ is. (subst (λ y. Ends y 1 c limit stands old new) is e).ends,
+  λ is. (subst (λ y. Ends y 1 c limit stands old new) is e).ends,
 )
 
-pub over_written : (style : Style) (limit : ℕ) (s : PlainSite) (names : HasNames s) (x : Status) (old new : Outside) → IsOverTurns x style limit s old new → EndsRun x (AnswersWorld style limit old.turns s) old.written new.written
+pub over_written : (style : Style) (limit : ℕ) (s : PlainSite) (names : HasNames s) (x : Status) (old new : Outside) → IsOverTurns x 1 style limit s old new → EndsRun x (AnswersWorld 1 style limit old.turns s) old.written new.written
 over_written style limit s names x old new p =
-    let t = tells_of (course_from_start s p.zone style) limit p.begun new x (λ _. Unit {0}) p.ends in
-    let none = never (course_from_start s p.zone style) limit (λ _. Unit {0}) p.begun new x p.ends in
+    let t = tells_of (course_from_start s p.zone style) limit p.begun new x (λ _ _. Unit {0}) p.ends in
+    let none = never (course_from_start s p.zone style) limit (λ _ _. Unit {0}) p.begun new x p.ends in
     over style limit s names p.zone p.is_zone old.turns old.written p.begun.written new.written p.first.written t.came (subst (λ turns. Came turns t.came) (nothing_taken old.turns p.begun.turns p.first.turns) t.told) x none.0 none.1 none.2 t.written
 
 -- the run of an engine before its first turn
@@ -133,14 +133,14 @@ from_start r site style same begin = λ i. record { basis = basis_of_site (site_
 
 -- it is over turns once what stands before the first one is written
 pub over_turns : (x : Status) (style : Style) (limit : ℕ) (r : Running) (site : Site) (turns : Option (List Turn)) (started : Option (List Order)) (w v : Option (List ℕ)) (new : Outside) → r.site ≡ site → IsZoneOf (site_view site).zone r.zone
-    → stage_of r [] ≡ start (site_view site) (no_entries (site_view site)) → Adds (concat (first_lines style)) w v → Ends x (course_alone r [] style) limit (λ _. Unit {0}) (outside turns started v) new
-    → IsOverTurns x style limit (site_view site) (outside turns started w) new
+    → stage_of r [] ≡ start (site_view site) (no_entries (site_view site)) → Adds (concat (first_lines style)) w v → Ends x 1 (course_alone r [] style) limit (λ _ _. Unit {0}) (outside turns started v) new
+    → IsOverTurns x 1 style limit (site_view site) (outside turns started w) new
 over_turns x style limit r site turns started w v new same zone begin first ends = record {
   zone = r.zone;
   is_zone = zone;
   begun = outside turns started v;
   first = record { turns = takes_none turns; written = first; started = adds_none started };
-  ends = subst (λ c. Ends x c limit (λ _. Unit {0}) (outside turns started v) new) (from_start r site style same begin) ends;
+  ends = subst (λ c. Ends x 1 c limit (λ _ _. Unit {0}) (outside turns started v) new) (from_start r site style same begin) ends;
 }
 
 -- and before that at first

@@ -1,13 +1,14 @@
 -- Where a turn stops.
-use Rattle.std.proofs.Common.{◌≡◌, ◌≢◌, ◌≤◌, ℕ, List, [], ◌++◌, length, Option, Some, None, Result, Ok, Err, IfErr, OnErr, inl, inr, refl, sym, ap, ◌∙◌, subst}
+use Rattle.std.proofs.Common.{◌≡◌, ◌≢◌, ◌≤◌, ℕ, List, [], ◌++◌, length, Option, Some, None, Result, Ok, Err, IfErr, OnErr, OnOk, inl, inr, refl, sym, ap, ◌∙◌, subst}
 use Rattle.std.specs.Prelude.{IsErrAnd}
+use Rattle.run_meaning.specs.Runs.{TurnLog}
 use Rattle.site_edge.specs.Lists.{Adds, AddsPart}
 use Rattle.site_edge.specs.declared.order.Order.{Order}
 use Rattle.site_edge.specs.declared.sink_fault.SinkFault.{SinkFault}
 use Rattle.site_edge.specs.declared.sink_fault.SinkFault.TheVariants as sink
 use Rattle.site_edge.specs.declared.turn.Turn.{Turn}
 use Rattle.site_run.specs.Courses.{Course}
-use Rattle.site_run.specs.Ends.{Ends, IsPartStarted, IsPartWritten, Outside, StopsIn, Takes, ended, outside}
+use Rattle.site_run.specs.Ends.{Ends, IsPartStarted, IsPartWritten, Outside, StopsIn, Takes, TakesTurn, ended, outside}
 use Rattle.site_run.specs.Stops.{status_of, stop_of_sink}
 use Rattle.site_run.specs.declared.status.Status.{Status}
 use Rattle.site_run.specs.declared.stop.Stop.{Stop}
@@ -19,9 +20,25 @@ pub stops_by : (r : Result (Unit {0}) Stop) (why : Stop) (text : List ℕ) (os :
 stops_by (Ok x) why text os o n e p = tt
 stops_by (Err x) why text os o n e p = subst (λ y. StopsIn y text os o n) (sym e) p
 
-pub ended_by : (r : Result Status Stop) (why : Stop) (c : Course) (limit : ℕ) (stands : List Turn → Type 0) (o n : Outside) → IsErrAnd r (λ x. x ≡ why) → Ends (status_of why) c limit stands o n → Ends (ended r) c limit stands o n
-ended_by (Ok x) why c limit stands o n e p = absurd e
-ended_by (Err x) why c limit stands o n e p = subst (λ y. Ends (status_of y) c limit stands o n) (sym e) p
+pub ended_by : (r : Result Status Stop) (why : Stop) (callers : ℕ) (c : Course) (limit : ℕ) (stands : List Turn → List TurnLog → Type 0) (o n : Outside) → IsErrAnd r (λ x. x ≡ why) → Ends (status_of why) callers c limit stands o n
+    → Ends (ended r) callers c limit stands o n
+ended_by (Ok x) why callers c limit stands o n e p = absurd e
+ended_by (Err x) why callers c limit stands o n e p = subst (λ y. Ends (status_of y) callers c limit stands o n) (sym e) p
+
+-- whether a turn was taken
+pub takes_by : (r : Result (Unit {0}) Stop) (why : Stop) (Is : Type 0) (o n : Outside) → IsErrAnd r (λ x. x ≡ why) → TakesTurn why Is o n → IfErr r (λ x. TakesTurn x Is o n)
+takes_by (Ok x) why Is o n e p = tt
+takes_by (Err x) why Is o n e p = subst (λ y. TakesTurn y Is o n) (sym e) p
+
+pub any_taken : (r : Result (Unit {0}) Stop) (Is : Type 0) (o n : Outside) → Is → IfErr r (λ x. TakesTurn x Is o n)
+any_taken (Ok x) Is o n is = tt
+any_taken (Err stop.Sink) Is o n is = is
+any_taken (Err stop.World) Is o n is = is
+any_taken (Err stop.OutOfMemory) Is o n is = inr is
+
+pub on_any : (Is : Type 0) (r : Result (Unit {0}) Stop) → Is → OnOk r Is
+on_any Is (Ok x) is = is
+on_any Is (Err x) is = tt
 
 -- before anything is written
 pub nothing_written : (text : List ℕ) (o : Outside) → IsPartWritten [] [] text [] o o

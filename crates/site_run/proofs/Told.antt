@@ -1,16 +1,17 @@
 -- What a run writes and starts of the turns that come to it.
 use Rattle.std.proofs.Common.{◌≡◌, ◌+◌, ◌<◌, ◌≤◌, ℕ, zero, suc, List, [], ◌∷◌, ◌++◌, length, take, Option, Some, None, inl, inr, refl, sym, ap, ◌∙◌, subst, arith, append_assoc, length-append}
 use Rattle.std.proofs.lemmas.List.{append-nil}
+use Rattle.run_meaning.specs.Runs.{TurnLog}
 use Rattle.site_edge.specs.Lists.{Adds, AddsPart}
 use Rattle.site_edge.specs.declared.order.Order.{Order}
 use Rattle.site_edge.specs.declared.turn.Turn.{Turn}
-use Rattle.site_run.specs.Courses.{Course, behind, log_of, orders, text, text_of}
-use Rattle.site_run.specs.Ends.{Came, Ends, EndsBehind, IsBefore, IsBetween, IsInLines, IsInOrders, NoneLeft, Outside, Takes, TellsOf, WritesOf}
+use Rattle.site_run.specs.Courses.{Course, behind, log_of, logs, orders, text, text_of}
+use Rattle.site_run.specs.Ends.{Came, Ends, EndsBehind, InLog, IsAt, IsBefore, IsBetween, IsInLines, IsInOrders, NoneLeft, Outside, Takes, TellsOf, WritesOf}
 use Rattle.site_run.specs.Starts.{started_of}
 use Rattle.site_run.specs.declared.status.Status.{Status}
 use Rattle.site_run.specs.declared.status.Status.TheVariants as status
 use Rattle.site_run.proofs.Adding.{adds_part}
-use Rattle.site_run.proofs.Going.{orders_both, orders_more, text_both, text_more}
+use Rattle.site_run.proofs.Going.{log_is, logs_are, orders_both, orders_more, text_both, text_more}
 
 -- The turns that came: those that were taken, and those that are left.
 
@@ -82,7 +83,7 @@ module _ (c : Course) (limit : ℕ) where
   -- By the status.
 
   module _ (o n : Outside) where
-    between : (s : Status) (done : List Turn) → length done ≤ limit → IsBetween c done o n
+    between : (s : Status) (done : List Turn) → length done ≤ limit → IsBetween c done (logs c done) o n
         → ((came : List Turn) → AddsPart (text c (take limit came)) o.written n.written → WritesOf s c limit came o.written n.written) → TellsOf s c limit o n
     between s done few x as' =
         let w = coming done o.turns n.turns x.turns in
@@ -93,7 +94,7 @@ module _ (c : Course) (limit : ℕ) where
           started = orders_front done w.left o.started n.started few x.started;
         }
 
-    in_lines : (s : Status) (done : List Turn) (t : Turn) → length done < limit → IsInLines c done t o n
+    in_lines : (s : Status) (done : List Turn) (t : Turn) → length done < limit → IsInLines c done (logs c done) t (log_of (behind c done) t) o n
         → ((came : List Turn) → AddsPart (text c (take limit came)) o.written n.written → WritesOf s c limit came o.written n.written) → TellsOf s c limit o n
     in_lines s done t few x as' =
         let w = coming (done ++ t ∷ []) o.turns n.turns x.at.turns in
@@ -104,18 +105,18 @@ module _ (c : Course) (limit : ℕ) where
           started = orders_before done t w.left o.started n.started few x.at.started;
         }
 
-    in_orders : (s : Status) (done : List Turn) (t : Turn) → length done < limit → IsInOrders c done t o n
+    in_orders : (s : Status) (done : List Turn) (t : Turn) → length done < limit → IsInOrders c done (logs c done) t (log_of (behind c done) t) o n
         → ((came : List Turn) → AddsPart (text c (take limit came)) o.written n.written → WritesOf s c limit came o.written n.written) → TellsOf s c limit o n
     in_orders s done t few x as' =
         let w = coming (done ++ t ∷ []) o.turns n.turns x.at.turns in
         record {
           came = (done ++ t ∷ []) ++ w.left;
           told = w.told;
-          written = as' ((done ++ t ∷ []) ++ w.left) (text_front (done ++ t ∷ []) w.left o.written n.written (one_more done t few) x.at.written);
+          written = as' ((done ++ t ∷ []) ++ w.left) (text_front (done ++ t ∷ []) w.left o.written n.written (one_more done t few) (subst (λ xs. Adds xs o.written n.written) (sym (text_more c done t)) x.at.written));
           started = orders_in done t w.left x.part x.rest o.started n.started few x.are x.at.started;
         }
 
-    whole : (done : List Turn) → length done ≤ limit → IsBetween c done o n → NoneLeft n.turns → TellsOf status.Done c limit o n
+    whole : (done : List Turn) → length done ≤ limit → IsBetween c done (logs c done) o n → NoneLeft n.turns → TellsOf status.Done c limit o n
     whole done few x none =
         let w = coming done o.turns n.turns x.turns in
         let all : done ++ w.left ≡ done = ap (λ left. done ++ left) (w.none none) ∙ append-nil done in
@@ -129,7 +130,7 @@ module _ (c : Course) (limit : ℕ) where
           started = orders_front done w.left o.started n.started few x.started;
         }
 
-    spent : (done : List Turn) (t : Turn) → length done ≡ limit → IsBefore c done t o n → TellsOf status.TurnsSpent c limit o n
+    spent : (done : List Turn) (t : Turn) → length done ≡ limit → IsBefore c done (logs c done) t o n → TellsOf status.TurnsSpent c limit o n
     spent done t all x =
         let w = coming (done ++ t ∷ []) o.turns n.turns x.turns in
         let came = (done ++ t ∷ []) ++ w.left in
@@ -143,19 +144,39 @@ module _ (c : Course) (limit : ℕ) where
           started = prefix (orders c (take limit came)) (orders c done) [] o.started n.started (ap (orders c) first ∙ sym (append-nil (orders c done))) x.started;
         }
 
-    by : (s : Status) (stands : List Turn → Type 0) (d : List Turn) → length d ≤ limit → EndsBehind s c limit stands d o n → TellsOf s c limit o n
+    -- before anything of it
+    before : (s : Status) (done : List Turn) (t : Turn) → length done < limit → IsBefore c done (logs c done) t o n
+        → ((came : List Turn) → AddsPart (text c (take limit came)) o.written n.written → WritesOf s c limit came o.written n.written) → TellsOf s c limit o n
+    before s done t few x as' =
+        in_lines s done t few
+        (record {
+          part = [];
+          rest = text_of (behind c done) (log_of (behind c done) t);
+          are = refl;
+          at = subst (λ w. IsAt (done ++ t ∷ []) w (orders c done) o n) (sym (append-nil (text c done))) x;
+        }) as'
+
+    -- a turn's log is the one of one caller
+    in_log : (d : List Turn) (t : Turn) (Is : TurnLog → Type 0) → InLog 1 c d (logs c d) t Is → Is (log_of (behind c d) t)
+    in_log d t Is x = subst Is (log_is c d t x.0 x.1) x.2
+
+    by : (s : Status) (stands : List Turn → List TurnLog → Type 0) (d : List Turn) → length d ≤ limit → EndsBehind s 1 c limit stands d (logs c d) o n → TellsOf s c limit o n
     by status.Done stands d few x = whole d few x.1 x.2
     by status.TurnsSpent stands d few x = spent d x.1.0 x.0 x.1.1
-    by status.WriteFault stands d few x = in_lines status.WriteFault d x.1.0 x.0 x.1.1 (λ came p. p)
+    by status.WriteFault stands d few (less, (t, x)) = in_lines status.WriteFault d t less (in_log d t _ x) (λ came p. p)
     by status.WorldFault stands d few (inl x) = between status.WorldFault d few x (λ came p. p)
-    by status.WorldFault stands d few (inr x) = in_orders status.WorldFault d x.1.0 x.0 x.1.1 (λ came p. p)
+    by status.WorldFault stands d few (inr (less, (t, x))) = in_orders status.WorldFault d t less (in_log d t _ x) (λ came p. p)
     by status.OutOfMemory stands d few (inl x) = between status.OutOfMemory d few x (λ came p. p)
-    by status.OutOfMemory stands d few (inr (less, (t, inl x))) = in_lines status.OutOfMemory d t less x (λ came p. p)
-    by status.OutOfMemory stands d few (inr (less, (t, inr x))) = in_orders status.OutOfMemory d t less x (λ came p. p)
+    by status.OutOfMemory stands d few (inr (less, (t, inl x))) = before status.OutOfMemory d t less x (λ came p. p)
+    by status.OutOfMemory stands d few (inr (less, (t, inr x))) = either d t less (in_log d t _ x)
+      where
+        either : (d : List Turn) (t : Turn) → length d < limit → IsInLines c d (logs c d) t (log_of (behind c d) t) o n ⊎ IsInOrders c d (logs c d) t (log_of (behind c d) t) o n → TellsOf status.OutOfMemory c limit o n
+        either d t less (inl x) = in_lines status.OutOfMemory d t less x (λ came p. p)
+        either d t less (inr x) = in_orders status.OutOfMemory d t less x (λ came p. p)
     by status.Diagnosed stands d few x = absurd x
     by status.Usage stands d few x = absurd x
     by status.ReadFault stands d few x = absurd x
 
     -- a run tells of the turns that came
-    pub tells_of : (s : Status) (stands : List Turn → Type 0) → Ends s c limit stands o n → TellsOf s c limit o n
-    tells_of s stands e = by s stands e.done e.few e.ends
+    pub tells_of : (s : Status) (stands : List Turn → List TurnLog → Type 0) → Ends s 1 c limit stands o n → TellsOf s c limit o n
+    tells_of s stands e = by s stands e.done e.few (subst (λ ls. EndsBehind s 1 c limit stands e.done ls o n) (logs_are c e.done e.logs e.are) e.ends)

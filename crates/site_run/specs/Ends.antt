@@ -1,11 +1,12 @@
 -- How far a run came when it ends.
 use Rattle.std.specs.Prelude.{◌≡◌, ◌<◌, ◌≤◌, ◌⊎◌, ℕ, List, [], ◌∷◌, ◌++◌, length, take, Option, None, Some, IfSome, MatchOption, false, Result, Ok, Err}
+use Rattle.run_meaning.specs.Runs.{TurnLog}
 use Rattle.site_edge.specs.Lists.{Adds, AddsPart}
 use Rattle.site_edge.specs.declared.order.Order.{Order}
 use Rattle.site_edge.specs.declared.turn.Turn.{Turn}
 use Rattle.turn_engine.specs.Ready.{Held}
 use Rattle.turn_engine.specs.Stages.{stage_of}
-use Rattle.site_run.specs.Courses.{Course, behind, log_of, orders, text, text_of}
+use Rattle.site_run.specs.Courses.{AreLogsOf, Course, IsNextLog, behind_over, orders, orders_over, text, text_of, text_over}
 use Rattle.site_run.specs.Feeds.{Changing, feed_after}
 use Rattle.site_run.specs.Starts.{started_of}
 use Rattle.site_run.specs.Stops.{status_of}
@@ -56,62 +57,76 @@ StopsIn stop.Sink text orders old new = IsPartWritten [] [] text [] old new
 StopsIn stop.World text orders old new = IsPartStarted [] text [] orders old new
 StopsIn stop.OutOfMemory text orders old new = IsPartWritten [] [] text [] old new ⊎ IsPartStarted [] text [] orders old new
 
--- Within a run.
+-- a turn with such a log was taken, unless there was no memory, in which case nothing may have happened
+abbrev pub TakesTurn : Stop → Type 0 → Outside → Outside → Type 0
+TakesTurn stop.Sink Is old new = Is
+TakesTurn stop.World Is old new = Is
+TakesTurn stop.OutOfMemory Is old new = (new ≡ old) ⊎ Is
+
+-- Within a run, behind turns with these logs.
 
 -- between two turns: of those that were taken all is written and started
-abbrev pub IsBetween : Course → List Turn → Outside → Outside → Type 0
-IsBetween c done old new = IsAt done (text c done) (orders c done) old new
+abbrev pub IsBetween : Course → List Turn → List TurnLog → Outside → Outside → Type 0
+IsBetween c done ls old new = IsAt done (text_over c ls) (orders_over ls) old new
 
 -- before a turn: it was taken, and nothing of it is written or started
-abbrev pub IsBefore : Course → List Turn → Turn → Outside → Outside → Type 0
-IsBefore c done t old new = IsAt (done ++ t ∷ []) (text c done) (orders c done) old new
+abbrev pub IsBefore : Course → List Turn → List TurnLog → Turn → Outside → Outside → Type 0
+IsBefore c done ls t old new = IsAt (done ++ t ∷ []) (text_over c ls) (orders_over ls) old new
 
--- in the lines of a turn: the first bytes of its text are written, and nothing of it is started
-abbrev pub IsInLines : Course → List Turn → Turn → Outside → Outside → Type 0
-IsInLines c done t old new =
-    let now = behind c done in IsPartWritten (done ++ t ∷ []) (text c done) (text_of now (log_of now t)) (orders c done) old new
+-- in the lines of a turn with this log: the first bytes of its text are written, and nothing of it is started
+abbrev pub IsInLines : Course → List Turn → List TurnLog → Turn → TurnLog → Outside → Outside → Type 0
+IsInLines c done ls t l old new = IsPartWritten (done ++ t ∷ []) (text_over c ls) (text_of c l) (orders_over ls) old new
 
--- in the orders of a turn: its text is written, and the first of its orders are started
-abbrev pub IsInOrders : Course → List Turn → Turn → Outside → Outside → Type 0
-IsInOrders c done t old new =
-    IsPartStarted (done ++ t ∷ []) (text c (done ++ t ∷ [])) (orders c done) (started_of (log_of (behind c done) t).orders) old new
+-- in the orders of a turn with this log: its text is written, and the first of its orders are started
+abbrev pub IsInOrders : Course → List Turn → List TurnLog → Turn → TurnLog → Outside → Outside → Type 0
+IsInOrders c done ls t l old new = IsPartStarted (done ++ t ∷ []) (text_over c ls ++ text_of c l) (orders_over ls) (started_of l.orders) old new
 
 -- no turn is left, where they are told
 abbrev pub NoneLeft : Option (List Turn) → Type 0
 NoneLeft turns = MatchOption turns (Unit {0}) (λ left. left ≡ [])
 
 -- the engine and its feed stand behind these turns
-pub record Stands {F : Type 0} (c : Course) (after : Changing F) (first : F) (done : List Turn) (engine : Held) (now : F) : Type 0 where
+pub record Stands {F : Type 0} (c : Course) (after : Changing F) (first : F) (done : List Turn) (ls : List TurnLog) (engine : Held) (now : F) : Type 0 where
   pub fresh : engine.spent ≡ false
-  pub stage : stage_of engine.run (behind c done).stage.begun ≡ (behind c done).stage
-  pub feed : now ≡ feed_after after first (behind c done).stage.begun
+  pub stage : stage_of engine.run (behind_over c done ls).stage.begun ≡ (behind_over c done ls).stage
+  pub feed : now ≡ feed_after after first (behind_over c done ls).stage.begun
 
 -- a turn was taken that is one of so many, behind these, and the run is in it so
 abbrev pub InTurn : ℕ → List Turn → (Turn → Type 0) → Type 0
 InTurn limit done Is = (length done < limit) × ((t : Turn) × Is t)
 
+-- the turn has a log, and the run is in it so
+abbrev pub InLog : ℕ → Course → List Turn → List TurnLog → Turn → (TurnLog → Type 0) → Type 0
+InLog callers c done ls t Is = (l : TurnLog) × IsNextLog callers c done ls t l × Is l
+
 -- By the status, where a run of at most so many turns is behind these: after the last turn, where engine and feed stand so; before a turn
 -- more than may be taken; in the lines of a turn; before the next turn is taken, or in the orders of a turn.
-abbrev pub EndsBehind : Status → Course → ℕ → (List Turn → Type 0) → List Turn → Outside → Outside → Type 0
-EndsBehind status.Done c limit stands done old new = stands done × IsBetween c done old new × NoneLeft new.turns
-EndsBehind status.TurnsSpent c limit stands done old new = (length done ≡ limit) × ((t : Turn) × IsBefore c done t old new)
-EndsBehind status.WriteFault c limit stands done old new = InTurn limit done (λ t. IsInLines c done t old new)
-EndsBehind status.WorldFault c limit stands done old new = IsBetween c done old new ⊎ InTurn limit done (λ t. IsInOrders c done t old new)
-EndsBehind status.OutOfMemory c limit stands done old new =
-    IsBetween c done old new ⊎ InTurn limit done (λ t. IsInLines c done t old new ⊎ IsInOrders c done t old new)
-EndsBehind status.Diagnosed c limit stands done old new = ⊥
-EndsBehind status.Usage c limit stands done old new = ⊥
-EndsBehind status.ReadFault c limit stands done old new = ⊥
+abbrev pub EndsBehind : Status → ℕ → Course → ℕ → (List Turn → List TurnLog → Type 0) → List Turn → List TurnLog → Outside → Outside → Type 0
+EndsBehind status.Done callers c limit stands done ls old new = stands done ls × IsBetween c done ls old new × NoneLeft new.turns
+EndsBehind status.TurnsSpent callers c limit stands done ls old new = (length done ≡ limit) × ((t : Turn) × IsBefore c done ls t old new)
+EndsBehind status.WriteFault callers c limit stands done ls old new = InTurn limit done (λ t. InLog callers c done ls t (λ l. IsInLines c done ls t l old new))
+EndsBehind status.WorldFault callers c limit stands done ls old new =
+    IsBetween c done ls old new ⊎ InTurn limit done (λ t. InLog callers c done ls t (λ l. IsInOrders c done ls t l old new))
+EndsBehind status.OutOfMemory callers c limit stands done ls old new =
+    IsBetween c done ls old new
+    ⊎ InTurn limit done (λ t. IsBefore c done ls t old new ⊎ InLog callers c done ls t (λ l. IsInLines c done ls t l old new ⊎ IsInOrders c done ls t l old new))
+EndsBehind status.Diagnosed callers c limit stands done ls old new = ⊥
+EndsBehind status.Usage callers c limit stands done ls old new = ⊥
+EndsBehind status.ReadFault callers c limit stands done ls old new = ⊥
 
--- a run of at most so many turns ended so
-pub record Ends (s : Status) (c : Course) (limit : ℕ) (stands : List Turn → Type 0) (old new : Outside) : Type 0 where
+-- a run of so many callers and of at most so many turns ended so
+pub record Ends (s : Status) (callers : ℕ) (c : Course) (limit : ℕ) (stands : List Turn → List TurnLog → Type 0) (old new : Outside) : Type 0 where
   pub done : List Turn
+  pub logs : List TurnLog
   pub few : length done ≤ limit
-  pub ends : EndsBehind s c limit stands done old new
+  pub are : AreLogsOf callers c done logs
+  pub ends : EndsBehind s callers c limit stands done logs old new
 
 -- the turns that came to a run: those that are told, and else some
 abbrev pub Came : Option (List Turn) → List Turn → Type 0
 Came told came = IfSome told (λ ts. came ≡ ts)
+
+-- Of one caller.
 
 -- what was written of so many of the turns that came, by the status: all, or after a fault a prefix
 abbrev pub WritesOf : Status → Course → ℕ → List Turn → Option (List ℕ) → Option (List ℕ) → Type 0

@@ -19,13 +19,13 @@ use Rattle.site_run.specs.declared.status.Status.TheVariants as status
 
 -- What is written.
 
--- the logs of a run of these turns over a site, as they are read, with one caller
-pub record AreLogs (s : PlainSite) (turns : List Turn) (logs : List TurnLog) : Type 0 where
+-- the logs of a run of these turns over a site, as they are read, with so many callers
+pub record AreLogs (callers : ℕ) (s : PlainSite) (turns : List Turn) (logs : List TurnLog) : Type 0 where
   pub zone : Option Tzif
   pub is_zone : IsZoneOf s.zone zone
   pub reads : List ReadTurn
   pub read : AreTurnsRead s turns reads
-  pub run : IsRun (basis_of_site s zone) 1 (start s (no_entries s)) reads logs
+  pub run : IsRun (basis_of_site s zone) callers (start s (no_entries s)) reads logs
 
 -- what a run writes in which nothing fails, and how it ends
 pub record Whole : Type 0 where
@@ -33,17 +33,17 @@ pub record Whole : Type 0 where
   pub ends : Status
 
 -- the log of the first so many of these turns
-pub record IsLog (style : Style) (limit : ℕ) (s : PlainSite) (turns : List Turn) (w : Whole) : Type 0 where
+pub record IsLog (callers : ℕ) (style : Style) (limit : ℕ) (s : PlainSite) (turns : List Turn) (w : Whole) : Type 0 where
   pub logs : List TurnLog
-  pub are : AreLogs s (take limit turns) logs
+  pub are : AreLogs callers s (take limit turns) logs
   pub text : w.text ≡ log_text style s logs
   pub ends : w.ends ≡ (if nat_lt limit (length turns) then status.TurnsSpent else status.Done)
 
 -- that of the world's turns: of those that are told, and else of some
-pub record AnswersWorld (style : Style) (limit : ℕ) (turns : Option (List Turn)) (s : PlainSite) (w : Whole) : Type 0 where
+pub record AnswersWorld (callers : ℕ) (style : Style) (limit : ℕ) (turns : Option (List Turn)) (s : PlainSite) (w : Whole) : Type 0 where
   pub came : List Turn
   pub told : Came turns came
-  pub log : IsLog style limit s came w
+  pub log : IsLog callers style limit s came w
 
 -- what was written, by the status: all of it where the run ends so where nothing fails, and a prefix after a fault
 abbrev pub EndsWhole : Status → Whole → Option (List ℕ) → Option (List ℕ) → Type 0
@@ -83,12 +83,12 @@ abbrev pub course_from_start : PlainSite → Option Tzif → Style → Course
 course_from_start s zone style = record { basis = basis_of_site s zone; stage = start s (no_entries s); style = style }
 
 -- behind that, over turns
-pub record IsOverTurns (s : Status) (style : Style) (limit : ℕ) (site : PlainSite) (old new : Outside) : Type 0 where
+pub record IsOverTurns (s : Status) (callers : ℕ) (style : Style) (limit : ℕ) (site : PlainSite) (old new : Outside) : Type 0 where
   pub zone : Option Tzif
   pub is_zone : IsZoneOf site.zone zone
   pub begun : Outside
   pub first : IsAt [] (concat (first_lines style)) [] old begun
-  pub ends : Ends s (course_from_start site zone style) limit (λ _. Unit {0}) begun new
+  pub ends : Ends s callers (course_from_start site zone style) limit (λ _ _. Unit {0}) begun new
 
-abbrev pub Went : Status → Style → ℕ → PlainSite → Outside → Outside → Type 0
-Went s style limit site old new = IsNowhere s old new ⊎ (IsAtFirst s style old new ⊎ IsOverTurns s style limit site old new)
+abbrev pub Went : Status → ℕ → Style → ℕ → PlainSite → Outside → Outside → Type 0
+Went s callers style limit site old new = IsNowhere s old new ⊎ (IsAtFirst s style old new ⊎ IsOverTurns s callers style limit site old new)

@@ -37,7 +37,7 @@ pub fn drive_part_one<W: World, S: Sink, F: Feed>(
     requires sound { IsSound (site_view engine.old.run.site) }
     requires made { F.made_for feed.old (site_view engine.old.run.site) }
     ensures ends { let c = course_of engine.old.run [] style F.gives F.after feed.old in
-        Ends result c limit (λ done. Stands c F.after feed.old done engine.new feed.new) (outside (W.turns world.old) (W.started world.old) (S.written out.old)) (outside (W.turns world.new) (W.started world.new) (S.written out.new)) }
+        Ends result 1 c limit (λ done logs. Stands c F.after feed.old done logs engine.new feed.new) (outside (W.turns world.old) (W.started world.old) (S.written out.old)) (outside (W.turns world.new) (W.started world.new) (S.written out.new)) }
     ensures site { result ≡ Status.Done → engine.new.run.site ≡ engine.old.run.site }
     ensures zone { result ≡ Status.Done → engine.new.run.zone ≡ engine.old.run.zone }
     ensures made { result ≡ Status.Done → F.made_for feed.new (site_view engine.old.run.site) }
@@ -68,7 +68,7 @@ pub fn drive_alone<W: World, S: Sink>(
     requires fresh { engine.spent ≡ false }
     requires few { engine.run.turns + limit ≤ 2 ^ 40 }
     requires sound { IsSound (site_view engine.run.site) }
-    ensures ends { Ends result (course_alone engine.run [] style) limit (λ _. Unit {0}) (outside (W.turns world.old) (W.started world.old) (S.written out.old)) (outside (W.turns world.new) (W.started world.new) (S.written out.new)) }
+    ensures ends { Ends result 1 (course_alone engine.run [] style) limit (λ _ _. Unit {0}) (outside (W.turns world.old) (W.started world.old) (S.written out.old)) (outside (W.turns world.new) (W.started world.new) (S.written out.new)) }
     ensures write_fault { result ≡ Status.WriteFault → Rose (S.faults out.old) (S.faults out.new) }
     ensures world_fault { result ≡ Status.WorldFault → Rose (W.faults world.old) (W.faults world.new) }
     ensures calm_sink { S.calm out.old → result ≢ Status.WriteFault }
@@ -89,7 +89,7 @@ pub fn drive_one<W: World, S: Sink>(
     requires fresh { engine.spent ≡ false }
     requires few { engine.run.turns + limit ≤ 2 ^ 40 }
     requires sound { IsSound (site_view engine.run.site) }
-    ensures ends { Ends result (course_alone engine.run [] Style.One) limit (λ _. Unit {0}) (outside (W.turns world.old) (W.started world.old) (S.written out.old)) (outside (W.turns world.new) (W.started world.new) (S.written out.new)) }
+    ensures ends { Ends result 1 (course_alone engine.run [] Style.One) limit (λ _ _. Unit {0}) (outside (W.turns world.old) (W.started world.old) (S.written out.old)) (outside (W.turns world.new) (W.started world.new) (S.written out.new)) }
     ensures write_fault { result ≡ Status.WriteFault → Rose (S.faults out.old) (S.faults out.new) }
     ensures world_fault { result ≡ Status.WorldFault → Rose (W.faults world.old) (W.faults world.new) }
     ensures calm_sink { S.calm out.old → result ≢ Status.WriteFault }
@@ -113,7 +113,7 @@ fn drive_turns<W: World, S: Sink, F: Feed>(
     requires sound { IsSound (site_view engine.old.run.site) }
     requires made { F.made_for feed.old (site_view engine.old.run.site) }
     ensures ends { let c = course_of engine.old.run [] style F.gives F.after feed.old in
-        Ends (ended result) c limit (λ done. Stands c F.after feed.old done engine.new feed.new) (outside (W.turns world.old) (W.started world.old) (S.written out.old)) (outside (W.turns world.new) (W.started world.new) (S.written out.new)) }
+        Ends (ended result) 1 c limit (λ done logs. Stands c F.after feed.old done logs engine.new feed.new) (outside (W.turns world.old) (W.started world.old) (S.written out.old)) (outside (W.turns world.new) (W.started world.new) (S.written out.new)) }
     ensures site { ended result ≡ Status.Done → engine.new.run.site ≡ engine.old.run.site }
     ensures zone { ended result ≡ Status.Done → engine.new.run.zone ≡ engine.old.run.zone }
     ensures made { ended result ≡ Status.Done → F.made_for feed.new (site_view engine.old.run.site) }

@@ -18,7 +18,7 @@ mod turning;
 
 pub use driving::{drive_alone, drive_one, drive_part_one};
 pub use feed::{Feed, NoFeed};
-pub use laws::runs_write_their_text;
+pub use laws::{logs_of_one_caller_are_one, runs_write_their_text};
 pub use logs::write_log;
 pub use script_world::ScriptWorld;
 pub use status::Status;

@@ -38,8 +38,8 @@ pub fn write_log<W: World, S: Sink>(
     requires free { All (λ d. IsOnCycle (site_view site) d → ⊥) (site_view site).depends }
     requires zone { MatchOption (site_view site).zone (Unit {0}) (λ bytes. IsBadFile bytes → ⊥) }
     requires limit { limit ≤ 2 ^ 40 }
-    ensures went { Went result style limit (site_view site) (outside (W.turns world.old) (W.started world.old) (S.written out.old)) (outside (W.turns world.new) (W.started world.new) (S.written out.new)) }
-    ensures written { EndsRun result (AnswersWorld style limit (W.turns world.old) (site_view site)) (S.written out.old) (S.written out.new) }
+    ensures went { Went result 1 style limit (site_view site) (outside (W.turns world.old) (W.started world.old) (S.written out.old)) (outside (W.turns world.new) (W.started world.new) (S.written out.new)) }
+    ensures written { EndsRun result (AnswersWorld 1 style limit (W.turns world.old) (site_view site)) (S.written out.old) (S.written out.new) }
     ensures never_usage { result ≢ Status.Usage }
     ensures no_read_fault { result ≢ Status.ReadFault }
     ensures never_diagnosed { result ≢ Status.Diagnosed }

@@ -6,7 +6,7 @@ ghost use Rattle.run_meaning.specs.Runs.{begun_by};
 ghost use Rattle.run_meaning.specs.Turns.{Begun};
 ghost use Rattle.run_text.specs.LogText.{turn_lines as lines_of_turn};
 ghost use Rattle.turn_engine.specs.Stages.{stage_of};
-ghost use Rattle.site_run.specs.Courses.{behind, course_of, log_of};
+ghost use Rattle.site_run.specs.Courses.{IsNextLog, behind, course_of, log_of};
 ghost use Rattle.site_run.specs.Feeds.{feed_after};
 ghost use Rattle.site_run.specs.Starts.{started_of as started_with};
 
@@ -44,6 +44,8 @@ pub(crate) fn take<F: Feed>(
         IfOk result (λ taken. taken.lines ≡ lines_of_turn style (site_view engine.old.run.site) (log_of (course_of engine.old.run begun style F.gives F.after first) turn)) }
     ensures orders { (begun : List Begun) (first : F) → feed.old ≡ feed_after F.after first begun →
         IfOk result (λ taken. taken.orders.items ≡ started_with (log_of (course_of engine.old.run begun style F.gives F.after first) turn).orders) }
+    ensures turn { (begun : List Begun) (first : F) → feed.old ≡ feed_after F.after first begun →
+        OnOk result (IsNextLog 1 (course_of engine.old.run begun style F.gives F.after first) [] [] turn (log_of (course_of engine.old.run begun style F.gives F.after first) turn)) }
     ensures stage { (begun : List Begun) (first : F) → feed.old ≡ feed_after F.after first begun →
         OnOk result (stage_of engine.new.run (begun_by (stage_of engine.old.run begun) engine.new.run.moment) ≡ (behind (course_of engine.old.run begun style F.gives F.after first) (turn ∷ [])).stage) }
     ensures feed { OnOk result (feed.new ≡ F.after feed.old engine.old.run.histories engine.new.run.moment) }

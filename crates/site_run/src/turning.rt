@@ -7,8 +7,8 @@ ghost use Rattle.site_model.specs.Sound.{IsSound};
 ghost use Rattle.run_meaning.specs.Runs.{begun_by};
 ghost use Rattle.run_meaning.specs.Turns.{Begun};
 ghost use Rattle.turn_engine.specs.Stages.{stage_of};
-ghost use Rattle.site_run.specs.Courses.{behind, course_of, log_of, text_of};
-ghost use Rattle.site_run.specs.Ends.{IsAt, StopsIn, outside};
+ghost use Rattle.site_run.specs.Courses.{IsNextLog, behind, course_of, log_of, text_of};
+ghost use Rattle.site_run.specs.Ends.{IsAt, StopsIn, TakesTurn, outside};
 ghost use Rattle.site_run.specs.Feeds.{feed_after};
 ghost use Rattle.site_run.specs.Starts.{started_of};
 
@@ -40,6 +40,11 @@ pub(crate) fn drive_turn<W: World, S: Sink, F: Feed>(
     ensures stops { (begun : List Begun) (first : F) → feed.old ≡ feed_after F.after first begun →
         let c = course_of engine.old.run begun style F.gives F.after first in
         IfErr result (λ stop. StopsIn stop (text_of c (log_of c turn)) (started_of (log_of c turn).orders) (outside (W.turns world.old) (W.started world.old) (S.written out.old)) (outside (W.turns world.new) (W.started world.new) (S.written out.new))) }
+    ensures turn { (begun : List Begun) (first : F) → feed.old ≡ feed_after F.after first begun →
+        OnOk result (IsNextLog 1 (course_of engine.old.run begun style F.gives F.after first) [] [] turn (log_of (course_of engine.old.run begun style F.gives F.after first) turn)) }
+    ensures taken { (begun : List Begun) (first : F) → feed.old ≡ feed_after F.after first begun →
+        let c = course_of engine.old.run begun style F.gives F.after first in
+        IfErr result (λ stop. TakesTurn stop (IsNextLog 1 c [] [] turn (log_of c turn)) (outside (W.turns world.old) (W.started world.old) (S.written out.old)) (outside (W.turns world.new) (W.started world.new) (S.written out.new))) }
     ensures stage { (begun : List Begun) (first : F) → feed.old ≡ feed_after F.after first begun →
         OnOk result (stage_of engine.new.run (begun_by (stage_of engine.old.run begun) engine.new.run.moment) ≡ (behind (course_of engine.old.run begun style F.gives F.after first) (turn ∷ [])).stage) }
     ensures feed { OnOk result (feed.new ≡ F.after feed.old engine.old.run.histories engine.new.run.moment) }

@@ -14,7 +14,7 @@ returns-in-Ok-clause-written g c =
     let turns = c.in-Ok.turns in
     let s = site_view c.args.site in
     let has : Has c.args.bytes (told turns) = search rules in
-    ended_as c.write_log.result (AnswersWorld c.args.style most_turns (Some turns) s)
+    ended_as c.write_log.result (AnswersWorld 1 c.args.style most_turns (Some turns) s)
     (AnswersBytes c.args.style c.args.script.now s (Some c.args.bytes)) (g.S.Sink.written c.args.out.now) (g.S.Sink.written c.write_log.new.out)
     (λ w is. (told turns, has, script_log c.args.style s turns (Some turns) w refl is))
     (search rules)

@@ -1,6 +1,6 @@
 -- A turn more is done, or the run stops in it.
 use Rattle.std.proofs.Common.{◌≡◌, ◌+◌, ◌<◌, ◌≤◌, List, [], Some, refl, ap, ◌∙◌, subst, arith}
-use Rattle.run_meaning.specs.Runs.{Stage}
+use Rattle.run_meaning.specs.Runs.{Stage, TurnLog}
 use Rattle.site_edge.specs.Lists.{TakesFirst}
 use Rattle.site_edge.specs.declared.turn.Turn.{Turn}
 use Rattle.site_model.specs.PlainSite.{site_view}
@@ -24,10 +24,10 @@ returns-in_err-drive_turn-clause-ends g c =
     let new = outside (g.W.World.turns c.drive_turn.new.world) (g.W.World.started c.drive_turn.new.world) (g.S.Sink.written c.drive_turn.new.out) in
     let more : l.counter < c.args.limit = c.loop-test.true in
     let one = subst (TakesFirst now.turns taken.turns) c.in-Some.is c.in_ok-turn.ensures.ok in
-    let stands : List Turn → Type 0 = λ done. Stands course g.F.Feed.after first done c.drive_turn.new.engine c.drive_turn.new.feed in
-    ended_by c.from_residual-in_err-drive_turn.result c.in_err-drive_turn.field-0.0 course c.args.limit stands old new c.from_residual-in_err-drive_turn.ensures.1
+    let stands : List Turn → List TurnLog → Type 0 = λ done logs. Stands course g.F.Feed.after first done logs c.drive_turn.new.engine c.drive_turn.new.feed in
+    ended_by c.from_residual-in_err-drive_turn.result c.in_err-drive_turn.field-0.0 1 course c.args.limit stands old new c.from_residual-in_err-drive_turn.ensures.1
     (stops c.args.engine.now.run c.args.style g.F.Feed.gives g.F.Feed.after first l.counter c.args.limit l.engine l.feed old now (omega (arith, more)) v.way c.in-Some.turn taken v.site v.zone more one c.next.ensures.same refl
-    c.in_err-drive_turn.field-0.0 stands new (c.in_err-drive_turn.ensures.stops begun first v.way.stands.feed))
+    c.in_err-drive_turn.field-0.0 stands new (c.in_err-drive_turn.ensures.stops begun first v.way.stands.feed) (c.in_err-drive_turn.ensures.taken begun first v.way.stands.feed))
 
 pub loop-preserved : goal.loop-preserved
 loop-preserved g c =
@@ -54,7 +54,7 @@ loop-preserved g c =
     record {
       way =
           goes_on c.args.engine.now.run c.args.style g.F.Feed.gives g.F.Feed.after first l.counter c.args.limit l.engine l.feed old now (omega (arith, more)) v.way c.in-Some.turn taken v.site v.zone more one c.next.ensures.same refl
-          new c.drive_turn.new.engine c.drive_turn.new.feed (e.goes begun first v.way.stands.feed) e.fresh stage e.feed;
+          new c.drive_turn.new.engine c.drive_turn.new.feed (e.goes begun first v.way.stands.feed) (e.turn begun first v.way.stands.feed) e.fresh stage e.feed;
       turns = omega (arith, one_turn, turns);
       site = e.site ∙ v.site;
       zone = e.zone ∙ v.zone;

@@ -12,7 +12,7 @@ use Rattle.turn_engine.specs.Stages.{basis_of_site, stage_of}
 use Rattle.turn_engine.proofs.Turning.{later_books}
 use Rattle.site_run.specs.Feeds.{AreBooksFor}
 use Rattle.site_run.specs.Starts.{started_of}
-use Rattle.site_run.proofs.Fed.{log_fed, stage_fed}
+use Rattle.site_run.proofs.Fed.{log_fed, stage_fed, turn_fed}
 use Rattle.site_run.proofs.taking.take.Goals as goal
 
 pub lines-requires : goal.lines-requires
@@ -39,6 +39,7 @@ turn_lines-requires-clause-turn g c =
     subst (λ (x : Site). IsTurnOf (site_view x) c.in_ok-out.out) (sym (c.site.ensures ∙ c.in_ok-out.ensures.site))
     (record {
       zone = r.zone;
+      callers = 1;
       stage = stage_of r [];
       turn = c.in_ok-turn.turn;
       log = turn_alone (basis_of_site s r.zone) (stage_of r []) (turn_read s c.in_ok-turn.turn);
@@ -64,6 +65,13 @@ returns-clause-orders g c = λ begun first now.
     c.in_ok-orders.ensures
     ∙ ap started_of (c.in_ok-out.ensures.tells begun).ordered
     ∙ ap (λ (l : TurnLog). started_of l.orders) (log_fed s r.zone g.F.Feed.gives g.F.Feed.after first c.args.feed.now (stage_of r begun) c.args.turn c.in_ok-turn.turn c.in_ok-fed.fed.items now given c.in_ok-turn.ensures (c.in_ok-out.ensures.turn begun))
+
+pub returns-clause-turn : goal.returns-clause-turn
+returns-clause-turn g c = λ begun first now.
+    let r = c.args.engine.now.run in
+    let s = site_view r.site in
+    let given : c.in_ok-fed.fed.items ≡ g.F.Feed.gives c.args.feed.now r.histories (max r.moment c.args.turn.moment) = c.in_ok-fed.ensures.lines ∙ ap (λ h. g.F.Feed.gives c.args.feed.now h c.later_of-moment.result) c.books.ensures.entries ∙ ap (g.F.Feed.gives c.args.feed.now r.histories) (c.later_of-moment.ensures ∙ ap (λ n. max n c.args.turn.moment) c.moment.ensures) in
+    turn_fed s r.zone g.F.Feed.gives g.F.Feed.after first c.args.feed.now (stage_of r begun) c.args.turn c.in_ok-turn.turn c.in_ok-fed.fed.items now given c.in_ok-turn.ensures (c.in_ok-out.ensures.turn begun)
 
 pub returns-clause-stage : goal.returns-clause-stage
 returns-clause-stage g c = λ begun first now.
