@@ -9,7 +9,7 @@
 # The first argument is a built icinga_site to take, the second how many seconds each lasts in place of 120.
 set -eu
 top=$(cd "$(dirname "$(readlink -f "${BASH_SOURCE[0]}")")/.." && pwd)
-program=${1:-$top/bin/icinga_site}
+program=${1:-$("$top/bin/program")}
 seconds=${2:-120}
 work=$(mktemp -d)
 trap 'umount "$work/disk" 2>/dev/null || true; rm -rf "$work"' EXIT

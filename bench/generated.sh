@@ -4,7 +4,7 @@
 # hosts aren't those that were worked out apart from the program. An argument is a built icinga_site to take.
 set -eu
 top=$(cd "$(dirname "$(readlink -f "${BASH_SOURCE[0]}")")/.." && pwd)
-program=${1:-$top/bin/icinga_site}
+program=${1:-$("$top/bin/program")}
 work=$(mktemp -d)
 trap 'rm -rf "$work"' EXIT
 

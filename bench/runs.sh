@@ -11,7 +11,7 @@
 # as long. An argument is a built icinga_site to take.
 set -eu
 top=$(cd "$(dirname "$(readlink -f "${BASH_SOURCE[0]}")")/.." && pwd)
-program=${1:-$top/bin/icinga_site}
+program=${1:-$("$top/bin/program")}
 work=$(mktemp -d)
 trap 'rm -rf "$work"' EXIT
 

@@ -5,7 +5,7 @@ set -eu
 top=$(cd "$(dirname "$(readlink -f "${BASH_SOURCE[0]}")")/.." && pwd)
 work=$(mktemp -d)
 trap 'rm -rf "$work"' EXIT
-"$top/bin/icinga_site" --version >/dev/null
+program=$("$top/bin/program")
 
 # a site of so many files and hosts a file
 make_site() {
@@ -25,13 +25,13 @@ make_site() {
 
 # one file of almost 4 MiB
 make_site "$work/one" 1 37500
-/usr/bin/time -f '%U %S' -o "$work/time" taskset -c 0 "$top/bin/icinga_site" objects "$work/one/icinga2.conf" >"$work/out"
+/usr/bin/time -f '%U %S' -o "$work/time" taskset -c 0 "$program" objects "$work/one/icinga2.conf" >"$work/out"
 awk -v b="$(cat "$work/one"/*.conf "$work/one"/conf.d/* | wc -c)" '{ printf "one file, %.1f MB: %.2f s, %.0f ns a byte\n", b / 1e6, $1 + $2, ($1 + $2) / b * 1e9 }' "$work/time"
 
 for files in 25 50 100 200; do
     make_site "$work/$files" "$files" 860
     bytes=$(cat "$work/$files"/*.conf "$work/$files"/conf.d/* | wc -c)
-    /usr/bin/time -f '%e %M' -o "$work/time" taskset -c 0 "$top/bin/icinga_site" objects "$work/$files/icinga2.conf" >"$work/out"
+    /usr/bin/time -f '%e %M' -o "$work/time" taskset -c 0 "$program" objects "$work/$files/icinga2.conf" >"$work/out"
     read -r seconds memory <"$work/time"
     lines=$(wc -l <"$work/out")
     awk -v f="$files" -v b="$bytes" -v s="$seconds" -v m="$memory" -v l="$lines" \

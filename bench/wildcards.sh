@@ -6,14 +6,14 @@ set -eu
 top=$(cd "$(dirname "$(readlink -f "${BASH_SOURCE[0]}")")/.." && pwd)
 work=$(mktemp -d)
 trap 'rm -rf "$work"' EXIT
-"$top/bin/icinga_site" --version >/dev/null
+program=$("$top/bin/program")
 (cd "$work" && seq -f 'file%.0f.conf' 9800 | xargs touch)
 
 # the seconds that lines of this form take, where `@` stands for the line's number
 measure() {
     local lines=$1 form=$2
     awk -v n="$lines" -v form="$form" 'BEGIN { for (i = 0; i < n; i++) { line = form; gsub("@", i, line); print line } }' >"$work/root"
-    (cd "$work" && /usr/bin/time -f '%e %M' -o "$work.time" taskset -c 0 "$top/bin/icinga_site" objects root >/dev/null)
+    (cd "$work" && /usr/bin/time -f '%e %M' -o "$work.time" taskset -c 0 "$program" objects root >/dev/null)
     awk -v n="$lines" -v form="$form" '{ printf "%d lines %s %.2f s, %.0f MB\n", n, form, $1, $2 / 1024 }' "$work.time"
     rm -f "$work.time"
 }
