@@ -1,15 +1,15 @@
 #!/usr/bin/env bash
-# Times evaluations on one core, as rows of eval_cases whose loops have so many turns: additions, reads of a global and of a local,
+# Times evaluations on one core, as rows of inner_cases whose loops have so many turns: additions, reads of a global and of a local,
 # calls of a function of one parameter, and the condition `host.vars.os == "Linux"`. The time of an empty loop of as many turns is taken off all
 # but the additions. Wanted: 1,000,000 additions below 0.3 s, a read below 50 ns, a call below 300 ns, a condition below 1 us, and less than
-# 2.3 times as long for twice as many. An argument is a built eval_cases to take in place of a new one.
+# 2.3 times as long for twice as many. An argument is a built inner_cases to take in place of a new one.
 set -eu
 top=$(cd "$(dirname "${BASH_SOURCE[0]}")/.." && pwd)
 work=$(mktemp -d)
 trap 'rm -rf "$work"' EXIT
 
-program=${1:-$top/crates/eval_cases/out/eval_cases}
-[ $# = 1 ] || (cd "$top/crates/eval_cases" && rt run >"$work/log" 2>&1 </dev/null) || true
+program=${1:-$top/crates/inner_cases/out/inner_cases}
+[ $# = 1 ] || (cd "$top/crates/inner_cases" && rt run >"$work/log" 2>&1 </dev/null) || true
 [ -x "$program" ] || { cat "$work/log" >&2; exit 1; }
 
 # run BEFORE COUNT TURN: the seconds of a body with these statements and a loop of so many turns, the least of five runs

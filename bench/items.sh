@@ -4,18 +4,30 @@
 set -eu
 . "$(dirname "${BASH_SOURCE[0]}")/program.sh"
 
-build_program "$(sed -n 's/^item_cases: //p' "$(dirname "${BASH_SOURCE[0]}")/../crates.txt")" <<'RATTLE'
+# how a site is read and loaded is as it is in the rows
+cases=$top/crates/inner_cases
+bench=$work/repository/crates/bench_program
+mkdir -p "$bench"/{src,proofs}
+cp "$cases"/src/{items,scene,shown,walked}.rt "$bench/src/"
+cp -r "$cases"/proofs/. "$bench/proofs/"
+rm -rf "$bench/proofs/bodies"
+find "$bench" -name '*.antt' -exec sed -i 's/Rattle\.inner_cases/Rattle.bench_program/' {} +
+
+build_program "$(sed -n 's/^inner_cases: //p' "$top/crates.txt")" <<'RATTLE'
 //! Runs an item as many times as the line on standard input says, and prints how many objects came of it.
 #![tactic(auto)]
-ghost use Rattle.std.specs.Prelude.{IsTrue};
-ghost use Rattle.eval_work.specs.Kept.{PairsNamed};
 ghost use Rattle.item_body.specs.Lawful.{IsRunnable};
 
-use case_loads::{NoAnswer, Scene, are_named, is_lawful, scene_of, view_over};
-use dsl_load::LoadParts;
-use dsl_value::Store;
-use eval_work::{Item, WorldView};
+mod items;
+mod scene;
+mod shown;
+mod walked;
+
+use dsl_load::eval_files;
+use eval_work::{Item, Stop, WorldView};
 use item_body::{ItemAnswer, run_item};
+use items::{last_item, view_over};
+use scene::{Scene, scene_of};
 use std::alloc::Global;
 use std::io::Read;
 
@@ -23,60 +35,37 @@ const ROW: &str = "template Host \"t\" { max_check_attempts = 3; check_interval 
     object Host \"h\" { import \"t\"; check_command = \"hostalive\"; address = \"192.0.2.1\"; display_name = \"Host \" + name; \
     notes = \"a note\"; enable_flapping = true; vars.os = \"Linux\" }";
 
-fn loaded(alloc: Global) -> Result<(Scene, LoadParts), NoAnswer> {
-    let scene = scene_of(alloc, ROW)?;
-    let parts = scene.load(alloc)?;
-    Ok((scene, parts))
-}
-
-/// Whether what an item captured is there.
-fn is_captured(store: &Store, item: &Item) -> bool
-    ensures { IsTrue result → PairsNamed store.now item.now.captured.items }
+/// How many objects so many runs of an item make.
+fn made_of(alloc: Global, view: &WorldView, item: &Item, count: u64) -> u64
+    requires { IsRunnable view.now item.now }
 {
-    are_named(store, &item.captured)
-}
-
-/// Whether an item can be run over a view.
-fn is_runnable(view: &WorldView, item: &Item) -> bool
-    ensures { IsTrue result → IsRunnable view.now item.now }
-{
-    is_lawful(view) && is_captured(view.store, item)
-}
-
-/// Whether an item comes to an object.
-fn is_made(alloc: Global, view: &WorldView, item: &Item) -> bool {
-    if !is_runnable(view, item) {
-        return false;
-    }
-    match run_item(alloc, view, item) {
-        Ok(ItemAnswer::Made(_)) => true,
-        _ => false,
-    }
-}
-
-/// How many objects so many runs of each item make.
-fn made(alloc: Global, scene: &Scene, parts: &LoadParts, count: u64) -> u64 {
-    let view = view_over(parts, scene);
     let mut made: u64 = 0;
     for _ in 0..count {
-        for item in &parts.items {
-            if is_made(alloc, &view, item) {
-                made = made.saturating_add(1);
-            }
+        if let Ok(ItemAnswer::Made(_)) = run_item(alloc, view, item) {
+            made = made.saturating_add(1);
         }
     }
     made
+}
+
+/// How many objects so many runs of the last item of a site make.
+fn made(alloc: Global, scene: &Scene, count: u64) -> Result<u64, Stop> {
+    let mut parts = eval_files(alloc, &scene.files, &scene.order)?;
+    let Some(item) = last_item(&mut parts) else {
+        return Ok(0);
+    };
+    let view = view_over(&parts, scene);
+    Ok(made_of(alloc, &view, &item, count))
 }
 
 fn main(rt: HostRuntime) -> anyhow::Result<()> {
     let mut line = String::new(rt.alloc());
     rt.reader().read_to_string(&mut line)?;
     let count = line.trim().parse::<u64>().unwrap_or(0);
-    let Ok((scene, parts)) = loaded(rt.alloc()) else {
-        return Ok(());
-    };
-    let made = made(rt.alloc(), &scene, &parts, count);
-    println!(rt; "{made} objects")?;
+    if let Some(scene) = scene_of(rt.alloc(), ROW)? {
+        let made = made(rt.alloc(), &scene, count).unwrap_or(0);
+        println!(rt; "{made} objects")?;
+    }
     Ok(())
 }
 RATTLE

@@ -1,19 +1,19 @@
 #!/usr/bin/env bash
-# Times `union`, `intersection` and the difference of two arrays of so many numbers, as rows of item_cases; the time of a row that makes the
-# arrays alone is taken off. An argument is a built item_cases to take in place of a new one. Wanted: at 100,000 each below 0.1 s, and less than 2.3 times as long for twice as many.
+# Times `union`, `intersection` and the difference of two arrays of so many numbers, as rows of inner_cases; the time of a row that makes the
+# arrays alone is taken off. An argument is a built inner_cases to take in place of a new one. Wanted: at 100,000 each below 0.1 s, and less than 2.3 times as long for twice as many.
 set -eu
 top=$(cd "$(dirname "${BASH_SOURCE[0]}")/.." && pwd)
 work=$(mktemp -d)
 trap 'rm -rf "$work"' EXIT
 
-program=${1:-$top/crates/item_cases/out/item_cases}
-[ $# = 1 ] || (cd "$top/crates/item_cases" && rt run >"$work/log" 2>&1 </dev/null) || true
+program=${1:-$top/crates/inner_cases/out/inner_cases}
+[ $# = 1 ] || (cd "$top/crates/inner_cases" && rt run >"$work/log" 2>&1 </dev/null) || true
 [ -x "$program" ] || { cat "$work/log" >&2; exit 1; }
 
 # run COUNT EXPRESSION: the milliseconds of twenty rows with two arrays `a` and `b` of so many numbers, the least of five runs
 run() {
     for _ in 1 2 3 4 5 6 7 8 9 10 11 12 13 14 15 16 17 18 19 20; do
-        printf 'items object User "u" { var a = range(%s); var b = range(%s); vars.n = %s }\n' "$1" "$1" "$2"
+        printf 'item object User "u" { var a = range(%s); var b = range(%s); vars.n = %s }\n' "$1" "$1" "$2"
     done >"$work/rows"
     for _ in 1 2 3 4 5; do
         /usr/bin/time -f '%U %S' -o "$work/time" taskset -c 0 "$program" <"$work/rows" >"$work/told"

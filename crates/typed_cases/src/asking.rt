@@ -1,5 +1,4 @@
 // What a row asks for.
-use crate::faults::push_faults;
 use crate::given::{Given, PERIODS_BEFORE, USERS_BEFORE, given_by};
 use crate::lists::{push_checkables, push_depends, push_notifies, push_users};
 use crate::periods::push_periods;
@@ -10,7 +9,7 @@ use site_model::Site;
 use site_phases::{Answer, last_phases};
 use std::alloc::Global;
 
-/// What the word of a row asks of the site of its objects, or what is wrong with these.
+/// What the word of a row asks of the site of its objects.
 pub(crate) fn answer(alloc: Global, word: &str, row: &str) -> Result<Text, OutOfMemory> {
     let Some(Given { objects, globals }) = given_by(alloc, word == "alone", row)? else {
         return Text::copy_of(alloc, "no objects");
@@ -22,7 +21,7 @@ pub(crate) fn answer(alloc: Global, word: &str, row: &str) -> Result<Text, OutOf
     let mut out = Text::new(alloc);
     match last_phases(alloc, files, objects, globals)? {
         Answer::Site(site) => push_asked(&mut out, word, &site)?,
-        Answer::Diags { files, list } => push_faults(&mut out, &files, list.as_slice())?,
+        Answer::Diags { .. } => out.push_str("no site")?,
     }
     Ok(out)
 }

@@ -1,14 +1,13 @@
-//! Reads rows from standard input, and writes each with the typed site of its objects, or with what is wrong with them.
+//! Reads rows from standard input, and writes each with the typed site of its objects.
 //!
 //! The head of the file `stdin` says what a row is. Empty lines and those that begin with `#` are written as they are, so
 //! that line N of the output is of line N of the input.
 //!
 //! In reading order: the objects and globals of a row (`given`), words and numbers (`words`), filters (`filters`), what stands in the
-//! lists of a site (`lists`) and its periods (`periods`), the site as a whole (`whole`), diagnostics (`faults`), and the answer (`asking`).
+//! lists of a site (`lists`) and its periods (`periods`), the site as a whole (`whole`), and the answer (`asking`).
 #![tactic(auto)]
 
 mod asking;
-mod faults;
 mod filters;
 mod given;
 mod lists;

@@ -1,5 +1,0 @@
-use Rattle.dsl_value.specs.Whole.{NamesAll}
-use Rattle.store_tests.proofs.speed.unsorted_pairs.Given as goal
-
-abbrev pub invariant-loop-number : goal.invariant-loop-number
-invariant-loop-number l = NamesAll 0 0 l.pairs

@@ -1,4 +1,0 @@
-use Rattle.wheel_tests.proofs.speed.an_hour_of_checks_at_once.Given as goal
-
-abbrev pub ghosts-an_hour : goal.ghosts-an_hour
-ghosts-an_hour g a = record { name = a.blank.name; parts = a.blank.parts }
