@@ -38,6 +38,10 @@ impl InputLines {
         })
     }
 
+    pub fn has_ended(&self) -> bool {
+        self.has_ended
+    }
+
     /// Whether the input has ended, and each line of it was taken.
     pub fn is_over(&self) -> bool {
         self.has_ended && self.lines.is_empty()

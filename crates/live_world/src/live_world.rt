@@ -1,5 +1,5 @@
 // The real world.
-ghost use Rattle.std.specs.Prelude.{◌≡◌, ◌≤◌, ◌++◌, ◌∷◌, [], None, OnOk, OnErr, IfOk, IfSome, IsErrOf, IsPermutation};
+ghost use Rattle.std.specs.Prelude.{◌≡◌, ◌≤◌, ◌++◌, ◌∷◌, [], None, OnOk, OnErr, IfOk, IfSome, IsErrOf, IsPermutation, ◌⊎◌};
 ghost use Rattle.site_edge.specs.Told.{Rose};
 ghost use Rattle.live_world.specs.Turns.{IsSecondLater, numbers, reported, ordered, StartsPart};
 
@@ -18,14 +18,19 @@ const TURN: u64 = 1;
 /// The clock, the lines of standard input and check programs. Nothing is told of the turns that they give.
 ///
 /// A turn comes once a second has passed since the last one, and the first once a second has passed since it was asked for. Its
-/// moment is the clock's, in whole seconds. Its lines are those of standard input that ended since the last turn, and the
-/// last one too where the input has ended behind it; its reports are of the orders whose programs ended since. No turn is
-/// left once the input has ended and no order is without its report.
+/// moment is in whole seconds: the clock's, or that of the last turn with what a steady clock has measured since, if that is greater.
+/// So a clock that is set forward and back again doesn't hold up the turns. A clock before 1970 counts as 1970. Once the input has ended,
+/// turns have the moment of the last one, so that nothing more falls due.
 ///
-/// Of a line and of a program's output the first 65,536 bytes are kept. A program that can't be run, or that a signal ends,
-/// is reported with status 3. A program has no time limit.
+/// The lines of a turn are those of standard input that ended since the last turn, and the last one too if the input has ended
+/// after it; its reports are of the orders whose programs ended since. No turn is left once the input has ended and no order is
+/// without its report.
 ///
-/// `next` is `Failed` where the clock or standard input can't be read, and where the clock shows a moment past the last one.
+/// Of a line and of a program's output at most 65,536 bytes are kept, and no part of a character. A program that can't be run, or that a
+/// signal ends, is reported with status 3. If there is no room for one more program, it is tried again until there is. A program has
+/// no time limit.
+///
+/// `next` is `Failed` if the clock or standard input can't be read, and if the clock shows a moment past the greatest one.
 /// `start` is never `Failed`.
 #[derive(Drop)]
 pub struct LiveWorld<T: Threads + Drop> {
@@ -34,6 +39,8 @@ pub struct LiveWorld<T: Threads + Drop> {
     input: InputLines,
     running: Vec<Running>,
     last: Option<Instant>,
+    /// The moment of the last turn.
+    moment: Moment,
     faults: u64,
 }
 
@@ -49,6 +56,7 @@ impl<T: Threads + Drop> LiveWorld<T> {
             input: InputLines::new(alloc)?,
             running: Vec::new(alloc),
             last: None,
+            moment: Moment::of(0).unwrap(),
             faults: 0,
         })
     }
@@ -75,10 +83,11 @@ impl<T: Threads + Drop> LiveWorld<T> {
         let Some(now) = self.await_turn()? else {
             return Ok(None);
         };
-        let moment = self.moment()?;
+        let moment = self.moment_at(now)?;
         let reports = self.take_reports()?;
         let lines = self.input.take();
         self.last = Some(now);
+        self.moment = moment;
         Ok(Some(Turn {
             moment,
             reports,
@@ -109,13 +118,26 @@ impl<T: Threads + Drop> LiveWorld<T> {
         Err(WorldError::Failed)
     }
 
-    /// The clock's moment.
-    fn moment(&self) -> Result<Moment, WorldError> {
-        let now = SystemTime::now(&self.rt).map_err(|_| WorldError::Failed)?;
-        match now.duration_since(UNIX_EPOCH) {
-            Ok(passed) => Moment::of(passed.as_secs()).ok_or(WorldError::Failed),
-            Err(_) => Err(WorldError::Failed),
+    /// The moment of the turn that comes now.
+    fn moment_at(&self, now: Instant) -> Result<Moment, WorldError> {
+        let Some(last) = self.last else {
+            return self.clock();
+        };
+        if self.input.has_ended() {
+            return Ok(self.moment);
         }
+        let passed = now.duration_since(last).as_secs();
+        Ok(greater_of(self.clock()?, self.moment.later(passed)))
+    }
+
+    /// What the clock shows.
+    fn clock(&self) -> Result<Moment, WorldError> {
+        let now = SystemTime::now(&self.rt).map_err(|_| WorldError::Failed)?;
+        let secs = match now.duration_since(UNIX_EPOCH) {
+            Ok(passed) => passed.as_secs(),
+            Err(_) => 0,
+        };
+        Moment::of(secs).ok_or(WorldError::Failed)
     }
 
     /// Takes the reports that are there.
@@ -154,6 +176,15 @@ impl<T: Threads + Drop> LiveWorld<T> {
             .push(Running::start(&self.rt, &self.threads, order)?)?;
         Ok(())
     }
+}
+
+/// The greater of two moments.
+fn greater_of(one: Moment, other: Moment) -> Moment
+    ensures one { one ≤ result }
+    ensures other { other ≤ result }
+    ensures either { (result ≡ one) ⊎ (result ≡ other) }
+{
+    if one < other { other } else { one }
 }
 
 impl<T: Threads + Drop> World for LiveWorld<T> {

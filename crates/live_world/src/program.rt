@@ -7,15 +7,18 @@ use crate::ready::is_ready;
 use site_base::{OutOfMemory, Text};
 use site_edge::{Order, Report};
 use std::alloc::Global;
-use std::io;
 use std::io::{ErrorKind, PipeReader, Read};
 use std::os::fd::AsRawFd;
 use std::os::unix::process::ExitStatusExt;
 use std::process::{Child, Command, ExitStatus, Stdio};
 use std::time::Duration;
+use std::{io, thread};
 
 /// So many seconds a program's output is waited for before it is looked whether the program itself has ended.
 const PATIENCE: u64 = 1;
+
+/// The system has no descriptor left (Linux's number of this error).
+const ENFILE: i32 = 23;
 
 /// A program that was started, with what it writes.
 #[derive(Drop)]
@@ -35,7 +38,7 @@ pub fn report_of(rt: &HostRuntime, order: &Order) -> Result<Report, OutOfMemory>
 {
     let alloc = rt.alloc();
     let mut output = Kept::new(alloc);
-    let status = match started(rt, order.argv.as_slice()) {
+    let status = match started_with_room(rt, order.argv.as_slice()) {
         Ok(program) => ended(alloc, program, &mut output)?,
         Err(error) => {
             let message = format!(in alloc; "can't be run: {error}")?;
@@ -48,6 +51,25 @@ pub fn report_of(rt: &HostRuntime, order: &Order) -> Result<Report, OutOfMemory>
         status,
         output: output.into_blob(),
     })
+}
+
+/// Starts a program. If there is no room for one more, it is tried again until there is: that is no fault of the program.
+fn started_with_room(rt: &HostRuntime, argv: &[Text]) -> io::Result<Program> {
+    for _ in 0..u64::MAX {
+        match started(rt, argv) {
+            Err(error) if wants_room(&error) => thread::sleep(rt, Duration::from_secs(PATIENCE)),
+            answer => return answer,
+        }
+    }
+    started(rt, argv)
+}
+
+/// Whether a start failed for want of descriptors, processes or memory.
+fn wants_room(error: &io::Error) -> bool {
+    match error.raw_os_error() {
+        Some(code) => [libc::EMFILE, ENFILE, libc::EAGAIN, libc::ENOMEM].contains(&code),
+        None => error.kind() == ErrorKind::OutOfMemory,
+    }
 }
 
 /// Starts a program. A name without a slash is looked for in the folders of `PATH`.
@@ -84,7 +106,11 @@ fn ended(alloc: Global, program: Program, kept: &mut Kept) -> Result<u8, OutOfMe
             note_signal(alloc, status, kept)?;
             Ok(report_status(status))
         }
-        Err(_) => Ok(UNKNOWN),
+        Err(error) => {
+            let note = format!(in alloc; "its end can't be known: {error}")?;
+            kept.extend(note.as_bytes())?;
+            Ok(UNKNOWN)
+        }
     }
 }
 
