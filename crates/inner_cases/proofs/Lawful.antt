@@ -1,6 +1,8 @@
 -- What the templates and the items of a load captured names cells and functions of its store.
 use Rattle.std.proofs.Common.{◌≡◌, ℕ, List, [], ◌∷◌, ◌++◌, map, Bool, true, false, cond, Option, Some, None, ap, sym, ◌∙◌, subst}
-use Rattle.std.specs.Prelude.{◌&&◌}
+use Rattle.std.specs.Prelude.{◌&&◌, IfSome}
+use Rattle.std.specs.Option.{option_to_list}
+use Rattle.std.proofs.lemmas.List.{append-nil}
 use Rattle.std.specs.Str.{bytes_eq}
 use Rattle.dsl_value.specs.Contents.{Contents}
 use Rattle.dsl_load.specs.Loads.{IsLoad}
@@ -39,6 +41,10 @@ lawful p l v es et = record {
 }
 
 -- the items in front of the last one, and the last one
-pub parted : (c : Contents) (is : List Item) (i : Item) → ItemsNamed c (is ++ i ∷ []) → ItemsNamed c is × PairsNamed c i.captured.items
-parted c [] i h = (tt, h.0)
-parted c (j ∷ is) i h = let rest = parted c is i h.1 in ((h.0, rest.0), rest.1)
+parted_at : (c : Contents) (is : List Item) (i : Item) → ItemsNamed c (is ++ i ∷ []) → ItemsNamed c is × PairsNamed c i.captured.items
+parted_at c [] i h = (tt, h.0)
+parted_at c (j ∷ is) i h = let rest = parted_at c is i h.1 in ((h.0, rest.0), rest.1)
+
+pub parted : (c : Contents) (is : List Item) (o : Option Item) → ItemsNamed c (is ++ option_to_list o) → ItemsNamed c is × IfSome o (λ i. PairsNamed c i.captured.items)
+parted c is None h = (subst (ItemsNamed c) (append-nil is) h, tt)
+parted c is (Some i) h = parted_at c is i h
