@@ -18,6 +18,9 @@ if [ $# = 0 ]; then
         names+=("${folder##*/}")
     done
 fi
+for name in "${names[@]}"; do
+    [ -d "$top/crates/$name/edits" ] || { echo "bench/edits.sh: there is no crates/$name/edits" >&2; exit 2; }
+done
 work=$(mktemp -d)
 trap 'rm -rf "$work"' EXIT
 mkdir "$work/repository"
@@ -31,7 +34,7 @@ wanted=$(find "$work/repository/crates" -path '*/must-fail/*' -type f | wc -l)
 sed -n 's/^rt: must-fail //p' "$work/log"
 refused=$(grep -c '^rt: must-fail .*: refused, as it must be' "$work/log" || true)
 if [ "$refused" != "$wanted" ]; then
-    grep -E 'NOT PROVED|FAILED|BAD EDIT|NOT TRIED' "$work/log" >&2 || true
+    grep -E '^rt: .*(NOT PROVED|FAILED)' "$work/log" >&2 || true
     echo "bench/edits.sh: of $wanted edits $refused are refused" >&2
     exit 1
 fi

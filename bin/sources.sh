@@ -23,9 +23,12 @@ is_release_of_sources() {
     [ -f "$top/release/SOURCES" ] && [ "$(cat "$top/release/SOURCES")" = "$(sources_sum)" ]
 }
 
-# Whether the program in release/ is the one that its checksum was taken of.
+# Whether the program in release/ is the one that its checksum was taken of; it says so where it isn't.
 is_release_whole() {
-    [ -x "$top/release/icinga_site" ] && (cd "$top/release" && sha256sum --status -c SHA256SUMS 2>/dev/null)
+    if ! [ -x "$top/release/icinga_site" ] || ! (cd "$top/release" && sha256sum --status -c SHA256SUMS 2>/dev/null); then
+        echo "icinga_site: release/icinga_site isn't the program that release/SHA256SUMS names" >&2
+        return 1
+    fi
 }
 
 # lines_below NAME..: writes the lines of crates.txt of these crates and of all that they stand on, in its order.
