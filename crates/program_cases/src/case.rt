@@ -1,7 +1,15 @@
 // Cases: command lines with files and a world in memory, and calls that fail.
-use crate::named::Named;
+use crate::named::{Named, push_bytes};
 use site_base::{Blob, OutOfMemory, Row, Text};
 use std::alloc::Global;
+
+/// What stands behind the expression of a value: two functions and the least number, which it may name.
+const NAMES: &[u8] = b"
+}
+const f = () => null
+const g = () => null
+const least = -9223372036854775.807 - 0.001
+";
 
 /// A command line, the files and the world that it is run over, and the numbers of the calls that fail, from 1.
 #[derive(Drop)]
@@ -19,27 +27,77 @@ pub(crate) struct Case {
 }
 
 impl Case {
-    /// Reads `WORD WORD .. ‖ FILE: TEXT ‖ .. ‖ world: SCRIPT ‖ read 2 fails ‖ ..`.
-    pub(crate) fn read(alloc: Global, named: &Named, row: &str) -> Result<Case, OutOfMemory> {
-        let mut case = Case {
+    fn new(alloc: Global) -> Case {
+        Case {
             words: Vec::new(alloc),
             files: Row::new(alloc),
             reads: Row::new(alloc),
             puts: Row::new(alloc),
             turns: Row::new(alloc),
             world: Blob::new(alloc),
-        };
-        for (i, part) in row.split('‖').enumerate() {
-            if i == 0 {
-                case.add_words(alloc, part)?;
-            } else if let Some((name, text)) = part.split_once(':') {
-                let text = named.whole(alloc, text.trim())?;
-                case.add_text(alloc, name.trim(), text.as_bytes())?;
+        }
+    }
+
+    /// Reads `WORD WORD .. ‖ FILE: TEXT ‖ .. ‖ world: SCRIPT ‖ read 2 fails ‖ ..`.
+    pub(crate) fn read(alloc: Global, named: &Named, row: &str) -> Result<Case, OutOfMemory> {
+        let (words, parts) = row.split_once('‖').unwrap_or((row, ""));
+        let mut case = Case::new(alloc);
+        case.add_words(alloc, words)?;
+        case.add_parts(alloc, named, parts)?;
+        Ok(case)
+    }
+
+    /// Reads `TEXT ‖ FILE: TEXT ‖ ..`: this word over the file `r` with the first text, and `replay` over the script `s`.
+    pub(crate) fn over(
+        alloc: Global,
+        named: &Named,
+        word: &str,
+        row: &str,
+    ) -> Result<Case, OutOfMemory> {
+        let (text, parts) = row.split_once('‖').unwrap_or((row, ""));
+        let mut case = Case::new(alloc);
+        case.add_words(alloc, word)?;
+        case.add_words(alloc, if word == "replay" { "r s" } else { "r" })?;
+        case.add_text(alloc, "r", named.whole(alloc, text.trim())?)?;
+        case.add_parts(alloc, named, parts)?;
+        Ok(case)
+    }
+
+    /// Reads `EXPRESSION ‖ FILE: TEXT ‖ ..`, or `STATEMENTS ▸ EXPRESSION ‖ ..`: the listing of an object whose attribute `r` is
+    /// the expression, behind the statements.
+    pub(crate) fn of_value(alloc: Global, named: &Named, row: &str) -> Result<Case, OutOfMemory> {
+        let (value, parts) = row.split_once('‖').unwrap_or((row, ""));
+        let (statements, expression) = value.split_once('▸').unwrap_or(("", value));
+        let mut text = named.whole(alloc, statements.trim())?;
+        push_bytes(&mut text, b"\nobject Zone \"value\" { r =\n")?;
+        let expression = named.whole(alloc, expression.trim())?;
+        push_bytes(&mut text, expression.as_slice())?;
+        push_bytes(
+            &mut text,
+            if statements.is_empty() {
+                NAMES
             } else {
-                case.add_failing(part.trim())?;
+                b"\n}\n"
+            },
+        )?;
+        let mut case = Case::new(alloc);
+        case.add_words(alloc, "objects r")?;
+        case.add_text(alloc, "r", text)?;
+        case.add_parts(alloc, named, parts)?;
+        Ok(case)
+    }
+
+    /// Adds what stands behind each `‖`.
+    fn add_parts(&mut self, alloc: Global, named: &Named, parts: &str) -> Result<(), OutOfMemory> {
+        for part in parts.split('‖') {
+            if let Some((name, text)) = part.split_once(':') {
+                let text = named.whole(alloc, text.trim())?;
+                self.add_text(alloc, name.trim(), text)?;
+            } else {
+                self.add_failing(part.trim())?;
             }
         }
-        Ok(case)
+        Ok(())
     }
 
     /// Adds the words of a command line; `""` is the empty one.
@@ -52,8 +110,7 @@ impl Case {
     }
 
     /// Adds a file, or takes the script of the world.
-    fn add_text(&mut self, alloc: Global, name: &str, bytes: &[u8]) -> Result<(), OutOfMemory> {
-        let bytes = Blob::copy_of(alloc, bytes)?;
+    fn add_text(&mut self, alloc: Global, name: &str, bytes: Blob) -> Result<(), OutOfMemory> {
         if name == "world" {
             self.world = bytes;
             return Ok(());
@@ -69,7 +126,8 @@ impl Case {
         match call {
             "read" => self.reads.push(number),
             "put" => self.puts.push(number),
-            _ => self.turns.push(number),
+            "turn" => self.turns.push(number),
+            _ => Ok(()),
         }
     }
 }

@@ -1,56 +1,34 @@
-//! Reads rows from standard input, and writes each with what the program gives for it.
+//! Runs the rows of tables, and says which of them the program doesn't answer as they are written.
 //!
-//! A row is a command line, with files and a world in memory and calls that fail, or with files in memory over the real world (the
-//! head of the file `stdin` says how it is written). Each line of the input is written as it is, and behind a row its status, the
-//! lines of its output, and the orders that were started.
+//! Standard input has the names of the tables, which lie in data/: each has the rows of one subject, with the answer that is
+//! wanted right below or behind each row (the head of `data/words.rows` says how rows are written). A row is a command line, with
+//! files and a world in memory and calls that fail, or with files in memory over the real world. For each table a line is
+//! written, `NAME: N rows as written`, and above it each row that has another answer, with that one.
 #![tactic(auto)]
 
 mod case;
 mod named;
 mod outcome;
+mod table;
+mod told;
 
-use crate::case::Case;
-use crate::named::Named;
-use crate::outcome::{push_live, push_outcome, push_statuses};
-use site_base::{OutOfMemory, Text};
+use crate::table::run_table;
+use site_edge::{DiskFiles, Files};
 use std::io::{BufRead, BufReader};
-use std::thread::Threads;
 
 fn main(rt: HostRuntime) -> anyhow::Result<()> {
-    // The whole table is read first: over the real world standard input has then ended.
-    let mut lines = Vec::new(rt.alloc());
+    // All names are read first: over the real world standard input has then ended.
+    let mut names = Vec::new(rt.alloc());
     for line in BufReader::new(rt.alloc(), rt.reader())?.lines(rt.alloc()) {
-        lines.push(line?)?;
+        names.push(line?)?;
     }
-    let mut named = Named::new(rt.alloc());
-    for line in lines.as_slice() {
-        let told = told(&rt, rt.clone()?, &mut named, line.as_str())?;
-        println!(rt; "{}", told.as_str())?;
+    let threads = rt.clone()?;
+    let mut files = DiskFiles::new(&rt);
+    for name in names.as_slice() {
+        match files.read(name.as_str()) {
+            Ok(Some(text)) => run_table(&rt, &threads, name.as_str(), text.as_slice())?,
+            _ => println!(rt; "{}: can't be read", name.as_str())?,
+        }
     }
     Ok(())
-}
-
-/// The line, with what the program gives if it is a row.
-fn told<T: Threads + Drop>(
-    rt: &HostRuntime,
-    threads: T,
-    named: &mut Named,
-    line: &str,
-) -> Result<Text, OutOfMemory> {
-    let alloc = rt.alloc();
-    let mut out = Text::copy_of(alloc, line)?;
-    if let Some(row) = line.strip_prefix("run") {
-        push_outcome(alloc, &mut out, Case::read(alloc, named, row)?)?;
-    } else if let Some(row) = line.strip_prefix("live ") {
-        push_live(rt, threads, &mut out, Case::read(alloc, named, row)?)?;
-    } else if let Some(definition) = line.strip_prefix("text ") {
-        named.define(alloc, definition)?;
-    } else if let Some(more) = line.strip_prefix("| ") {
-        named.add_line(alloc, more)?;
-    } else if line == "statuses" {
-        push_statuses(&mut out)?;
-    } else if !line.is_empty() && !line.starts_with('#') {
-        out.push_str("  →  no such line")?;
-    }
-    Ok(out)
 }

@@ -1,12 +1,12 @@
 // Texts that rows name.
-use site_base::{OutOfMemory, Text};
+use site_base::{Blob, OutOfMemory, Text};
 use std::alloc::Global;
 
 /// A text under a name.
 #[derive(Drop)]
 struct NamedText {
     name: Text,
-    text: Text,
+    text: Blob,
 }
 
 /// The texts that were defined so far.
@@ -37,16 +37,16 @@ impl Named {
     pub(crate) fn add_line(&mut self, alloc: Global, line: &str) -> Result<(), OutOfMemory> {
         let more = self.whole(alloc, line)?;
         if let Some(last) = self.texts.last_mut() {
-            last.text.push_str(more.as_str())?;
-            last.text.push('\n')?;
+            push_bytes(&mut last.text, more.as_slice())?;
+            last.text.push(b'\n')?;
         }
         Ok(())
     }
 
-    /// What a text of the table stands for: `⟨NAME⟩` is the text of that name, `⟨3 ab⟩` is `ababab`, and `⏎`, `␍`, `␉` and
-    /// `␣` are a newline, a carriage return, a tab and a space.
-    pub(crate) fn whole(&self, alloc: Global, text: &str) -> Result<Text, OutOfMemory> {
-        let mut out = Text::new(alloc);
+    /// What a text of the table stands for: `⟨NAME⟩` is the text of that name, `⟨3 ab⟩` is `ababab`, `⟨#ff⟩` is the byte of these
+    /// hexadecimal digits, and `⏎`, `␍`, `␉` and `␣` are a newline, a carriage return, a tab and a space.
+    pub(crate) fn whole(&self, alloc: Global, text: &str) -> Result<Blob, OutOfMemory> {
+        let mut out = Blob::new(alloc);
         for piece in text.split('⟨') {
             match piece.split_once('⟩') {
                 Some((part, tail)) => {
@@ -60,7 +60,10 @@ impl Named {
     }
 
     /// Adds what stands between `⟨` and `⟩`.
-    fn push_part(&self, out: &mut Text, part: &str) -> Result<(), OutOfMemory> {
+    fn push_part(&self, out: &mut Blob, part: &str) -> Result<(), OutOfMemory> {
+        if let Some(digits) = part.strip_prefix('#') {
+            return out.push(u8::from_str_radix(digits, 16).unwrap_or(0));
+        }
         if let Some((times, repeated)) = part.split_once(' ') {
             for _ in 0..times.parse::<u32>().unwrap_or(0) {
                 push_characters(out, repeated)?;
@@ -69,22 +72,29 @@ impl Named {
         }
         for named in &self.texts {
             if named.name.as_str() == part {
-                return out.push_str(named.text.as_str());
+                return push_bytes(out, named.text.as_slice());
             }
         }
-        out.push_str("no such text")
+        push_bytes(out, b"no such text")
     }
 }
 
-fn push_characters(out: &mut Text, text: &str) -> Result<(), OutOfMemory> {
+fn push_characters(out: &mut Blob, text: &str) -> Result<(), OutOfMemory> {
     for c in text.chars() {
-        out.push(match c {
-            '⏎' => '\n',
-            '␍' => '\r',
-            '␉' => '\t',
-            '␣' => ' ',
-            c => c,
-        })?;
+        match c {
+            '⏎' => out.push(b'\n')?,
+            '␍' => out.push(b'\r')?,
+            '␉' => out.push(b'\t')?,
+            '␣' => out.push(b' ')?,
+            c => push_bytes(out, c.encode_utf8(&mut [0; 4]).as_bytes())?,
+        }
+    }
+    Ok(())
+}
+
+pub(crate) fn push_bytes(out: &mut Blob, bytes: &[u8]) -> Result<(), OutOfMemory> {
+    for byte in bytes {
+        out.push(*byte)?;
     }
     Ok(())
 }

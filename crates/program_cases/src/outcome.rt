@@ -9,6 +9,9 @@ use std::alloc::Global;
 use std::str;
 use std::thread::Threads;
 
+/// How the line of an object ends that isn't to be written with a short row.
+const SILENT: &str = "\"vars\":{\"silent\":true}}";
+
 /// Runs the program as a case says, and adds the status and, each on a line of its own, the lines of the output and the orders that
 /// were started.
 pub(crate) fn push_outcome(alloc: Global, out: &mut Text, case: Case) -> Result<(), OutOfMemory> {
@@ -31,9 +34,9 @@ pub(crate) fn push_outcome(alloc: Global, out: &mut Text, case: Case) -> Result<
 }
 
 /// Runs the program as a case says, but over the clock, standard input and check programs, and adds the status and the lines.
-pub(crate) fn push_live<T: Threads + Drop>(
+pub(crate) fn push_live<T: Threads + Clone + Drop>(
     rt: &HostRuntime,
-    threads: T,
+    threads: &T,
     out: &mut Text,
     case: Case,
 ) -> Result<(), OutOfMemory> {
@@ -45,7 +48,7 @@ pub(crate) fn push_live<T: Threads + Drop>(
         turns: _,
         world: _,
     } = case;
-    let mut world = LiveWorld::new(rt.clone()?, threads)?;
+    let mut world = LiveWorld::new(rt.clone()?, threads.clone()?)?;
     push_answer(rt.alloc(), out, &words, files, reads, puts, &mut world)
 }
 
@@ -69,6 +72,64 @@ fn push_answer<W: World>(
     match str::from_utf8(sink.written()) {
         Ok(text) => push_lines(out, text),
         Err(_) => out.push_str("\n  no text"),
+    }
+}
+
+/// Runs the program as a case says, and adds what it writes: one line behind the row, or more lines below it. The status stands
+/// before them where it is neither `Done` nor `Diagnosed`.
+pub(crate) fn push_short(alloc: Global, out: &mut Text, case: Case) -> Result<(), OutOfMemory> {
+    let Case {
+        words,
+        files,
+        reads,
+        puts,
+        turns,
+        world: _,
+    } = case;
+    let mut world = MemWorld::new(alloc, Row::new(alloc), turns);
+    let mut files = MemFiles::new(alloc, files, reads);
+    let mut sink = MemSink::new(alloc, puts);
+    out.push_str("  →")?;
+    match run_one(alloc, &words, &mut files, &mut world, &mut sink) {
+        Some(Status::Done | Status::Diagnosed) | None => {}
+        Some(status) => {
+            out.push_str("  ")?;
+            push_status(out, status)?;
+        }
+    }
+    match str::from_utf8(sink.written()) {
+        Ok(text) => push_brief(out, text),
+        Err(_) => out.push_str("\n  no text"),
+    }
+}
+
+/// Adds one line behind the row, and more lines below it, without the objects that are to be silent.
+fn push_brief(out: &mut Text, text: &str) -> Result<(), OutOfMemory> {
+    let mut told = 0_u64;
+    for line in text.split('\n') {
+        if is_told(line) {
+            told = told.saturating_add(1);
+        }
+    }
+    for line in text.split('\n') {
+        if is_told(line) {
+            out.push_str(if told == 1 { "  " } else { "\n  " })?;
+            out.push_str(if told == 1 { value_in(line) } else { line })?;
+        }
+    }
+    Ok(())
+}
+
+/// Whether a line is written with a short row.
+fn is_told(line: &str) -> bool {
+    !line.is_empty() && !line.ends_with(SILENT)
+}
+
+/// The value of the attribute `r`, where a line is that of the object `value`, and else the line.
+fn value_in(line: &str) -> &str {
+    match line.strip_prefix("Zone \"value\" {\"name\":\"value\",\"r\":") {
+        Some(value) => value.strip_suffix('}').unwrap_or(value),
+        None => line,
     }
 }
 

@@ -1,2 +1,0 @@
-pub mod OnSite
-pub mod Empty
