@@ -12,13 +12,12 @@ use Rattle.run_meaning.proofs.Lists.{get_front, length_from_on}
 use Rattle.run_meaning.specs.Reachability.{ancestors, host_in, is_above, parents_of}
 use Rattle.run_meaning.specs.Turns.{from_on, of_index}
 use Rattle.depend_graph.specs.Cycles.{IsOnCycle}
-use Rattle.depend_graph.specs.Graph.{AreParentsFirst, HasOrder}
-use Rattle.depend_graph.specs.Order.{by_length, gathered}
+use Rattle.depend_graph.specs.Graph.{HasOrder}
 use Rattle.depend_graph.specs.Parents.{has, given, HasParents, IsAbove}
 use Rattle.depend_graph.specs.Search.{AreAllAbove}
 use Rattle.depend_graph.proofs.Above.{above_parent, above_up, first_step, parent_above}
 use Rattle.depend_graph.proofs.Ancestors.{ancestor_in, has_filter, in_range, range_has}
-use Rattle.depend_graph.proofs.Gathering.{all_there, gathered_filter, only_these, range_rises, rises, rising_distinct}
+use Rattle.depend_graph.proofs.Rising.{range_rises, rising_same}
 use Rattle.depend_graph.proofs.Has.{false_from, has_at, never_both, place_of, same_tests, stands_at}
 use Rattle.depend_graph.proofs.Rows.{row_beyond}
 
@@ -208,65 +207,28 @@ filter_all (x ∷ xs) = ap suc (filter_all xs)
 
 -- The lists of a graph.
 
-module _ (s : PlainSite) (found below : List (List ℕ)) (many : length found ≡ length s.checkables) (above : AreAllAbove s found)
-    (turned : (c : ℕ) → of_index c below ≡ gathered found c (from_on 0 (length s.checkables))) where
-  found_once : (k : ℕ) → AreDistinct (of_index k found)
-  found_once k = by (cases_lt k (length s.checkables))
-    where
-      by : (k < length s.checkables) ⊎ (length s.checkables ≤ k) → AreDistinct (of_index k found)
-      by (inl l) = (above.above k l).once
-      by (inr g) = subst AreDistinct (sym (row_beyond found k (omega (arith, g, many)))) (λ i j d l h. absurd (omega (arith, h)))
-
-  pub below_is : (p : ℕ) → of_index p below ≡ filter (λ c. has p (of_index c found)) (from_on 0 (length s.checkables))
-  below_is p = turned p ∙ gathered_filter found p (from_on 0 (length s.checkables)) found_once
-
-  pub below_once : (p : ℕ) → AreDistinct (of_index p below)
-  below_once p =
-      subst AreDistinct (sym (below_is p)) (rising_distinct (filter (λ c. has p (of_index c found)) (from_on 0 (length s.checkables)))
-      (AllPairs-filter (λ j k. j < k) (λ c. has p (of_index c found)) (from_on 0 (length s.checkables)) (range_rises 0 (length s.checkables))))
-
-module _ (s : PlainSite) (sound : HasParents s) (found below ancs : List (List ℕ)) (many : length found ≡ length s.checkables) (above : AreAllAbove s found)
-    (turned : (c : ℕ) → of_index c below ≡ gathered found c (from_on 0 (length s.checkables)))
-    (back : (c : ℕ) → of_index c ancs ≡ gathered below c (from_on 0 (length s.checkables))) where
+module _ (s : PlainSite) (sound : HasParents s) (ancs : List (List ℕ)) (above : AreAllAbove s ancs) (rising : (c : ℕ) → AllPairs (λ j k. j < k) (of_index c ancs)) where
   abbrev all : List ℕ
   all = from_on 0 (length s.checkables)
 
-  turned_is : (p : ℕ) → of_index p below ≡ filter (λ c. has p (of_index c found)) all
-  turned_is = below_is s found below many above turned
-
-  turned_once : (p : ℕ) → AreDistinct (of_index p below)
-  turned_once = below_once s found below many above turned
-
   -- whether one stands above another, by the lists
   abbrev stands : ℕ → ℕ → Bool
-  stands c p = has c (of_index p below)
-
-  pub ancs_is : (c : ℕ) → of_index c ancs ≡ filter (stands c) all
-  ancs_is c = back c ∙ gathered_filter below c all turned_once
+  stands c p = has p (of_index c ancs)
 
   in_all : (n : ℕ) → n < length s.checkables → has n all ≡ true
   in_all n l = range_has 0 (length s.checkables) n (omega arith) (omega (arith, l))
 
   stands_above : (c p : ℕ) → c < length s.checkables → stands c p ≡ true → IsAbove s c p
-  stands_above c p l h =
-      let both = and_parts (has c all) (has p (of_index c found)) (sym (has_filter (λ c. has p (of_index c found)) all c) ∙ ap (has c) (sym (turned_is p)) ∙ h) in
-      ((above.above c l).above p).0 both.1
+  stands_above c p l h = ((above.above c l).above p).0 h
 
   above_stands : (c p : ℕ) → c < length s.checkables → IsAbove s c p → stands c p ≡ true
-  above_stands c p l h =
-      ap (has c) (turned_is p) ∙ has_filter (λ c. has p (of_index c found)) all c
-      ∙ and_from (has c all) (has p (of_index c found)) (in_all c l) (((above.above c l).above p).1 h)
+  above_stands c p l h = ((above.above c l).above p).1 h
 
-  pub row_above : (c p : ℕ) → c < length s.checkables → has p (of_index c ancs) ≡ true → IsAbove s c p
-  row_above c p l h = stands_above c p l (and_parts (has p all) (stands c p) (sym (has_filter (stands c) all p) ∙ ap (has p) (sym (ancs_is c)) ∙ h)).1
-
-  pub above_row : (c p : ℕ) → c < length s.checkables → IsAbove s c p → has p (of_index c ancs) ≡ true
-  above_row c p l h =
-      ap (has p) (ancs_is c) ∙ has_filter (stands c) all p
-      ∙ and_from (has p all) (stands c p) (in_all p (above_in s sound h.0 p c h.1)) (above_stands c p l h)
-
-  pub row_rises : (c : ℕ) → AllPairs (λ j k. j < k) (of_index c ancs)
-  row_rises c = subst (AllPairs (λ j k. j < k)) (sym (ancs_is c)) (AllPairs-filter (λ j k. j < k) (stands c) all (range_rises 0 (length s.checkables)))
+  ancs_is : (c : ℕ) → c < length s.checkables → of_index c ancs ≡ filter (stands c) all
+  ancs_is c l = rising_same (of_index c ancs) (filter (stands c) all) (rising c) (AllPairs-filter (λ j k. j < k) (stands c) all (range_rises 0 (length s.checkables))) (λ p.
+      same_tests (stands c p) (has p (filter (stands c) all))
+      (λ h. let a = stands_above c p l h in has_filter (stands c) all p ∙ and_from (has p all) (stands c p) (in_all p (above_in s sound a.0 p c a.1)) h)
+      (λ h. (and_parts (has p all) (stands c p) (sym (has_filter (stands c) all p) ∙ h)).1))
 
   module _ (free : All (λ (d : DependSpec). ¬ IsOnCycle s d) s.depends) where
     abbrev rank : ℕ → ℕ
@@ -281,14 +243,14 @@ module _ (s : PlainSite) (sound : HasParents s) (found below ancs : List (List �
         let h = filter_fewer (stands q) (stands c) all q
         (λ p h. above_stands c p l (let a = stands_above q p inside h in (suc a.0, above_parent s a.0 p c q up a.1)))
         (in_all q inside) (not_self q inside) (above_stands c q l (parent_above s c q up)) in
-        let e = ap length (ancs_is q) in
-        let f = ap length (ancs_is c) in
+        let e = ap length (ancs_is q inside) in
+        let f = ap length (ancs_is c l) in
         omega (arith, h, e, f)
 
     pub rank_small : (c : ℕ) → c < length s.checkables → rank c < length s.checkables
     rank_small c l =
         let h = filter_fewer (stands c) (λ _. true) all c (λ p h. refl) (in_all c l) (not_self c l) refl in
-        let e = ap length (ancs_is c) in
+        let e = ap length (ancs_is c l) in
         let f = filter_all all in
         let g = length_from_on 0 (length s.checkables) in
         omega (arith, h, e, f, g)
@@ -311,15 +273,15 @@ module _ (s : PlainSite) (sound : HasParents s) (found below ancs : List (List �
 
     pub ancs_are : (c : ℕ) → c < length s.checkables → of_index c ancs ≡ ancestors s c
     ancs_are c l =
-        ancs_is c ∙ filter_agree (stands c) (λ p. is_above s (length s.checkables) p c)
+        ancs_is c l ∙ filter_agree (stands c) (λ p. is_above s (length s.checkables) p c)
         (λ p. same_tests (stands c p) (is_above s (length s.checkables) p c)
         (λ h. let a = stands_above c p l h in short a.0 p c (length s.checkables) l (let r = rank_small c l in omega (arith, r)) a.1)
         (λ h. above_stands c p l (length s.checkables, h))) all
 
     pub ordered : HasOrder s
     ordered = record {
-      parents = λ c q l up. ap (has q) (sym (ancs_are c l)) ∙ above_row c q l (parent_above s c q up);
-      further = λ c p q l h up. ap (has q) (sym (ancs_are c l)) ∙ above_row c q l (above_up s c p q (row_above c p l (ap (has p) (ancs_are c l) ∙ h)) up);
+      parents = λ c q l up. ap (has q) (sym (ancs_are c l)) ∙ above_stands c q l (parent_above s c q up);
+      further = λ c p q l h up. ap (has q) (sym (ancs_are c l)) ∙ above_stands c q l (above_up s c p q (stands_above c p l (ap (has p) (ancs_are c l) ∙ h)) up);
       fewer = λ c q l up.
           let h = rank_falls c q l up in
           let e = ap length (ancs_are q (parent_in s sound c q up)) in
@@ -327,36 +289,3 @@ module _ (s : PlainSite) (sound : HasParents s) (found below ancs : List (List �
           omega (arith, h, e, f);
       few = λ c l. let h = rank_small c l in let e = ap length (ancs_are c l) in omega (arith, h, e);
     }
-
-    abbrev first : List ℕ
-    first = by_length ancs (length s.checkables) all
-
-    -- in the order of lengths parents come first
-    pub parents_first : (order : List (List ℕ)) (c : ℕ) → c < length s.checkables → of_index c order ≡ gathered below c (by_length ancs (length s.checkables) all) → AreParentsFirst s c (of_index c order)
-    parents_first order c l is = record { same = same; rising = rising }
-      where
-        here : of_index c order ≡ filter (stands c) first
-        here = is ∙ gathered_filter below c first turned_once
-
-        in_first : (p : ℕ) → has p first ≡ has p all
-        in_first p = same_tests (has p first) (has p all) (only_these ancs 0 (length s.checkables) all p) (λ h.
-            let r = in_range 0 (length s.checkables) p h in
-            let q = r.1 in
-            let small = rank_small p (omega (arith, q)) in
-            all_there ancs 0 (length s.checkables) all p h (omega arith) (omega (arith, small)))
-
-        same : (p : ℕ) → has p (of_index c order) ≡ has p (ancestors s c)
-        same p =
-            ap (has p) here ∙ has_filter (stands c) first p ∙ ap (λ t. t && stands c p) (in_first p)
-            ∙ sym (has_filter (stands c) all p) ∙ ap (has p) (sym (ancs_is c) ∙ ancs_are c l)
-
-        inside : (i d : ℕ) → i < length (of_index c order) → get_or (of_index c order) i d < length s.checkables
-        inside i d h = let p = get_or (of_index c order) i d in ancestor_in s c p (sym (same p) ∙ stands_at p (of_index c order) i d h refl)
-
-        rising : AllPairs (λ p q. length (ancestors s p) ≤ length (ancestors s q)) (of_index c order)
-        rising i j d h k =
-            let up = subst (AllPairs (λ p q. rank p ≤ rank q)) (sym here) (AllPairs-filter (λ p q. rank p ≤ rank q) (stands c) first (rises ancs 0 (length s.checkables) all)) in
-            let r = up i j d h k in
-            let e = ap length (ancs_are (get_or (of_index c order) i d) (inside i d (omega (arith, h, k)))) in
-            let f = ap length (ancs_are (get_or (of_index c order) j d) (inside j d k)) in
-            omega (arith, r, e, f)

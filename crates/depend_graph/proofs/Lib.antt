@@ -1,10 +1,10 @@
 pub mod Asking
 pub mod BuildSteps
 pub mod Building
-pub mod Cycling
+pub mod Freed
 pub mod Firsts
 pub mod Flags
-pub mod Gathering
+pub mod Rising
 pub mod Has
 pub mod Keying
 pub mod LastPlaces
@@ -18,5 +18,6 @@ pub mod Pushing
 pub mod Reached
 pub mod Rows
 pub mod Searching
+pub mod Sorting
 pub mod Steps
 pub mod Teaming

@@ -13,7 +13,7 @@ use Rattle.run_meaning.specs.Reachability.{ancestors, is_above}
 use Rattle.run_meaning.specs.Turns.{from_on}
 use Rattle.depend_graph.specs.Cycles.{places_of}
 use Rattle.depend_graph.specs.Parents.{has}
-use Rattle.depend_graph.proofs.Gathering.{range_rises}
+use Rattle.depend_graph.proofs.Rising.{range_rises}
 use Rattle.depend_graph.proofs.Has.{eq_self, false_from, place_of, stands_at}
 
 pub rising_up : (xs : List ℕ) → AllPairs (λ j k. j < k) xs → (i j : ℕ) → i ≤ j → j < length xs → get_or xs i 0 ≤ get_or xs j 0

@@ -1,13 +1,11 @@
 -- The steps of loops that add to rows: what stands in one, followed by what the rest adds, stays the same.
-use Rattle.std.proofs.Common.{◌≡◌, ◌≢◌, ◌<◌, ◌≤◌, ◌+◌, ◌&&◌, not, ℕ, suc, List, [], ◌∷◌, ◌++◌, length, drop, get_or, set, slice_get, nat_eq, nat_lt, cond, ◌⊎◌, inl, inr, Bool, true, false, refl, sym, ap, ◌∙◌, subst, arith, eq-eqb}
-use Rattle.std.specs.List.{concat}
+use Rattle.std.proofs.Common.{◌≡◌, ◌≢◌, ◌<◌, ◌≤◌, ◌+◌, ◌&&◌, not, ℕ, zero, suc, List, [], ◌∷◌, ◌++◌, length, drop, get_or, set, slice_get, nat_eq, nat_lt, cond, ◌⊎◌, inl, inr, Bool, true, false, AllPairs, refl, sym, ap, ◌∙◌, subst, arith, eq-eqb}
 use Rattle.std.proofs.lemmas.Bool.{cases_lt, cases_order, lt-ltb, le-ltb}
-use Rattle.std.proofs.lemmas.List.{append_assoc, append-nil, drop_more}
+use Rattle.std.proofs.lemmas.List.{drop_more}
 use Rattle.site_model.specs.PlainSite.{PlainCheck, PlainSite}
 use Rattle.site_model.specs.declared.depend_spec.DependSpec.{DependSpec}
 use Rattle.run_meaning.specs.Reachability.{host_in}
 use Rattle.run_meaning.specs.Turns.{of_index}
-use Rattle.depend_graph.specs.Order.{by_length_from, copies, gathered, of_length}
 use Rattle.depend_graph.specs.Parents.{given}
 use Rattle.depend_graph.specs.Search.{AreAbove}
 use Rattle.depend_graph.specs.Teams.{following, leading}
@@ -18,32 +16,11 @@ use Rattle.depend_graph.proofs.Rows.{given_more, row_added, row_at, row_kept, ro
 pushed : (before after : List (List ℕ)) (p n c : ℕ) (more : List ℕ) → p < length before → after ≡ set before p (of_index p before ++ n ∷ []) → of_index c after ++ more ≡ of_index c before ++ cond (nat_eq p c) (n ∷ more) more
 pushed before after p n c more h is = ap (λ ls. of_index c ls ++ more) is ∙ row_pushed before p n c more h
 
-pub copies_step : (before after : List (List ℕ)) (n c : ℕ) (places : List ℕ) (i : ℕ) (all : List ℕ) → i < length places → get_or places i 0 < length before
-    → after ≡ set before (get_or places i 0) (of_index (get_or places i 0) before ++ n ∷ []) → of_index c before ++ copies n c (drop i places) ≡ all → of_index c after ++ copies n c (drop (i + 1) places) ≡ all
-copies_step before after n c places i all l h is so_far =
-    pushed before after (get_or places i 0) n c (copies n c (drop (i + 1) places)) h is
-    ∙ ap (λ xs. of_index c before ++ copies n c xs) (sym (drop_more places i 0 l)) ∙ so_far
-
-pub gathered_step : (lists before after : List (List ℕ)) (c : ℕ) (order : List ℕ) (i : ℕ) (all : List ℕ) → i < length order
-    → of_index c after ≡ of_index c before ++ copies (get_or order i 0) c (of_index (get_or order i 0) lists)
-    → of_index c before ++ gathered lists c (drop i order) ≡ all → of_index c after ++ gathered lists c (drop (i + 1) order) ≡ all
-gathered_step lists before after c order i all l is so_far =
-    ap (λ row. row ++ gathered lists c (drop (i + 1) order)) is
-    ∙ append_assoc (of_index c before) (copies (get_or order i 0) c (of_index (get_or order i 0) lists)) (gathered lists c (drop (i + 1) order))
-    ∙ ap (λ xs. of_index c before ++ gathered lists c xs) (sym (drop_more order i 0 l)) ∙ so_far
-
 pub given_step : (before after : List (List ℕ)) (c : ℕ) (ds : List DependSpec) (i : ℕ) (d : DependSpec) (all : List ℕ) → i < length ds → d ≡ get_or ds i d → d.child < length before
     → after ≡ set before d.child (of_index d.child before ++ d.parent ∷ []) → of_index c before ++ given c (drop i ds) ≡ all → of_index c after ++ given c (drop (i + 1) ds) ≡ all
 given_step before after c ds i d all l at h is so_far =
     ap (λ ls. of_index c ls ++ given c (drop (i + 1) ds)) is ∙ given_more before d (drop (i + 1) ds) c h
     ∙ ap (λ (xs : List DependSpec). of_index c before ++ given c xs) (sym (drop_more ds i d l ∙ ap (λ (z : DependSpec). z ∷ drop (i + 1) ds) (sym at))) ∙ so_far
-
-pub of_length_step : (lists before after : List (List ℕ)) (n : ℕ) (ks : List ℕ) (i : ℕ) (all : List ℕ) → i < length ks → length (of_index (get_or ks i 0) lists) < length before
-    → after ≡ set before (length (of_index (get_or ks i 0) lists)) (of_index (length (of_index (get_or ks i 0) lists)) before ++ get_or ks i 0 ∷ [])
-    → of_index n before ++ of_length lists n (drop i ks) ≡ all → of_index n after ++ of_length lists n (drop (i + 1) ks) ≡ all
-of_length_step lists before after n ks i all l h is so_far =
-    pushed before after (length (of_index (get_or ks i 0) lists)) (get_or ks i 0) n (of_length lists n (drop (i + 1) ks)) h is
-    ∙ ap (λ xs. of_index n before ++ of_length lists n xs) (sym (drop_more ks i 0 l)) ∙ so_far
 
 last_false : (t : Bool) → (t && false) ≡ false
 last_false true = refl
@@ -125,27 +102,6 @@ following_skip rows k ls i all l same so_far = ap (λ row. of_index k rows ++ ro
         let e : i + 1 ≡ suc i = omega arith in
         ap (λ j. following j k (drop (i + 1) ls)) e ∙ ap (λ u. cond u (i ∷ following (suc i) k (drop (i + 1) ls)) (following (suc i) k (drop (i + 1) ls))) (sym none)
 
-pub joined_step : (before after : List ℕ) (lists : List (List ℕ)) (i : ℕ) (all : List ℕ) → i < length lists → after ≡ before ++ of_index i lists
-    → before ++ concat (drop i lists) ≡ all → after ++ concat (drop (i + 1) lists) ≡ all
-joined_step before after lists i all l is so_far =
-    ap (λ xs. xs ++ concat (drop (i + 1) lists)) is ∙ append_assoc before (of_index i lists) (concat (drop (i + 1) lists))
-    ∙ ap (λ xs. before ++ xs) (sym (ap concat (drop_row lists i l))) ∙ so_far
-  where
-    drop_row : (ls : List (List ℕ)) (k : ℕ) → k < length ls → drop k ls ≡ of_index k ls ∷ drop (k + 1) ls
-    drop_row ls k h = drop_more ls k [] h ∙ ap (λ r. r ∷ drop (k + 1) ls) (row_at ls k [] h)
-
--- At the end of a loop nothing is left to add.
-
-pub at_end : (row rest all : List ℕ) → rest ≡ [] → row ++ rest ≡ all → row ≡ all
-at_end row rest all none so_far = sym (append-nil row) ∙ ap (λ xs. row ++ xs) (sym none) ∙ so_far
-
-pub rows_joined : (lists : List (List ℕ)) (ks : List ℕ) (rows : List (List ℕ)) (n : ℕ) → ((i : ℕ) → i < length rows → of_index i rows ≡ of_length lists (n + i) ks) → concat rows ≡ by_length_from lists n (length rows) ks
-rows_joined lists ks [] n h = refl
-rows_joined lists ks (r ∷ rs) n h =
-    let e : n + 0 ≡ n = omega arith in
-    ap (λ z. z ++ concat rs) (h 0 (omega arith) ∙ ap (λ m. of_length lists m ks) e)
-    ∙ ap (λ z. of_length lists n ks ++ z) (rows_joined lists ks rs (suc n) (λ i l. h (suc i) (omega (arith, l)) ∙ (let f : n + suc i ≡ suc n + i = omega arith in ap (λ m. of_length lists m ks) f)))
-
 -- A host more, or none.
 
 pub hosted : (xs : List PlainCheck) (before after : List (List ℕ)) (i h c : ℕ) → i < length before → after ≡ set before i (of_index i before ++ h ∷ []) → host_in (slice_get xs i) ≡ h ∷ []
@@ -187,3 +143,13 @@ above_pushed s lists after row n c long is so_far here l = subst (λ ls. AreAbov
         let same : c ≡ length lists = omega (arith, m, l, long) in
         let e : n ≡ c = omega (arith, same, long) in
         subst (AreAbove s c) (sym (ap (λ k. of_index k (lists ++ row ∷ [])) same ∙ row_added lists row)) (subst (λ k. AreAbove s k row) e here)
+
+pub rises_pushed : (lists after : List (List ℕ)) (row : List ℕ) → after ≡ lists ++ row ∷ [] → ((k : ℕ) → AllPairs (λ i j. i < j) (of_index k lists)) → AllPairs (λ i j. i < j) row
+    → (c : ℕ) → AllPairs (λ i j. i < j) (of_index c after)
+rises_pushed lists after row is so_far here c = subst (λ ls. AllPairs (λ i j. i < j) (of_index c ls)) (sym is) (by lists c so_far)
+  where
+    by : (ls : List (List ℕ)) (k : ℕ) → ((j : ℕ) → AllPairs (λ i j. i < j) (of_index j ls)) → AllPairs (λ i j. i < j) (of_index k (ls ++ row ∷ []))
+    by [] zero h = here
+    by [] (suc k) h = λ i j d l m. absurd (omega (arith, m))
+    by (r ∷ rs) zero h = h 0
+    by (r ∷ rs) (suc k) h = by rs k (λ j. h (suc j))

@@ -15,11 +15,6 @@ pub record AreOnCycles (s : PlainSite) (depends : List ℕ) : Type 0 where
   pub rising : AllPairs (λ j k. j < k) depends
   pub all : (k : ℕ) → Contains depends k ↔ ((d : DependSpec) × (slice_get s.depends k ≡ Some d) × IsOnCycle s d)
 
--- The same, calculated.
-
-abbrev pub is_turning : List (List ℕ) → DependSpec → Bool
-is_turning ancestors d = nat_eq d.child d.parent || has d.child (of_index d.parent ancestors)
-
 -- the places of those that pass a test, from this place on
 abbrev pub places_of : (DependSpec → Bool) → ℕ → List DependSpec → List ℕ
 places_of test k [] = []

@@ -21,12 +21,10 @@ pub record HasOrder (s : PlainSite) : Type 0 where
   pub fewer : (c q : ℕ) → c < length s.checkables → has q (parents_of s c) ≡ true → length (ancestors s q) < length (ancestors s c)
   pub few : (c : ℕ) → c < length s.checkables → length (ancestors s c) < length s.checkables
 
--- a graph has the ancestors of a site's checkables, an order for each, and the dependencies that stand together
+-- a graph has the ancestors of a site's checkables, and the dependencies that stand together
 pub record IsGraphOf (s : PlainSite) (g : Graph) : Type 0 where
   pub count : length g.ancestors ≡ length s.checkables
   pub ancestors : (c : ℕ) → c < length s.checkables → of_index c g.ancestors ≡ ancestors s c
-  pub orders : length g.order ≡ length s.checkables
-  pub order : (c : ℕ) → c < length s.checkables → AreParentsFirst s c (of_index c g.order)
   pub teams : AreTeams s g.leaders g.followers
   pub has_order : HasOrder s
 

@@ -1,6 +1,6 @@
+pub mod Clearing
 pub mod Cycles
 pub mod Graph
-pub mod Order
 pub mod Outlooks
 pub mod Parents
 pub mod Positions

@@ -7,13 +7,12 @@
 //! it back (`reaching`).
 #![tactic(auto)]
 
-mod cycles;
+mod clearing;
 mod graph;
 mod graph_fault;
 mod laws;
 mod lists;
 mod on_cycle;
-mod order;
 mod outlook;
 mod parents;
 mod positions;

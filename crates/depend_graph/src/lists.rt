@@ -40,6 +40,18 @@ impl Lists {
         self.rows.len()
     }
 
+    /// How long one of the lists is; 0 where there is none.
+    #[tactic(auto, using(crate::proofs::Rows::row_at, crate::proofs::Rows::row_beyond))]
+    pub(crate) fn len_of(&self, index: usize) -> usize
+        ensures { result ≡ length (of_index index self.now) }
+    {
+        if index < self.rows.len() {
+            self.rows[index].len()
+        } else {
+            0
+        }
+    }
+
     /// One of the lists.
     pub(crate) fn at(&self, index: usize) -> &[u32]
         requires { index < length self.now }

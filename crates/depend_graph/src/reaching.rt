@@ -20,7 +20,7 @@ impl Graph {
     ///
     /// # Errors
     ///
-    /// `OutOfMemory` where there is none for the place of each ancestor and a flag for it.
+    /// `OutOfMemory` where there is none for the number and the place of each ancestor and a flag for it.
     pub fn reach(
         &self,
         site: &Site,
@@ -36,6 +36,7 @@ impl Graph {
         ensures { IfOk result (λ r. reach_as r ≡ reach_of (outlook_of (site_view site.now) zone.now purpose moment sights.now) checkable) }
     {
         let above = self.ancestors(checkable);
+        let order = self.parents_first(checkable)?;
         let positions = Positions::of(self.alloc, above)?;
         let outlook = Outlook {
             site,
@@ -49,7 +50,7 @@ impl Graph {
             zone,
         };
         let mut blocked = vec![in self.alloc; false; above.len()]?;
-        for ancestor in self.order.at(checkable as usize) {
+        for ancestor in order.as_slice() {
             let is_held = outlook.reach_at(*ancestor, blocked.as_slice()).is_held();
             if let Some(place) = outlook.place_of(*ancestor) {
                 blocked[place] = is_held;

@@ -1,15 +1,21 @@
-use Rattle.std.proofs.Common.{◌+◌, length, ap, ◌∙◌, arith}
+use Rattle.std.proofs.Common.{◌≡◌, ◌+◌, ◌<◌, length, ap, ◌∙◌, arith, sym, subst, IsPermutation}
 use Rattle.std.proofs.lemmas.List.{length_push}
-use Rattle.depend_graph.proofs.Pushing.{above_pushed}
+use Rattle.depend_graph.proofs.Pushing.{above_pushed, rises_pushed}
+use Rattle.depend_graph.proofs.Sorting.{above_sorted}
 use Rattle.depend_graph.proofs.search.all_above.Goals as goal
 
 pub loop-checkable-preserved : goal.loop-checkable-preserved
-loop-checkable-preserved c = record {
-  many = ap length c.in_ok-add.ensures.ok ∙ length_push c.loop-checkable.lists c.in_ok-above.field-0 ∙ ap (λ n. n + 1) c.loop-checkable.invariant.many;
-  long = c.above.ensures.length;
-  most = λ k d h. c.above.ensures.marked k d h;
-  above = λ s are k l. above_pushed s c.loop-checkable.lists c.add.new.self c.in_ok-above.field-0 c.loop-checkable.checkable k c.loop-checkable.invariant.many c.in_ok-add.ensures.ok (c.loop-checkable.invariant.above s are) (c.in_ok-above.ensures.above s are) l;
-}
+loop-checkable-preserved c =
+    let row = c.in_ok-ascending.field-0 in
+    let same : IsPermutation c.in_ok-found.found row = subst (λ xs. IsPermutation xs row) c.as_slice.ensures c.in_ok-ascending.ensures.same in
+    record {
+      many = ap length c.in_ok-add.ensures.ok ∙ length_push c.loop-checkable.lists row ∙ ap (λ n. n + 1) c.loop-checkable.invariant.many;
+      long = c.above.ensures.length;
+      most = λ k d h. c.above.ensures.marked k d h;
+      above = λ s are k l. above_pushed s c.loop-checkable.lists c.add.new.self row c.loop-checkable.checkable k c.loop-checkable.invariant.many c.in_ok-add.ensures.ok (c.loop-checkable.invariant.above s are)
+          (above_sorted s c.loop-checkable.checkable c.in_ok-found.found row same c.in_ok-ascending.ensures.rising (c.in_ok-found.ensures.above s are)) l;
+      rising = rises_pushed c.loop-checkable.lists c.add.new.self row c.in_ok-add.ensures.ok c.loop-checkable.invariant.rising c.in_ok-ascending.ensures.rising;
+    }
 
 pub returns-clause-above : goal.returns-clause-above
 returns-clause-above c = λ s are. record {

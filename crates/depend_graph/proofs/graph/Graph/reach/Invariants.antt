@@ -10,6 +10,6 @@ abbrev pub invariant-loop-ancestor : goal.invariant-loop-ancestor
 invariant-loop-ancestor l = record {
   long : length l.blocked.items ≡ length (of_index l.checkable l.self.ancestors);
   flags : (k : ℕ) → k < l.ancestor-index →
-      flagged (of_index l.checkable l.self.ancestors) l.blocked.items (get_or (of_index l.checkable l.self.order) k 0)
-      ≡ is_held (reach_of (outlook_of (site_view l.site) l.zone l.fn.purpose l.fn.moment l.sights) (get_or (of_index l.checkable l.self.order) k 0));
+      flagged (of_index l.checkable l.self.ancestors) l.blocked.items (get_or l.ancestor-items k 0)
+      ≡ is_held (reach_of (outlook_of (site_view l.site) l.zone l.fn.purpose l.fn.moment l.sights) (get_or l.ancestor-items k 0));
 }
