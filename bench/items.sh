@@ -54,7 +54,7 @@ fn made(alloc: Global, scene: &Scene, count: u64) -> Result<u64, Stop> {
     let Some(item) = last_item(&mut parts) else {
         return Ok(0);
     };
-    let view = view_over(&parts, scene);
+    let view = view_over(&parts, &scene.objects, &scene.known);
     Ok(made_of(alloc, &view, &item, count))
 }
 

@@ -73,7 +73,7 @@ fn push_last(
     };
     item.presets.append(&mut scene.presets)?;
     item.names.append(&mut scene.bound)?;
-    let view = view_over(&parts, scene);
+    let view = view_over(&parts, &scene.objects, &scene.known);
     match word {
         "item" => push_item(alloc, out, &view, &item, &scene.names),
         "reads" => push_reads(alloc, out, &view, &item),

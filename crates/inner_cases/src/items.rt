@@ -1,14 +1,13 @@
 // A row's last object, the view over its load, and what it comes to.
-ghost use Rattle.std.specs.Prelude.{IfSome};
+ghost use Rattle.std.specs.Prelude.{◌≡◌, IfSome};
 ghost use Rattle.dsl_load.specs.Loads.{IsLoad};
 ghost use Rattle.eval_work.specs.Kept.{PairsNamed};
 ghost use Rattle.item_body.specs.Lawful.{IsRunnable};
 ghost use Rattle.item_start.specs.Ready.{IsLawfulView};
 
-use crate::scene::Scene;
 use crate::shown::{push_diag, push_object};
 use dsl_load::LoadParts;
-use eval_work::{Item, Stop, WorldView};
+use eval_work::{Committed, Item, Known, Stop, WorldView};
 use item_body::{ItemAnswer, run_item};
 use site_base::{Text, Texts};
 use std::alloc::Global;
@@ -23,7 +22,11 @@ pub(crate) fn last_item(parts: &mut LoadParts) -> Option<Item>
 }
 
 /// What evaluations are told once the files were loaded: what the load left, and the objects that the row shows.
-pub(crate) fn view_over<'a>(parts: &'a LoadParts, scene: &'a Scene) -> WorldView<'a>
+pub(crate) fn view_over<'a>(
+    parts: &'a LoadParts,
+    objects: &'a Committed,
+    known: &'a Known,
+) -> WorldView<'a>
     requires { IsLoad parts.now }
     ensures lawful { IsLawfulView result }
     ensures store { result.store.now ≡ parts.now.store }
@@ -32,8 +35,8 @@ pub(crate) fn view_over<'a>(parts: &'a LoadParts, scene: &'a Scene) -> WorldView
         store: &parts.store,
         templates: &parts.templates,
         rules: &parts.rules,
-        objects: &scene.objects,
-        known: &scene.known,
+        objects,
+        known,
         files: &[],
     }
 }
@@ -52,7 +55,10 @@ pub(crate) fn push_item(
         ItemAnswer::Made(object) => Ok(push_object(alloc, out, &object)?),
         ItemAnswer::Blocked(read) => Err(Stop::Blocked(read)),
         ItemAnswer::Diags(faults) => {
-            for fault in faults.as_slice() {
+            for (i, fault) in faults.as_slice().iter().enumerate() {
+                if i > 0 {
+                    out.push_str(" / ")?;
+                }
                 push_diag(alloc, out, fault, files)?;
             }
             Ok(())
