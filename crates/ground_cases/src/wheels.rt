@@ -11,31 +11,34 @@ use wheel_links::{Steps, Wheel};
 
 /// Adds what the steps of a row answer, one after another over a new wheel.
 pub(crate) fn push_wheel(alloc: Global, out: &mut Text, row: &str) -> Result<(), OutOfMemory> {
-    push_counting::<Brand>(alloc, out, row, Blank::new(1))
+    let row = Text::copy_of(alloc, row)?;
+    let answers = answers(alloc, &row)?;
+    out.push_str(answers.as_str())
+}
+
+fn answers(alloc: Global, row: &Text) -> Result<Text, OutOfMemory> {
+    answers_counting::<Brand>(alloc, row, Blank::new(1))
 }
 
 /// The same, with a counter for the steps through links.
-fn push_counting<L: Ledger>(
-    alloc: Global,
-    out: &mut Text,
-    row: &str,
-    blank: Blank,
-) -> Result<(), OutOfMemory>
+fn answers_counting<L: Ledger>(alloc: Global, row: &Text, blank: Blank) -> Result<Text, OutOfMemory>
     requires name { blank.name ≡ L.name }
     requires parts { blank.parts ≡ L.parts }
     requires any { 0 < blank.parts }
 {
-    let (sizes, steps) = row.split_once(':').unwrap_or((row, ""));
+    let (sizes, steps) = row.as_str().split_once(':').unwrap_or((row.as_str(), ""));
     let mut sizes = sizes.split_whitespace();
     let (Some(capacity), Some(slots)) = (small(&mut sizes), small(&mut sizes)) else {
-        return out.push_str("no such wheel");
+        return Text::copy_of(alloc, "no such wheel");
     };
     if capacity == u32::MAX || slots == 0 {
-        return out.push_str("no such wheel");
+        return Text::copy_of(alloc, "no such wheel");
     }
     let mut wheel = Wheel::new(alloc, capacity, slots)?;
+    let mut out = Text::new(alloc);
     let mut counter = Steps::<L>::new(blank);
-    push_all(out, &mut wheel, capacity, steps, &mut counter)
+    push_all(&mut out, &mut wheel, capacity, steps, &mut counter)?;
+    Ok(out)
 }
 
 /// Adds the answers with commas between them.

@@ -1,5 +1,5 @@
 -- What the templates and the items of a load captured names cells and functions of its store.
-use Rattle.std.proofs.Common.{◌≡◌, ℕ, List, [], ◌∷◌, ◌++◌, map, Bool, true, false, cond, Option, Some, None, ap, sym, ◌∙◌, subst}
+use Rattle.std.proofs.Common.{◌≡◌, ℕ, List, [], ◌∷◌, ◌++◌, map, Bool, true, false, cond, Option, Some, None, ap, sym, ◌∙◌, subst, length}
 use Rattle.std.specs.Prelude.{◌&&◌, IfSome}
 use Rattle.std.specs.Option.{option_to_list}
 use Rattle.std.proofs.lemmas.List.{append-nil}
@@ -9,7 +9,7 @@ use Rattle.dsl_load.specs.Loads.{IsLoad}
 use Rattle.dsl_load.specs.declared.load_parts.LoadParts.{LoadParts}
 use Rattle.eval_meaning.specs.Registered.{PlainTemplate}
 use Rattle.eval_meaning.specs.Views.{template_in}
-use Rattle.eval_work.specs.Kept.{HasGlobals, ItemsNamed, PairsNamed, TemplatesNamed}
+use Rattle.eval_work.specs.Kept.{HasGlobals, ItemsNamed, PairsNamed, RulesNamed, TemplatesNamed}
 use Rattle.eval_work.specs.Works.{plain_template}
 use Rattle.eval_work.specs.declared.item.Item.{Item}
 use Rattle.eval_work.specs.declared.template.Template.{Template}
@@ -45,6 +45,19 @@ parted_at : (c : Contents) (is : List Item) (i : Item) → ItemsNamed c (is ++ i
 parted_at c [] i h = (tt, h.0)
 parted_at c (j ∷ is) i h = let rest = parted_at c is i h.1 in ((h.0, rest.0), rest.1)
 
-pub parted : (c : Contents) (is : List Item) (o : Option Item) → ItemsNamed c (is ++ option_to_list o) → ItemsNamed c is × IfSome o (λ i. PairsNamed c i.captured.items)
+parted : (c : Contents) (is : List Item) (o : Option Item) → ItemsNamed c (is ++ option_to_list o) → ItemsNamed c is × IfSome o (λ i. PairsNamed c i.captured.items)
 parted c is None h = (subst (ItemsNamed c) (append-nil is) h, tt)
 parted c is (Some i) h = parted_at c is i h
+
+-- what is left of a load once its last item was taken off
+pub front_load : (old new : LoadParts) (o : Option Item) → IsLoad old → new.store ≡ old.store → new.templates ≡ old.templates → new.rules ≡ old.rules → old.items.items ≡ new.items.items ++ option_to_list o → IsLoad new
+front_load old new o l es et er ei = record {
+  frozen = subst (λ s. s.base ≡ length s.cells) (sym es) l.frozen;
+  globals = subst HasGlobals (sym es) l.globals;
+  templates = subst (λ s. TemplatesNamed s new.templates) (sym es) (subst (TemplatesNamed old.store) (sym et) l.templates);
+  items = subst (λ s. ItemsNamed s new.items.items) (sym es) (parted old.store new.items.items o (subst (ItemsNamed old.store) ei l.items)).0;
+  rules = subst (λ s. RulesNamed s new.rules.items) (sym es) (subst (λ rs. RulesNamed old.store rs.items) (sym er) l.rules);
+}
+
+pub last_named : (c : Contents) (all is : List Item) (o : Option Item) → ItemsNamed c all → all ≡ is ++ option_to_list o → IfSome o (λ i. PairsNamed c i.captured.items)
+last_named c all is o h e = (parted c is o (subst (ItemsNamed c) e h)).1

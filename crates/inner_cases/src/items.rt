@@ -13,6 +13,7 @@ use site_base::{Text, Texts};
 use std::alloc::Global;
 
 /// Takes the last object off a load.
+#[tactic(auto, using(crate::proofs::Lawful::front_load, crate::proofs::Lawful::last_named))]
 pub(crate) fn last_item(parts: &mut LoadParts) -> Option<Item>
     requires { IsLoad parts.old }
     ensures load { IsLoad parts.new }
@@ -22,6 +23,7 @@ pub(crate) fn last_item(parts: &mut LoadParts) -> Option<Item>
 }
 
 /// What evaluations are told once the files were loaded: what the load left, and the objects that the row shows.
+#[tactic(auto, using(crate::proofs::Lawful::lawful))]
 pub(crate) fn view_over<'a>(
     parts: &'a LoadParts,
     objects: &'a Committed,
