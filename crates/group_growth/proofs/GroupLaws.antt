@@ -43,7 +43,7 @@ pub last_is : (n : List ℕ) (ts : List Tree) (t : Tree) → view t ≡ tree.str
 last_is n [] t e = ap (λ d. tree.item d no_items) e
 last_is n (x ∷ ts) t e = ap (tree.item (view x)) (last_is n ts t e)
 
-none_missing : (ns : List (List ℕ)) (ds : Items) → any_missing ns ds ≡ false → with_names ns ds ≡ ds
+pub none_missing : (ns : List (List ℕ)) (ds : Items) → any_missing ns ds ≡ false → with_names ns ds ≡ ds
 none_missing [] ds h = refl
 none_missing (n ∷ ns) ds h = by (none_missing ns ds) (has_string n ds) h
   where

@@ -1,3 +1,4 @@
 mod Keys
 pub mod GroupLaws
 pub mod GapLaws
+pub mod StringLaws

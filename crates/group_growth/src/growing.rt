@@ -5,7 +5,7 @@ ghost use Rattle.site_model.specs.PlainSite.{object_view};
 ghost use Rattle.commit_meaning.specs.Answers.{made};
 ghost use Rattle.commit_meaning.specs.Groups.{grown, items_of, items_under as under, tree_grown, with_groups};
 
-use crate::listing::{add_names, any_missing};
+use crate::listing::add_names;
 use crate::putting::put_pair;
 use object_types::Attribute;
 use site_base::{OutOfMemory, Text, Tree, copy_tree};
@@ -48,8 +48,9 @@ fn grow_pairs(
 {
     let groups = Text::copy_of(alloc, Attribute::Groups.name())?;
     let mut list = list_under(alloc, &groups, pairs)?;
-    if any_missing(&list, names) {
-        add_names(&mut list, names)?;
+    let before = list.len();
+    add_names(alloc, &mut list, names)?;
+    if list.len() > before {
         list.shrink_to_fit();
         put_pair(pairs, groups, Tree::List(list))?;
     }

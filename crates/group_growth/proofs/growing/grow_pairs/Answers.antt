@@ -1,5 +1,5 @@
 -- All names that are missing are added together.
-use Rattle.std.proofs.Common.{◌≡◌, true, false, cond, rules, sym, ap, ◌∙◌}
+use Rattle.std.proofs.Common.{◌≡◌, ◌<◌, ◌≤◌, length, true, false, cond, rules, arith, sym, ap, ◌∙◌}
 use Rattle.site_base.specs.Data as tree
 use Rattle.site_base.specs.View.{view, items_view, pairs_view}
 use Rattle.site_base.specs.declared.tree.Tree.{the_lemmas}
@@ -9,6 +9,7 @@ use Rattle.object_types.specs.declared.attribute.Attribute.TheVariants as attrib
 use Rattle.commit_meaning.specs.Groups.{items_under, with_pair}
 use Rattle.group_growth.specs.Adding.{any_missing, with_names}
 use Rattle.group_growth.proofs.GroupLaws.{together}
+use Rattle.group_growth.proofs.StringLaws.{nothing_missing, some_missing}
 use Rattle.group_growth.proofs.growing.grow_pairs.Goals as goal
 
 pub returns-in_ok-put_pair : goal.returns-in_ok-put_pair
@@ -16,27 +17,31 @@ returns-in_ok-put_pair c =
     let key = attribute_name attribute.Groups in
     let names = c.args.names.now in
     let ps = pairs_view c.args.pairs.now.items in
+    let first = c.in_ok-list.list.items in
+    let then = c.add_names.new.items.items in
     let now = c.shrink_to_fit.new.self in
     let named : c.in_ok-groups.groups ≡ key = c.in_ok-groups.ensures ∙ c.name.ensures in
-    let was : items_view c.in_ok-list.list.items ≡ items_under key ps =
+    let was : items_view first ≡ items_under key ps =
     c.in_ok-list.ensures ∙ ap (λ xs. items_under c.in_ok-groups.groups (pairs_view xs)) c.deref.ensures.value ∙ ap (λ k. items_under k ps) named in
     let own : view (trees.List now) ≡ tree.list (items_view now.items) = search (rules, the_lemmas) in
-    let more : view (trees.List now) ≡ tree.list (with_names names (items_under key ps)) = own ∙ ap (λ ds. tree.list ds) (ap items_view c.shrink_to_fit.ensures.items ∙ c.in_ok-add_names.ensures ∙ ap (with_names names) was) in
-    let some : any_missing names (items_under key ps) ≡ true =
-    sym (c.any_missing.ensures ∙ ap (λ xs. any_missing names (items_view xs)) c.deref-2.ensures.value ∙ ap (any_missing names) was) ∙ c.if-any_missing.true in
+    let all : view (trees.List now) ≡ tree.list (with_names names (items_under key ps)) = own ∙ ap (λ ds. tree.list ds) (ap items_view c.shrink_to_fit.ensures.items ∙ c.in_ok-add_names.ensures ∙ ap (with_names names) was) in
+    let more : length first < length then = omega arith in
+    let some : any_missing names (items_under key ps) ≡ true = ap (any_missing names) (sym was) ∙ some_missing names first then c.in_ok-add_names.ensures more in
     c.in_ok-put_pair.ensures
     ∙ ap (λ k. with_pair k (view (trees.List now)) ps) named
-    ∙ ap (λ d. with_pair key d ps) more
+    ∙ ap (λ d. with_pair key d ps) all
     ∙ sym (together names ps ∙ ap (λ b. cond b (with_pair key (tree.list (with_names names (items_under key ps))) ps) ps) some)
 
-pub returns-else-any_missing : goal.returns-else-any_missing
-returns-else-any_missing c =
+pub returns-else-len-before : goal.returns-else-len-before
+returns-else-len-before c =
     let key = attribute_name attribute.Groups in
     let names = c.args.names.now in
     let ps = pairs_view c.args.pairs.now.items in
+    let first = c.in_ok-list.list.items in
+    let then = c.add_names.new.items.items in
     let named : c.in_ok-groups.groups ≡ key = c.in_ok-groups.ensures ∙ c.name.ensures in
-    let was : items_view c.in_ok-list.list.items ≡ items_under key ps =
+    let was : items_view first ≡ items_under key ps =
     c.in_ok-list.ensures ∙ ap (λ xs. items_under c.in_ok-groups.groups (pairs_view xs)) c.deref.ensures.value ∙ ap (λ k. items_under k ps) named in
-    let none : any_missing names (items_under key ps) ≡ false =
-    sym (c.any_missing.ensures ∙ ap (λ xs. any_missing names (items_view xs)) c.deref-2.ensures.value ∙ ap (any_missing names) was) ∙ c.if-any_missing.false in
+    let few : length then ≤ length first = omega arith in
+    let none : any_missing names (items_under key ps) ≡ false = ap (any_missing names) (sym was) ∙ nothing_missing names first then c.in_ok-add_names.ensures few in
     sym (together names ps ∙ ap (λ b. cond b (with_pair key (tree.list (with_names names (items_under key ps))) ps) ps) none)

@@ -2,7 +2,7 @@
 use Rattle.std.proofs.Common.{◌≡◌, drop}
 use Rattle.site_base.specs.View.{items_view}
 use Rattle.group_growth.specs.Adding.{with_names}
-use Rattle.group_growth.proofs.listing.add_names.Given as goal
+use Rattle.group_growth.proofs.listing.add_few.Given as goal
 
 abbrev pub invariant-loop-name : goal.invariant-loop-name
 invariant-loop-name l = with_names (drop l.name-index l.names) (items_view l.items.items) ≡ with_names l.names (items_view l.fn.items.items)
