@@ -134,14 +134,14 @@ fn value_in(line: &str) -> &str {
 }
 
 /// Adds a status as its number and name.
-fn push_status(out: &mut Text, status: Status) -> Result<(), OutOfMemory> {
+pub(crate) fn push_status(out: &mut Text, status: Status) -> Result<(), OutOfMemory> {
     out.push_decimal(u64::from(status.number()))?;
     out.push(' ')?;
     out.push_str(status.name())
 }
 
 /// Adds each line behind two blanks; `…` stands behind a piece without a newline.
-fn push_lines(out: &mut Text, text: &str) -> Result<(), OutOfMemory> {
+pub(crate) fn push_lines(out: &mut Text, text: &str) -> Result<(), OutOfMemory> {
     let mut begins = true;
     for c in text.chars() {
         if begins {
@@ -156,7 +156,11 @@ fn push_lines(out: &mut Text, text: &str) -> Result<(), OutOfMemory> {
 }
 
 /// Adds each order with its words, quoted, on a line of its own.
-fn push_started(alloc: Global, out: &mut Text, orders: &[Order]) -> Result<(), OutOfMemory> {
+pub(crate) fn push_started(
+    alloc: Global,
+    out: &mut Text,
+    orders: &[Order],
+) -> Result<(), OutOfMemory> {
     for order in orders {
         out.push_str("\n  started ")?;
         out.push_decimal(order.number)?;

@@ -1,5 +1,6 @@
 // Rows and what the program gives for them.
 use crate::case::Case;
+use crate::limited::push_limited;
 use crate::named::Named;
 use crate::outcome::{push_live, push_outcome, push_short, push_statuses};
 use site_base::{OutOfMemory, Text};
@@ -45,6 +46,7 @@ fn push_told<T: Threads + Clone + Drop>(
     match word {
         "run" => push_outcome(alloc, out, Case::read(alloc, named, rest)?),
         "live" => push_live(rt, threads, out, Case::read(alloc, named, rest)?),
+        "limit" => push_limited(alloc, out, Case::read(alloc, named, rest)?),
         "statuses" => push_statuses(out),
         "check" | "objects" | "replay" => {
             push_short(alloc, out, Case::over(alloc, named, word, rest)?)

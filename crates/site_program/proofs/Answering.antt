@@ -16,7 +16,7 @@ use Rattle.site_run.specs.Logs.{AnswersWorld, IsLog, Whole}
 use Rattle.run_text.specs.declared.style.Style.{Style}
 use Rattle.site_edge.specs.Told.{ReadsFile, find_file}
 use Rattle.site_edge.specs.declared.turn.Turn.{Turn}
-use Rattle.site_program.specs.TaskAnswers.{AnswersOver, AnswersRoot, AnswersShown, AnswersSite, Files, IsSiteOf, most_turns}
+use Rattle.site_program.specs.TaskAnswers.{AnswersOver, AnswersRoot, AnswersShown, AnswersSite, Files, HasNoSite, IsSiteOf, most_turns}
 use Rattle.site_replies.specs.Replies.{config_reply, diagnoses, files_in}
 use Rattle.site_replies.specs.declared.replies.Shown.{Shown}
 
@@ -59,6 +59,15 @@ site_is root (Some files) s h = root_answers (λ names c. c ≡ commits.site (si
 -- it is the root's
 pub site_found : (root : List ℕ) (told : Option Files) (a : Answer) (s : Site) → a ≡ answer.Site s → IsTold told root a → IfSome told (λ all. IsSiteOf all root (site_view s))
 site_found root told a s e h = site_is root told s (subst (IsTold told root) e h)
+
+no_site_is : (root : List ℕ) (told : Option Files) (names : List (List ℕ)) (list : List Diag) → IsTold told root (answer.Diags names list) → IfSome told (λ all. HasNoSite all root)
+no_site_is root None names list h = tt
+no_site_is root (Some files) names list h =
+    root_answers (λ names c. (list : List Diag) × (c ≡ commits.refused list)) root files (answer.Diags names list) (h files refl).0 (h files refl).1 (list, refl)
+
+-- it makes none
+pub no_site_found : (root : List ℕ) (told : Option Files) (a : Answer) (names : List (List ℕ)) (list : List Diag) → a ≡ answer.Diags names list → IsTold told root a → IfSome told (λ all. HasNoSite all root)
+no_site_found root told a names list e h = no_site_is root told names list (subst (IsTold told root) e h)
 
 by_diags : (Is : Files → PlainSite → Whole → Type 0) (root : List ℕ) (told : Option Files) (names : List (List ℕ)) (list : List Diag) → IsTold told root (answer.Diags names list)
     → IfSome told (λ all. AnswersSite all root (Is all) (replied (diagnoses names list)))

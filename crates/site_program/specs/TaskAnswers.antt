@@ -4,6 +4,7 @@ use Rattle.std.specs.Bool.{Decides}
 use Rattle.commit_meaning.specs.Commits as commits
 use Rattle.commit_meaning.specs.Commits.{Committed}
 use Rattle.run_text.specs.declared.style.Style.{Style}
+use Rattle.site_base.specs.declared.diag.Diag.{Diag}
 use Rattle.site_edge.specs.Told.{find_file}
 use Rattle.site_edge.specs.declared.turn.Turn.{Turn}
 use Rattle.site_gen.specs.Counts.{AreCounts}
@@ -20,6 +21,7 @@ use Rattle.site_replies.specs.declared.replies.Shown.TheVariants as shown
 use Rattle.site_run.specs.Ends.{Outside}
 use Rattle.site_run.specs.Logs.{AnswersWorld, IsLog, Went, Whole}
 use Rattle.site_run.specs.declared.status.Status.{Status}
+use Rattle.site_run.specs.declared.status.Status.TheVariants as status
 use Rattle.site_text.specs.Scripts.{Answer, Has, told, bad_line}
 use Rattle.site_words.specs.Tasks.{Task, check, daemon, generate, objects, replay}
 
@@ -96,20 +98,35 @@ abbrev pub is_generate : Task → Bool
 is_generate (generate hosts) = true
 is_generate task = false
 
--- How far a daemon came: nowhere near the world, or over the site of its root.
+-- How far a daemon came: to no answer of its files, to no site, or over the site of its root.
+
+-- the files could not be read, or there was no memory for what they come to; nothing was taken, started or written
+pub record IsUnanswered (end : Status) (old new : Outside) : Type 0 where
+  pub cause : (end ≡ status.ReadFault) ⊎ (end ≡ status.OutOfMemory)
+  pub same : new ≡ old
+
+abbrev pub HasNoSite : Files → List ℕ → Type 0
+HasNoSite files root = AnswersRoot files root (λ names c. (list : List Diag) × (c ≡ commits.refused list))
+
+-- they make no site; nothing was taken or started
+pub record IsRefused (root : List ℕ) (files : Option Files) (old new : Outside) : Type 0 where
+  pub is : IfSome files (λ all. HasNoSite all root)
+  pub turns : new.turns ≡ old.turns
+  pub started : new.started ≡ old.started
+  pub calls : new.calls ≡ old.calls
 
 abbrev pub IsSiteOf : Files → List ℕ → PlainSite → Type 0
 IsSiteOf files root s = AnswersRoot files root (λ names c. c ≡ commits.site s)
 
-pub record IsOverSite (status : Status) (style : Style) (root : List ℕ) (files : Option Files) (old new : Outside) : Type 0 where
+pub record IsOverSite (end : Status) (style : Style) (root : List ℕ) (files : Option Files) (old new : Outside) : Type 0 where
   pub site : PlainSite
   pub is : IfSome files (λ all. IsSiteOf all root site)
-  pub went : Went status 1 style most_turns site old new
+  pub went : Went end 1 style most_turns site old new
 
 abbrev pub CameFar : Status → Style → List ℕ → Option Files → Outside → Outside → Type 0
-CameFar status style root files old new = ((new.turns ≡ old.turns) × (new.started ≡ old.started)) ⊎ IsOverSite status style root files old new
+CameFar end style root files old new = IsUnanswered end old new ⊎ (IsRefused root files old new ⊎ IsOverSite end style root files old new)
 
 -- of a daemon
 abbrev pub Came : Status → Task → Option Files → Outside → Outside → Type 0
-Came status (daemon style root) files old new = CameFar status style root files old new
-Came status task files old new = Unit {0}
+Came end (daemon style root) files old new = CameFar end style root files old new
+Came end task files old new = Unit {0}

@@ -2,6 +2,7 @@
 ghost use Rattle.std.specs.Prelude.{◌≡◌, ◌≢◌, IfSome};
 ghost use Rattle.site_edge.specs.Told.{Rose};
 ghost use Rattle.site_program.specs.Runs.{status_by};
+ghost use Rattle.site_run.specs.Ends.{HandsOn};
 ghost use Rattle.site_run.specs.Logs.{EndsRun};
 ghost use Rattle.site_program.specs.TaskAnswers.{AnswersShown};
 
@@ -23,6 +24,7 @@ pub fn show_objects<F: Files, S: Sink>(
 ) -> Status
     ensures never_usage { result ≢ Status.Usage }
     ensures written { EndsRun result (λ w. IfSome (F.told files.old) (λ all. AnswersShown all shown root.now w)) (S.written out.old) (S.written out.new) }
+    ensures through { HandsOn result (S.kept_back out.new) }
     ensures told { F.told files.new ≡ F.told files.old }
     ensures read_fault { result ≡ Status.ReadFault → Rose (F.faults files.old) (F.faults files.new) }
     ensures write_fault { result ≡ Status.WriteFault → Rose (S.faults out.old) (S.faults out.new) }

@@ -2,7 +2,7 @@
 ghost use Rattle.std.specs.Prelude.{◌≡◌, ◌≢◌, IfSome};
 ghost use Rattle.site_edge.specs.Told.{Rose};
 ghost use Rattle.site_run.specs.Logs.{AnswersWorld, EndsRun};
-ghost use Rattle.site_run.specs.Ends.{outside};
+ghost use Rattle.site_run.specs.Ends.{HandsOn, outside};
 ghost use Rattle.site_program.specs.TaskAnswers.{AnswersSite, CameFar, most_turns};
 
 use crate::config::status_of;
@@ -28,8 +28,9 @@ pub fn watch<F: Files, W: World, S: Sink>(
 ) -> Status
     ensures never_usage { result ≢ Status.Usage }
     ensures written { EndsRun result (λ w. IfSome (F.told files.old) (λ all. AnswersSite all root.now (AnswersWorld 1 style most_turns (W.turns world.old)) w)) (S.written out.old) (S.written out.new) }
-    // Which turns were taken, what was written of them, and which of their checks were started.
-    ensures came { CameFar result style root.now (F.told files.old) (outside (W.turns world.old) (W.started world.old) (S.written out.old)) (outside (W.turns world.new) (W.started world.new) (S.written out.new)) }
+    ensures through { HandsOn result (S.kept_back out.new) }
+    // Which turns were taken, what was written of them, and by which calls their checks were started.
+    ensures came { CameFar result style root.now (F.told files.old) (outside (W.turns world.old) (W.started world.old) (W.calls world.old) (S.written out.old) (S.kept_back out.old)) (outside (W.turns world.new) (W.started world.new) (W.calls world.new) (S.written out.new) (S.kept_back out.new)) }
     ensures told { F.told files.new ≡ F.told files.old }
     ensures read_fault { result ≡ Status.ReadFault → Rose (F.faults files.old) (F.faults files.new) }
     ensures write_fault { result ≡ Status.WriteFault → Rose (S.faults out.old) (S.faults out.new) }

@@ -5,6 +5,7 @@ ghost use Rattle.site_model.specs.PlainSite.{site_view};
 ghost use Rattle.site_phases.specs.Phases.{IsReady};
 ghost use Rattle.site_replies.specs.Replies.{reply_view};
 ghost use Rattle.site_program.specs.Runs.{replied};
+ghost use Rattle.site_run.specs.Ends.{HandsOn};
 ghost use Rattle.site_run.specs.Logs.{EndsRun};
 ghost use Rattle.site_program.specs.TaskAnswers.{AnswersGenerated, IsCounted, files_of as files_in};
 
@@ -29,6 +30,7 @@ pub fn generate<S: Sink>(alloc: Global, hosts: u32, out: &mut S) -> Status
     ensures never_usage { result ≢ Status.Usage }
     ensures no_read_fault { result ≢ Status.ReadFault }
     ensures written { EndsRun result (AnswersGenerated hosts) (S.written out.old) (S.written out.new) }
+    ensures through { HandsOn result (S.kept_back out.new) }
     ensures write_fault { result ≡ Status.WriteFault → Rose (S.faults out.old) (S.faults out.new) }
     ensures calm_sink { S.calm out.old → result ≢ Status.WriteFault }
     ensures no_world_fault { result ≢ Status.WorldFault }
@@ -65,6 +67,7 @@ fn write_counts<S: Sink>(alloc: Global, hosts: u32, site: Site, out: &mut S) -> 
     ensures never_usage { result ≢ Status.Usage }
     ensures no_read_fault { result ≢ Status.ReadFault }
     ensures written { EndsRun result (IsCounted hosts (site_view site)) (S.written out.old) (S.written out.new) }
+    ensures through { HandsOn result (S.kept_back out.new) }
     ensures write_fault { result ≡ Status.WriteFault → Rose (S.faults out.old) (S.faults out.new) }
     ensures calm_sink { S.calm out.old → result ≢ Status.WriteFault }
     ensures no_world_fault { result ≢ Status.WorldFault }

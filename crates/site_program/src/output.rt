@@ -3,6 +3,7 @@ ghost use Rattle.std.specs.Prelude.{◌≡◌, ◌≢◌, ◌≤◌, Result, IfO
 ghost use Rattle.site_edge.specs.Told.{Rose};
 ghost use Rattle.site_replies.specs.Replies.{PlainReply, reply_view};
 ghost use Rattle.site_program.specs.Runs.{replied};
+ghost use Rattle.site_run.specs.Ends.{HandsOn};
 ghost use Rattle.site_run.specs.Logs.{EndsWhole};
 
 use run_text::write_lines;
@@ -16,6 +17,7 @@ pub fn write_reply<S: Sink>(reply: &Reply, out: &mut S) -> Status
     ensures never_usage { result ≢ Status.Usage }
     ensures no_read_fault { result ≢ Status.ReadFault }
     ensures written { EndsWhole result (replied (reply_view reply.now)) (S.written out.old) (S.written out.new) }
+    ensures through { HandsOn result (S.kept_back out.new) }
     ensures write_fault { result ≡ Status.WriteFault → Rose (S.faults out.old) (S.faults out.new) }
     ensures calm_sink { S.calm out.old → result ≢ Status.WriteFault }
     ensures no_world_fault { result ≢ Status.WorldFault }
@@ -33,6 +35,7 @@ pub fn write_made<S: Sink>(reply: Result<Reply, OutOfMemory>, out: &mut S) -> St
     ensures never_usage { result ≢ Status.Usage }
     ensures no_read_fault { result ≢ Status.ReadFault }
     ensures written { (r : PlainReply) → IfOk reply (λ x. reply_view x ≡ r) → EndsWhole result (replied r) (S.written out.old) (S.written out.new) }
+    ensures through { HandsOn result (S.kept_back out.new) }
     ensures write_fault { result ≡ Status.WriteFault → Rose (S.faults out.old) (S.faults out.new) }
     ensures calm_sink { S.calm out.old → result ≢ Status.WriteFault }
     ensures no_world_fault { result ≢ Status.WorldFault }

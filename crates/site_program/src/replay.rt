@@ -5,6 +5,7 @@ ghost use Rattle.site_model.specs.PlainSite.{site_view};
 ghost use Rattle.site_phases.specs.Phases.{IsReady};
 ghost use Rattle.site_text.specs.ScriptReading.{Tells};
 ghost use Rattle.site_text.specs.Scripts.{Has};
+ghost use Rattle.site_run.specs.Ends.{HandsOn};
 ghost use Rattle.site_run.specs.Logs.{EndsRun};
 ghost use Rattle.site_program.specs.TaskAnswers.{AnswersBytes, AnswersSite};
 
@@ -36,6 +37,7 @@ pub fn replay<F: Files, S: Sink>(
 ) -> Status
     ensures never_usage { result ≢ Status.Usage }
     ensures written { EndsRun result (λ w. IfSome (F.told files.old) (λ all. AnswersSite all root.now (λ s. AnswersBytes style script.now s (find_file script.now all)) w)) (S.written out.old) (S.written out.new) }
+    ensures through { HandsOn result (S.kept_back out.new) }
     ensures told { F.told files.new ≡ F.told files.old }
     ensures read_fault { result ≡ Status.ReadFault → Rose (F.faults files.old) (F.faults files.new) }
     ensures write_fault { result ≡ Status.WriteFault → Rose (S.faults out.old) (S.faults out.new) }
@@ -64,6 +66,7 @@ fn replay_over<F: Files, S: Sink>(
     requires ready { IsReady (site_view site) }
     ensures never_usage { result ≢ Status.Usage }
     ensures written { EndsRun result (λ w. IfSome (F.told files.old) (λ all. AnswersBytes style script.now (site_view site) (find_file script.now all) w)) (S.written out.old) (S.written out.new) }
+    ensures through { HandsOn result (S.kept_back out.new) }
     ensures told { F.told files.new ≡ F.told files.old }
     ensures read_fault { result ≡ Status.ReadFault → Rose (F.faults files.old) (F.faults files.new) }
     ensures write_fault { result ≡ Status.WriteFault → Rose (S.faults out.old) (S.faults out.new) }
@@ -92,6 +95,7 @@ fn replay_bytes<S: Sink>(
     ensures never_usage { result ≢ Status.Usage }
     ensures no_read_fault { result ≢ Status.ReadFault }
     ensures written { EndsRun result (AnswersBytes style script.now (site_view site) (Some bytes)) (S.written out.old) (S.written out.new) }
+    ensures through { HandsOn result (S.kept_back out.new) }
     ensures write_fault { result ≡ Status.WriteFault → Rose (S.faults out.old) (S.faults out.new) }
     ensures calm_sink { S.calm out.old → result ≢ Status.WriteFault }
     ensures no_world_fault { result ≢ Status.WorldFault }

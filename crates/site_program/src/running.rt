@@ -3,7 +3,7 @@ ghost use Rattle.std.specs.Prelude.{◌≡◌, ◌≢◌, ◌↔◌, Bool, false
 ghost use Rattle.site_edge.specs.Told.{Rose};
 ghost use Rattle.site_words.specs.Tasks.{task_of as task_in, task_view};
 ghost use Rattle.site_run.specs.Logs.{EndsRun};
-ghost use Rattle.site_run.specs.Ends.{outside};
+ghost use Rattle.site_run.specs.Ends.{HandsOn, outside};
 ghost use Rattle.site_program.specs.TaskAnswers.{Answers, Came, is_daemon, is_generate};
 
 use crate::config::show_objects;
@@ -36,9 +36,12 @@ pub fn run_one<F: Files, W: World, S: Sink>(
     ensures written { IfSome (task_in words.now) (λ task. IfSome result (λ status.
         EndsRun status (Answers task (F.told files.old) (W.turns world.old)) (S.written out.old) (S.written out.new))) }
 
-    // Of a daemon also which turns were taken, and which of their checks were started.
+    // Where it ends well, and where the world failed, nothing of that is kept back.
+    ensures through { IfSome result (λ status. HandsOn status (S.kept_back out.new)) }
+
+    // Of a daemon also which turns were taken, and by which calls their checks were started: none where it has no site.
     ensures came { IfSome (task_in words.now) (λ task. IfSome result (λ status.
-        Came status task (F.told files.old) (outside (W.turns world.old) (W.started world.old) (S.written out.old)) (outside (W.turns world.new) (W.started world.new) (S.written out.new)))) }
+        Came status task (F.told files.old) (outside (W.turns world.old) (W.started world.old) (W.calls world.old) (S.written out.old) (S.kept_back out.old)) (outside (W.turns world.new) (W.started world.new) (W.calls world.new) (S.written out.new) (S.kept_back out.new)))) }
 
     ensures told { F.told files.new ≡ F.told files.old }
     ensures untouched { IfSome (task_in words.now) (λ task. is_daemon task ≡ false → world.new ≡ world.old) }
@@ -67,7 +70,8 @@ fn run_task<F: Files, W: World, S: Sink>(
 ) -> Status
     ensures never_usage { result ≢ Status.Usage }
     ensures written { EndsRun result (Answers (task_view task.entry) (F.told files.old) (W.turns world.old)) (S.written out.old) (S.written out.new) }
-    ensures came { Came result (task_view task.entry) (F.told files.old) (outside (W.turns world.old) (W.started world.old) (S.written out.old)) (outside (W.turns world.new) (W.started world.new) (S.written out.new)) }
+    ensures through { HandsOn result (S.kept_back out.new) }
+    ensures came { Came result (task_view task.entry) (F.told files.old) (outside (W.turns world.old) (W.started world.old) (W.calls world.old) (S.written out.old) (S.kept_back out.old)) (outside (W.turns world.new) (W.started world.new) (W.calls world.new) (S.written out.new) (S.kept_back out.new)) }
     ensures told { F.told files.new ≡ F.told files.old }
     ensures untouched { is_daemon (task_view task.entry) ≡ false → world.new ≡ world.old }
     ensures unread { is_generate (task_view task.entry) ≡ true → files.new ≡ files.old }

@@ -1,9 +1,10 @@
 -- What calls take, write and start, one after another.
-use Rattle.std.proofs.Common.{◌≡◌, ℕ, List, [], ◌∷◌, ◌++◌, length, Option, Some, None, MatchOption, ◌⊎◌, refl, sym, ap, ◌∙◌, subst, append_assoc}
+use Rattle.std.proofs.Common.{◌≡◌, ℕ, List, [], ◌∷◌, ◌++◌, length, Option, Some, None, MatchOption, ◌⊎◌, refl, sym, ap, ◌∙◌, subst, append_assoc, arith, ◌≤◌}
 use Rattle.std.proofs.lemmas.List.{append-nil}
 use Rattle.site_edge.specs.Lists.{Adds, AddsPart, IsFirst, TakesFirst}
 use Rattle.site_edge.specs.declared.order.Order.{Order}
 use Rattle.site_edge.specs.declared.turn.Turn.{Turn}
+use Rattle.site_run.specs.Starts.{calls_with}
 use Rattle.site_run.specs.Ends.{IsAt, IsPartStarted, IsPartWritten, NoneLeft, Outside, Takes}
 
 -- What is added.
@@ -27,6 +28,19 @@ part_of more (Some all) n p = p
 pub adds_part : {A : Type 0} (part rest : List A) (o n : Option (List A)) → Adds part o n → AddsPart (part ++ rest) o n
 adds_part part rest None n p = p
 adds_part part rest (Some all) n p = (part, rest, refl, p)
+
+pub part_same : {A : Type 0} (more : List A) (o n : Option (List A)) → n ≡ o → AddsPart more o n
+part_same more o n e = adds_part [] more o n (adds_same o n e)
+
+-- By which calls orders are started.
+
+pub no_call : (os : List Order) (k : Option (List (List Order))) → length os ≡ 0 → Adds (calls_with os) k k
+no_call [] k e = adds_none k
+no_call (o ∷ os) k e = absurd (omega (arith, e))
+
+pub one_call : (os : List Order) (k k' : Option (List (List Order))) → 1 ≤ length os → Adds (os ∷ []) k k' → Adds (calls_with os) k k'
+one_call [] k k' h p = absurd (omega (arith, h))
+one_call (o ∷ os) k k' h p = p
 
 -- Turns that are taken.
 
@@ -70,33 +84,40 @@ none_left (Some all) n p = none_after all n p
 
 -- All of it.
 
-pub at_none : (o : Outside) → IsAt [] [] [] o o
-at_none o = record { turns = takes_none o.turns; written = adds_none o.written; started = adds_none o.started }
+pub at_none : (o : Outside) → IsAt [] [] [] [] o o
+at_none o = record { turns = takes_none o.turns; written = adds_none o.written; started = adds_none o.started; calls = adds_none o.calls }
 
-pub at_more : (a b : List Turn) (w v : List ℕ) (s r : List Order) (o m n : Outside) → IsAt a w s o m → IsAt b v r m n → IsAt (a ++ b) (w ++ v) (s ++ r) o n
-at_more a b w v s r o m n p q = record {
+pub at_more : (a b : List Turn) (w v : List ℕ) (s r : List Order) (k l : List (List Order)) (o m n : Outside) → IsAt a w s k o m → IsAt b v r l m n → IsAt (a ++ b) (w ++ v) (s ++ r) (k ++ l) o n
+at_more a b w v s r k l o m n p q = record {
   turns = takes_more a b o.turns m.turns n.turns p.turns q.turns;
   written = adds_more w v o.written m.written n.written p.written q.written;
   started = adds_more s r o.started m.started n.started p.started q.started;
+  calls = adds_more k l o.calls m.calls n.calls p.calls q.calls;
 }
 
 -- within one turn nothing is taken
-pub at_within : (a : List Turn) (w v : List ℕ) (s r : List Order) (o m n : Outside) → IsAt a w s o m → IsAt [] v r m n → IsAt a (w ++ v) (s ++ r) o n
-at_within a w v s r o m n p q = subst (λ ts. IsAt ts (w ++ v) (s ++ r) o n) (append-nil a) (at_more a [] w v s r o m n p q)
+pub at_within : (a : List Turn) (w v : List ℕ) (s r : List Order) (k l : List (List Order)) (o m n : Outside) → IsAt a w s k o m → IsAt [] v r l m n → IsAt a (w ++ v) (s ++ r) (k ++ l) o n
+at_within a w v s r k l o m n p q = subst (λ ts. IsAt ts (w ++ v) (s ++ r) (k ++ l) o n) (append-nil a) (at_more a [] w v s r k l o m n p q)
 
-pub written_within : (a : List Turn) (w text : List ℕ) (s : List Order) (o m n : Outside) → IsAt a w s o m → IsPartWritten [] [] text [] m n → IsPartWritten a w text s o n
-written_within a w text s o m n p q = record {
+pub written_within : (a : List Turn) (w text : List ℕ) (s : List Order) (k : List (List Order)) (o m n : Outside) → IsAt a w s k o m → IsPartWritten [] [] text [] [] m n → IsPartWritten a w text s k o n
+written_within a w text s k o m n p q = record {
   part = q.part;
   rest = q.rest;
   are = q.are;
-  at = subst (λ os. IsAt a (w ++ q.part) os o n) (append-nil s) (at_within a w q.part s [] o m n p q.at);
+  at =
+      subst (λ ks. IsAt a (w ++ q.part) s ks o n) (append-nil k)
+      (subst (λ os. IsAt a (w ++ q.part) os (k ++ []) o n) (append-nil s) (at_within a w q.part s [] k [] o m n p q.at));
 }
 
-pub started_within : (a : List Turn) (w text : List ℕ) (s orders : List Order) (o m n : Outside) → IsAt a w s o m → IsPartStarted [] text [] orders m n → IsPartStarted a (w ++ text) s orders o n
-started_within a w text s orders o m n p q = record {
+pub started_within : (a : List Turn) (w text : List ℕ) (s orders : List Order) (k : List (List Order)) (o m n : Outside) → IsAt a w s k o m → IsPartStarted [] text [] orders [] m n → IsPartStarted a (w ++ text) s orders k o n
+started_within a w text s orders k o m n p q = record {
   part = q.part;
   rest = q.rest;
   are = q.are;
   some = q.some;
-  at = at_within a w text s q.part o m n p q.at;
+  tried = q.tried;
+  untold = q.untold;
+  one = q.one;
+  at = at_within a w text s q.part k q.tried o m n p q.at;
+  through = q.through;
 }

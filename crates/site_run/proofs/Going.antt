@@ -13,8 +13,8 @@ use Rattle.run_text.specs.LogText.{turn_lines}
 use Rattle.run_text.specs.TurnReading.{turn_read}
 use Rattle.site_edge.specs.declared.order.Order.{Order}
 use Rattle.site_edge.specs.declared.turn.Turn.{Turn}
-use Rattle.site_run.specs.Courses.{AreLogsOf, Course, IsNextLog, behind, log_of, logs, orders, reads, text, text_of}
-use Rattle.site_run.specs.Starts.{started_of}
+use Rattle.site_run.specs.Courses.{AreLogsOf, Course, IsNextLog, behind, calls, log_of, logs, orders, reads, text, text_of}
+use Rattle.site_run.specs.Starts.{calls_with, started_of}
 
 -- Logs.
 
@@ -27,7 +27,7 @@ logs_both c done more = ap (run_alone c.basis c.stage) (reads_both c done more) 
 pub behind_both : (c : Course) (done more : List Turn) → (behind c (done ++ more)).stage ≡ (behind (behind c done) more).stage
 behind_both c done more = ap (λ rs. stage_by c.basis c.stage rs (run_alone c.basis c.stage rs)) (reads_both c done more) ∙ alone_stage c.basis c.stage (reads c done) (reads c more)
 
--- Their text, and the orders of them.
+-- Their text, the orders of them, and the calls by which these are started.
 
 pub text_both : (c : Course) (done more : List Turn) → text c (done ++ more) ≡ text c done ++ text (behind c done) more
 text_both c done more =
@@ -41,6 +41,11 @@ orders_both c done more =
     let started : TurnLog → List Order = λ l. started_of l.orders in
     ap (flat_map started) (logs_both c done more) ∙ flat_map-append started (logs c done) (logs (behind c done) more)
 
+pub calls_both : (c : Course) (done more : List Turn) → calls c (done ++ more) ≡ calls c done ++ calls (behind c done) more
+calls_both c done more =
+    let called : TurnLog → List (List Order) = λ l. calls_with (started_of l.orders) in
+    ap (flat_map called) (logs_both c done more) ∙ flat_map-append called (logs c done) (logs (behind c done) more)
+
 -- One turn more.
 
 pub text_more : (c : Course) (done : List Turn) (t : Turn) → text c (done ++ t ∷ []) ≡ text c done ++ text_of (behind c done) (log_of (behind c done) t)
@@ -50,6 +55,9 @@ text_more c done t =
 
 pub orders_more : (c : Course) (done : List Turn) (t : Turn) → orders c (done ++ t ∷ []) ≡ orders c done ++ started_of (log_of (behind c done) t).orders
 orders_more c done t = orders_both c done (t ∷ []) ∙ ap (λ os. orders c done ++ os) (append-nil (started_of (log_of (behind c done) t).orders))
+
+pub calls_more : (c : Course) (done : List Turn) (t : Turn) → calls c (done ++ t ∷ []) ≡ calls c done ++ calls_with (started_of (log_of (behind c done) t).orders)
+calls_more c done t = calls_both c done (t ∷ []) ∙ ap (λ ks. calls c done ++ ks) (append-nil (calls_with (started_of (log_of (behind c done) t).orders)))
 
 -- The logs of one caller's turns are those of a run.
 

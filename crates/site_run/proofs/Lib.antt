@@ -4,5 +4,7 @@ pub mod Fed
 pub mod Going
 pub mod Logging
 pub mod OnSite
+pub mod OneLog
 pub mod Stopping
 pub mod Told
+pub mod Zones

@@ -132,20 +132,21 @@ pub from_start : (r : Running) (site : Site) (style : Style) → r.site ≡ site
 from_start r site style same begin = λ i. record { basis = basis_of_site (site_view (same i)) r.zone; stage = begin i; style = style }
 
 -- it is over turns once what stands before the first one is written
-pub over_turns : (x : Status) (style : Style) (limit : ℕ) (r : Running) (site : Site) (turns : Option (List Turn)) (started : Option (List Order)) (w v : Option (List ℕ)) (new : Outside) → r.site ≡ site → IsZoneOf (site_view site).zone r.zone
-    → stage_of r [] ≡ start (site_view site) (no_entries (site_view site)) → Adds (concat (first_lines style)) w v → Ends x 1 (course_alone r [] style) limit (λ _ _. Unit {0}) (outside turns started v) new
-    → IsOverTurns x 1 style limit (site_view site) (outside turns started w) new
-over_turns x style limit r site turns started w v new same zone begin first ends = record {
+pub over_turns : (x : Status) (style : Style) (limit : ℕ) (r : Running) (site : Site) (turns : Option (List Turn)) (started : Option (List Order)) (calls : Option (List (List Order))) (w v : Option (List ℕ)) (b d : ℕ) (new : Outside) → r.site ≡ site
+    → IsZoneOf (site_view site).zone r.zone → stage_of r [] ≡ start (site_view site) (no_entries (site_view site)) → Adds (concat (first_lines style)) w v → d ≡ 0
+    → Ends x 1 (course_alone r [] style) limit (λ _ _. Unit {0}) (outside turns started calls v d) new → IsOverTurns x 1 style limit (site_view site) (outside turns started calls w b) new
+over_turns x style limit r site turns started calls w v b d new same zone begin first through ends = record {
   zone = r.zone;
   is_zone = zone;
-  begun = outside turns started v;
-  first = record { turns = takes_none turns; written = first; started = adds_none started };
-  ends = subst (λ c. Ends x 1 c limit (λ _ _. Unit {0}) (outside turns started v) new) (from_start r site style same begin) ends;
+  begun = outside turns started calls v d;
+  first = record { turns = takes_none turns; written = first; started = adds_none started; calls = adds_none calls };
+  through = through;
+  ends = subst (λ c. Ends x 1 c limit (λ _ _. Unit {0}) (outside turns started calls v d) new) (from_start r site style same begin) ends;
 }
 
 -- and before that at first
-pub at_first : (x : Status) (style : Style) (turns : Option (List Turn)) (started : Option (List Order)) (w v : Option (List ℕ)) → (x ≡ status.WriteFault) ⊎ (x ≡ status.OutOfMemory) → AddsPart (concat (first_lines style)) w v
-    → IsAtFirst x style (outside turns started w) (outside turns started v)
-at_first x style turns started w v cause p =
+pub at_first : (x : Status) (style : Style) (turns : Option (List Turn)) (started : Option (List Order)) (calls : Option (List (List Order))) (w v : Option (List ℕ)) (b d : ℕ) → (x ≡ status.WriteFault) ⊎ (x ≡ status.OutOfMemory)
+    → AddsPart (concat (first_lines style)) w v → IsAtFirst x style (outside turns started calls w b) (outside turns started calls v d)
+at_first x style turns started calls w v b d cause p =
     let q = part_of (concat (first_lines style)) w v p in
-    record { cause = cause; at = record { part = q.0; rest = q.1; are = q.2; at = record { turns = takes_none turns; written = q.3; started = adds_none started } } }
+    record { cause = cause; at = record { part = q.0; rest = q.1; are = q.2; at = record { turns = takes_none turns; written = q.3; started = adds_none started; calls = adds_none calls } } }

@@ -1,5 +1,5 @@
 -- Where a turn stops.
-use Rattle.std.proofs.Common.{◌≡◌, ◌≢◌, ◌≤◌, ℕ, List, [], ◌++◌, length, Option, Some, None, Result, Ok, Err, IfErr, OnErr, OnOk, inl, inr, refl, sym, ap, ◌∙◌, subst}
+use Rattle.std.proofs.Common.{◌≡◌, ◌≢◌, ◌≤◌, ℕ, List, [], ◌∷◌, ◌++◌, length, Option, Some, None, Result, Ok, Err, IfErr, OnErr, OnOk, inl, inr, refl, sym, ap, ◌∙◌, subst}
 use Rattle.std.specs.Prelude.{IsErrAnd}
 use Rattle.run_meaning.specs.Runs.{TurnLog}
 use Rattle.site_edge.specs.Lists.{Adds, AddsPart}
@@ -41,40 +41,47 @@ on_any Is (Ok x) is = is
 on_any Is (Err x) is = tt
 
 -- before anything is written
-pub nothing_written : (text : List ℕ) (o : Outside) → IsPartWritten [] [] text [] o o
+pub nothing_written : (text : List ℕ) (o : Outside) → IsPartWritten [] [] text [] [] o o
 nothing_written text o = record { part = []; rest = text; are = refl; at = at_none o }
 
 -- in its lines
-pub lines_stopped : (fault : SinkFault) (text text' : List ℕ) (os : List Order) (t : Option (List Turn)) (s : Option (List Order)) (w w' : Option (List ℕ)) → text' ≡ text → AddsPart text' w w' → StopsIn (stop_of_sink fault) text os (outside t s w) (outside t s w')
-lines_stopped fault text text' os t s w w' same p = by fault
+pub lines_stopped : (fault : SinkFault) (text text' : List ℕ) (os : List Order) (t : Option (List Turn)) (s : Option (List Order)) (k : Option (List (List Order))) (w w' : Option (List ℕ)) (b b' : ℕ) → text' ≡ text → AddsPart text' w w'
+    → StopsIn (stop_of_sink fault) text os (outside t s k w b) (outside t s k w' b')
+lines_stopped fault text text' os t s k w w' b b' same p = by fault
   where
-    part : IsPartWritten [] [] text [] (outside t s w) (outside t s w')
+    part : IsPartWritten [] [] text [] [] (outside t s k w b) (outside t s k w' b')
     part =
         let q = part_of text' w w' p in
-        record { part = q.0; rest = q.1; are = sym same ∙ q.2; at = record { turns = takes_none t; written = q.3; started = adds_none s } }
+        record { part = q.0; rest = q.1; are = sym same ∙ q.2; at = record { turns = takes_none t; written = q.3; started = adds_none s; calls = adds_none k } }
 
-    by : (fault : SinkFault) → StopsIn (stop_of_sink fault) text os (outside t s w) (outside t s w')
+    by : (fault : SinkFault) → StopsIn (stop_of_sink fault) text os (outside t s k w b) (outside t s k w' b')
     by sink.Failed = part
     by sink.OutOfMemory = inl part
 
 -- in its orders
-pub orders_stopped : (r : Result (Unit {0}) Stop) (text text' : List ℕ) (os os' : List Order) (t t' : Option (List Turn)) (s s' : Option (List Order)) (w w' : Option (List ℕ)) → r ≢ Err stop.Sink → text' ≡ text → os' ≡ os → t' ≡ t → Adds text' w w'
-    → OnErr r (AddsPart os' s s') → OnErr r (1 ≤ length os') → IfErr r (λ x. StopsIn x text os (outside t s w) (outside t' s' w'))
-orders_stopped (Ok x) text text' os os' t t' s s' w w' never same these kept written p some = tt
-orders_stopped (Err x) text text' os os' t t' s s' w w' never same these kept written p some = by x (λ e. never (ap (λ (y : Stop). Err y) e))
+pub orders_stopped : (r : Result (Unit {0}) Stop) (text text' : List ℕ) (os os' : List Order) (t t' : Option (List Turn)) (s s' : Option (List Order)) (k k' : Option (List (List Order))) (w w' : Option (List ℕ)) (b b' : ℕ) → r ≢ Err stop.Sink
+    → text' ≡ text → os' ≡ os → t' ≡ t → Adds text' w w' → b' ≡ 0 → OnErr r (AddsPart os' s s') → OnErr r (AddsPart (os' ∷ []) k k') → OnErr r (1 ≤ length os')
+    → IfErr r (λ x. StopsIn x text os (outside t s k w b) (outside t' s' k' w' b'))
+orders_stopped (Ok x) text text' os os' t t' s s' k k' w w' b b' never same these kept written through p called some = tt
+orders_stopped (Err x) text text' os os' t t' s s' k k' w w' b b' never same these kept written through p called some = by x (λ e. never (ap (λ (y : Stop). Err y) e))
   where
-    part : IsPartStarted [] text [] os (outside t s w) (outside t' s' w')
+    part : IsPartStarted [] text [] os [] (outside t s k w b) (outside t' s' k' w' b')
     part =
         let q = part_of os' s s' p in
+        let call = part_of (os' ∷ []) k k' called in
         record {
           part = q.0;
           rest = q.1;
           are = sym these ∙ q.2;
           some = subst (λ (xs : List Order). 1 ≤ length xs) these some;
-          at = record { turns = subst (Takes [] t) (sym kept) (takes_none t); written = subst (λ v. Adds v w w') same written; started = q.3 };
+          tried = call.0;
+          untold = call.1;
+          one = ap (λ (xs : List Order). xs ∷ []) (sym these) ∙ call.2;
+          at = record { turns = subst (Takes [] t) (sym kept) (takes_none t); written = subst (λ v. Adds v w w') same written; started = q.3; calls = call.3 };
+          through = through;
         }
 
-    by : (x : Stop) → (x ≡ stop.Sink → ⊥) → StopsIn x text os (outside t s w) (outside t' s' w')
+    by : (x : Stop) → (x ≡ stop.Sink → ⊥) → StopsIn x text os (outside t s k w b) (outside t' s' k' w' b')
     by stop.Sink h = absurd (h refl)
     by stop.World h = part
     by stop.OutOfMemory h = inr part

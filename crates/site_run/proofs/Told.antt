@@ -1,11 +1,11 @@
 -- What a run writes and starts of the turns that come to it.
-use Rattle.std.proofs.Common.{◌≡◌, ◌+◌, ◌<◌, ◌≤◌, ℕ, zero, suc, List, [], ◌∷◌, ◌++◌, length, take, Option, Some, None, inl, inr, refl, sym, ap, ◌∙◌, subst, arith, append_assoc, length-append}
+use Rattle.std.proofs.Common.{◌≡◌, ◌+◌, ◌<◌, ◌≤◌, ℕ, zero, suc, List, [], ◌∷◌, ◌++◌, length, take, Option, Some, None, ◌⊎◌, inl, inr, refl, sym, ap, ◌∙◌, subst, arith, append_assoc, length-append}
 use Rattle.std.proofs.lemmas.List.{append-nil}
 use Rattle.run_meaning.specs.Runs.{TurnLog}
 use Rattle.site_edge.specs.Lists.{Adds, AddsPart}
 use Rattle.site_edge.specs.declared.order.Order.{Order}
 use Rattle.site_edge.specs.declared.turn.Turn.{Turn}
-use Rattle.site_run.specs.Courses.{Course, behind, log_of, logs, orders, text, text_of}
+use Rattle.site_run.specs.Courses.{Course, behind, calls, log_of, logs, orders, text, text_of}
 use Rattle.site_run.specs.Ends.{Came, Ends, EndsBehind, InLog, IsAt, IsBefore, IsBetween, IsInLines, IsInOrders, NoneLeft, Outside, Takes, TellsOf, WritesOf}
 use Rattle.site_run.specs.Starts.{started_of}
 use Rattle.site_run.specs.declared.status.Status.{Status}
@@ -86,12 +86,12 @@ module _ (c : Course) (limit : ℕ) where
     between : (s : Status) (done : List Turn) → length done ≤ limit → IsBetween c done (logs c done) o n
         → ((came : List Turn) → AddsPart (text c (take limit came)) o.written n.written → WritesOf s c limit came o.written n.written) → TellsOf s c limit o n
     between s done few x as' =
-        let w = coming done o.turns n.turns x.turns in
+        let w = coming done o.turns n.turns x.0.turns in
         record {
           came = done ++ w.left;
           told = w.told;
-          written = as' (done ++ w.left) (text_front done w.left o.written n.written few x.written);
-          started = orders_front done w.left o.started n.started few x.started;
+          written = as' (done ++ w.left) (text_front done w.left o.written n.written few x.0.written);
+          started = orders_front done w.left o.started n.started few x.0.started;
         }
 
     in_lines : (s : Status) (done : List Turn) (t : Turn) → length done < limit → IsInLines c done (logs c done) t (log_of (behind c done) t) o n
@@ -118,21 +118,21 @@ module _ (c : Course) (limit : ℕ) where
 
     whole : (done : List Turn) → length done ≤ limit → IsBetween c done (logs c done) o n → NoneLeft n.turns → TellsOf status.Done c limit o n
     whole done few x none =
-        let w = coming done o.turns n.turns x.turns in
+        let w = coming done o.turns n.turns x.0.turns in
         let all : done ++ w.left ≡ done = ap (λ left. done ++ left) (w.none none) ∙ append-nil done in
         record {
           came = done ++ w.left;
           told = w.told;
           written = (
             subst (λ (ts : List Turn). length ts ≤ limit) (sym all) few,
-            subst (λ ts. Adds (text c ts) o.written n.written) (sym (ap (take limit) all ∙ all_of done limit few)) x.written,
+            subst (λ ts. Adds (text c ts) o.written n.written) (sym (ap (take limit) all ∙ all_of done limit few)) x.0.written,
           );
-          started = orders_front done w.left o.started n.started few x.started;
+          started = orders_front done w.left o.started n.started few x.0.started;
         }
 
     spent : (done : List Turn) (t : Turn) → length done ≡ limit → IsBefore c done (logs c done) t o n → TellsOf status.TurnsSpent c limit o n
     spent done t all x =
-        let w = coming (done ++ t ∷ []) o.turns n.turns x.turns in
+        let w = coming (done ++ t ∷ []) o.turns n.turns x.0.turns in
         let came = (done ++ t ∷ []) ++ w.left in
         let first : take limit came ≡ done = ap (take limit) (append_assoc done (t ∷ []) w.left) ∙ ap (λ k. take k (done ++ (t ∷ [] ++ w.left))) (sym all) ∙ these_of done (t ∷ [] ++ w.left) in
         let l = length-append (done ++ t ∷ []) w.left in
@@ -140,8 +140,8 @@ module _ (c : Course) (limit : ℕ) where
         record {
           came = came;
           told = w.told;
-          written = (omega (arith, l, k, all), subst (λ ts. Adds (text c ts) o.written n.written) (sym first) x.written);
-          started = prefix (orders c (take limit came)) (orders c done) [] o.started n.started (ap (orders c) first ∙ sym (append-nil (orders c done))) x.started;
+          written = (omega (arith, l, k, all), subst (λ ts. Adds (text c ts) o.written n.written) (sym first) x.0.written);
+          started = prefix (orders c (take limit came)) (orders c done) [] o.started n.started (ap (orders c) first ∙ sym (append-nil (orders c done))) x.0.started;
         }
 
     -- before anything of it
@@ -153,7 +153,7 @@ module _ (c : Course) (limit : ℕ) where
           part = [];
           rest = text_of (behind c done) (log_of (behind c done) t);
           are = refl;
-          at = subst (λ w. IsAt (done ++ t ∷ []) w (orders c done) o n) (sym (append-nil (text c done))) x;
+          at = subst (λ w. IsAt (done ++ t ∷ []) w (orders c done) (calls c done) o n) (sym (append-nil (text c done))) x.0;
         }) as'
 
     -- a turn's log is the one of one caller

@@ -12,7 +12,7 @@ use Rattle.site_edge.specs.declared.turn.Turn.{Turn}
 use Rattle.site_model.specs.PlainSite.{site_view}
 use Rattle.turn_engine.specs.Stages.{Running, basis_of_site, stage_of}
 use Rattle.site_run.specs.Feeds.{Changing, Giving, basis_fed}
-use Rattle.site_run.specs.Starts.{started_of}
+use Rattle.site_run.specs.Starts.{calls_with, started_of}
 
 -- what a run stands on, the stage from which it goes on, and the version of its log
 pub record Course : Type 0 where
@@ -50,6 +50,10 @@ text_over c ls = concat (flat_map (turn_lines c.style c.basis.rules.site) ls)
 abbrev pub orders_over : List TurnLog → List Order
 orders_over ls = flat_map (λ l. started_of l.orders) ls
 
+-- the calls by which they are started
+abbrev pub calls_over : List TurnLog → List (List Order)
+calls_over ls = flat_map (λ l. calls_with (started_of l.orders)) ls
+
 -- the run behind them
 abbrev pub behind_over : Course → List Turn → List TurnLog → Course
 behind_over c ts ls = record c { stage = stage_by c.basis c.stage (reads c ts) ls }
@@ -75,6 +79,10 @@ text c ts = text_over c (logs c ts)
 -- the orders that are started of them
 abbrev pub orders : Course → List Turn → List Order
 orders c ts = orders_over (logs c ts)
+
+-- the calls by which they are started
+abbrev pub calls : Course → List Turn → List (List Order)
+calls c ts = calls_over (logs c ts)
 
 -- the run behind them
 abbrev pub behind : Course → List Turn → Course

@@ -6,7 +6,7 @@ use Rattle.site_edge.specs.declared.order.Order.{Order}
 use Rattle.site_edge.specs.declared.turn.Turn.{Turn}
 use Rattle.turn_engine.specs.Ready.{Held}
 use Rattle.turn_engine.specs.Stages.{stage_of}
-use Rattle.site_run.specs.Courses.{AreLogsOf, Course, IsNextLog, behind_over, orders, orders_over, text, text_of, text_over}
+use Rattle.site_run.specs.Courses.{AreLogsOf, Course, IsNextLog, behind_over, calls_over, orders, orders_over, text, text_of, text_over}
 use Rattle.site_run.specs.Feeds.{Changing, feed_after}
 use Rattle.site_run.specs.Starts.{started_of}
 use Rattle.site_run.specs.Stops.{status_of}
@@ -15,47 +15,60 @@ use Rattle.site_run.specs.declared.status.Status.TheVariants as status
 use Rattle.site_run.specs.declared.stop.Stop.{Stop}
 use Rattle.site_run.specs.declared.stop.Stop.TheVariants as stop
 
--- what is told of the world and of the sink: the turns left, the orders started, the bytes written
+-- what is told of the world and of the sink: the turns left, the orders started, and with which it was called, call by call; the bytes
+-- written, and how many of them are kept back
 pub record Outside : Type 0 where
   pub turns : Option (List Turn)
   pub started : Option (List Order)
+  pub calls : Option (List (List Order))
   pub written : Option (List ℕ)
+  pub kept_back : ℕ
 
-abbrev pub outside : Option (List Turn) → Option (List Order) → Option (List ℕ) → Outside
-outside turns started written = record { turns = turns; started = started; written = written }
+abbrev pub outside : Option (List Turn) → Option (List Order) → Option (List (List Order)) → Option (List ℕ) → ℕ → Outside
+outside turns started calls written kept_back = record { turns = turns; started = started; calls = calls; written = written; kept_back = kept_back }
 
 -- these were taken off the front; what isn't told stays so
 abbrev pub Takes : List Turn → Option (List Turn) → Option (List Turn) → Type 0
 Takes taken old new = MatchOption old (new ≡ None) (λ all. (left : List Turn) × (all ≡ taken ++ left) × (new ≡ Some left))
 
--- these turns were taken, these bytes written and these orders started, and no others
-pub record IsAt (taken : List Turn) (bytes : List ℕ) (begun : List Order) (old new : Outside) : Type 0 where
+-- these turns were taken, these bytes written, and these orders started by these calls, and no others
+pub record IsAt (taken : List Turn) (bytes : List ℕ) (begun : List Order) (by_calls : List (List Order)) (old new : Outside) : Type 0 where
   pub turns : Takes taken old.turns new.turns
   pub written : Adds bytes old.written new.written
   pub started : Adds begun old.started new.started
+  pub calls : Adds by_calls old.calls new.calls
 
 -- so, and of this text the first bytes were written too
-pub record IsPartWritten (taken : List Turn) (written text : List ℕ) (started : List Order) (old new : Outside) : Type 0 where
+pub record IsPartWritten (taken : List Turn) (written text : List ℕ) (started : List Order) (by_calls : List (List Order)) (old new : Outside) : Type 0 where
   pub part : List ℕ
   pub rest : List ℕ
   pub are : text ≡ part ++ rest
-  pub at : IsAt taken (written ++ part) started old new
+  pub at : IsAt taken (written ++ part) started by_calls old new
 
--- so, and of these orders, of which there are some, the first were started too
-pub record IsPartStarted (taken : List Turn) (written : List ℕ) (started orders : List Order) (old new : Outside) : Type 0 where
+-- so, and of these orders, of which there are some, the first were started too, by one call with all of them, which may be told or not.
+-- Nothing that was written is kept back then.
+pub record IsPartStarted (taken : List Turn) (written : List ℕ) (started orders : List Order) (by_calls : List (List Order)) (old new : Outside) : Type 0 where
   pub part : List Order
   pub rest : List Order
   pub are : orders ≡ part ++ rest
   pub some : 1 ≤ length orders
-  pub at : IsAt taken written (started ++ part) old new
+  pub tried : List (List Order)
+  pub untold : List (List Order)
+  pub one : orders ∷ [] ≡ tried ++ untold
+  pub at : IsAt taken written (started ++ part) (by_calls ++ tried) old new
+  pub through : new.kept_back ≡ 0
+
+-- nothing is kept back, where nothing was at first
+abbrev pub StaysThrough : Outside → Outside → Type 0
+StaysThrough old new = old.kept_back ≡ 0 → new.kept_back ≡ 0
 
 -- Within one turn.
 
--- where it stops: in the text, or once that is written in the orders
+-- where it stops: in the text, or once that is written and handed on in the orders
 abbrev pub StopsIn : Stop → List ℕ → List Order → Outside → Outside → Type 0
-StopsIn stop.Sink text orders old new = IsPartWritten [] [] text [] old new
-StopsIn stop.World text orders old new = IsPartStarted [] text [] orders old new
-StopsIn stop.OutOfMemory text orders old new = IsPartWritten [] [] text [] old new ⊎ IsPartStarted [] text [] orders old new
+StopsIn stop.Sink text orders old new = IsPartWritten [] [] text [] [] old new
+StopsIn stop.World text orders old new = IsPartStarted [] text [] orders [] old new
+StopsIn stop.OutOfMemory text orders old new = IsPartWritten [] [] text [] [] old new ⊎ IsPartStarted [] text [] orders [] old new
 
 -- a turn with such a log was taken, unless there was no memory, in which case nothing may have happened
 abbrev pub TakesTurn : Stop → Type 0 → Outside → Outside → Type 0
@@ -65,21 +78,22 @@ TakesTurn stop.OutOfMemory Is old new = (new ≡ old) ⊎ Is
 
 -- Within a run, behind turns with these logs.
 
--- between two turns: of those that were taken all is written and started
+-- between two turns: of those that were taken all is written, handed on and started
 abbrev pub IsBetween : Course → List Turn → List TurnLog → Outside → Outside → Type 0
-IsBetween c done ls old new = IsAt done (text_over c ls) (orders_over ls) old new
+IsBetween c done ls old new = IsAt done (text_over c ls) (orders_over ls) (calls_over ls) old new × StaysThrough old new
 
--- before a turn: it was taken, and nothing of it is written or started
+-- before a turn: it was taken, and nothing of it is written or started; what is written is handed on
 abbrev pub IsBefore : Course → List Turn → List TurnLog → Turn → Outside → Outside → Type 0
-IsBefore c done ls t old new = IsAt (done ++ t ∷ []) (text_over c ls) (orders_over ls) old new
+IsBefore c done ls t old new = IsAt (done ++ t ∷ []) (text_over c ls) (orders_over ls) (calls_over ls) old new × StaysThrough old new
 
 -- in the lines of a turn with this log: the first bytes of its text are written, and nothing of it is started
 abbrev pub IsInLines : Course → List Turn → List TurnLog → Turn → TurnLog → Outside → Outside → Type 0
-IsInLines c done ls t l old new = IsPartWritten (done ++ t ∷ []) (text_over c ls) (text_of c l) (orders_over ls) old new
+IsInLines c done ls t l old new = IsPartWritten (done ++ t ∷ []) (text_over c ls) (text_of c l) (orders_over ls) (calls_over ls) old new
 
--- in the orders of a turn with this log: its text is written, and the first of its orders are started
+-- in the orders of a turn with this log: its text is written and handed on, and the first of its orders are started
 abbrev pub IsInOrders : Course → List Turn → List TurnLog → Turn → TurnLog → Outside → Outside → Type 0
-IsInOrders c done ls t l old new = IsPartStarted (done ++ t ∷ []) (text_over c ls ++ text_of c l) (orders_over ls) (started_of l.orders) old new
+IsInOrders c done ls t l old new =
+    IsPartStarted (done ++ t ∷ []) (text_over c ls ++ text_of c l) (orders_over ls) (started_of l.orders) (calls_over ls) old new
 
 -- no turn is left, where they are told
 abbrev pub NoneLeft : Option (List Turn) → Type 0
@@ -140,6 +154,18 @@ pub record TellsOf (s : Status) (c : Course) (limit : ℕ) (old new : Outside) :
   pub told : Came old.turns came
   pub written : WritesOf s c limit came old.written new.written
   pub started : AddsPart (orders c (take limit came)) old.started new.started
+
+-- what is kept back when a run ends, by the status: nothing, but where the words or files were refused, where the output could not be
+-- written, and where there was no memory
+abbrev pub HandsOn : Status → ℕ → Type 0
+HandsOn status.Done kept = kept ≡ 0
+HandsOn status.Diagnosed kept = kept ≡ 0
+HandsOn status.TurnsSpent kept = kept ≡ 0
+HandsOn status.WorldFault kept = kept ≡ 0
+HandsOn status.Usage kept = Unit {0}
+HandsOn status.ReadFault kept = Unit {0}
+HandsOn status.WriteFault kept = Unit {0}
+HandsOn status.OutOfMemory kept = Unit {0}
 
 -- with what a run ends
 abbrev pub ended : Result Status Stop → Status

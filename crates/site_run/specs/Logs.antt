@@ -76,18 +76,19 @@ pub record IsNowhere (s : Status) (old new : Outside) : Type 0 where
 -- into what stands before the first turn
 pub record IsAtFirst (s : Status) (style : Style) (old new : Outside) : Type 0 where
   pub cause : (s ≡ status.WriteFault) ⊎ (s ≡ status.OutOfMemory)
-  pub at : IsPartWritten [] [] (concat (first_lines style)) [] old new
+  pub at : IsPartWritten [] [] (concat (first_lines style)) [] [] old new
 
 -- the run over a site from its start
 abbrev pub course_from_start : PlainSite → Option Tzif → Style → Course
 course_from_start s zone style = record { basis = basis_of_site s zone; stage = start s (no_entries s); style = style }
 
--- behind that, over turns
+-- behind that, which is handed on, over turns
 pub record IsOverTurns (s : Status) (callers : ℕ) (style : Style) (limit : ℕ) (site : PlainSite) (old new : Outside) : Type 0 where
   pub zone : Option Tzif
   pub is_zone : IsZoneOf site.zone zone
   pub begun : Outside
-  pub first : IsAt [] (concat (first_lines style)) [] old begun
+  pub first : IsAt [] (concat (first_lines style)) [] [] old begun
+  pub through : begun.kept_back ≡ 0
   pub ends : Ends s callers (course_from_start site zone style) limit (λ _ _. Unit {0}) begun new
 
 abbrev pub Went : Status → ℕ → Style → ℕ → PlainSite → Outside → Outside → Type 0

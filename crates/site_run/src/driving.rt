@@ -3,10 +3,10 @@ ghost use Rattle.std.specs.Prelude.{◌≡◌, ◌≢◌, ◌≤◌, ◌+◌, �
 ghost use Rattle.site_edge.specs.Told.{Rose};
 ghost use Rattle.site_model.specs.PlainSite.{site_view};
 ghost use Rattle.site_model.specs.Sound.{IsSound};
-ghost use Rattle.site_run.specs.Courses.{course_alone, course_of};
+ghost use Rattle.site_run.specs.Courses.{course_of};
 ghost use Rattle.site_run.specs.Ends.{Ends, Stands, ended, outside};
 
-use crate::feed::{Feed, NoFeed};
+use crate::feed::Feed;
 use crate::status::Status;
 use crate::stop::Stop;
 use crate::turning::drive_turn;
@@ -15,14 +15,15 @@ use site_edge::{Sink, World};
 use std::alloc::Global;
 use turn_engine::Engine;
 
-/// Takes the turns of a world, one after another. Of each it writes the lines in a version of the log and then starts the orders that have
-/// words, before it takes the next one. The lines of the feed stand before a turn's own. The line `log 2` isn't written.
+/// Takes the turns of a world, one after another. Of each it writes the lines in a version of the log, hands them on, and then starts the
+/// orders that have words by one call, before it takes the next one. The lines of the feed stand before a turn's own; [`crate::NoFeed`]
+/// has none. The line `log 2` isn't written.
 ///
 /// The engine isn't spent, its turns and the limit are together at most 2^40, its site is sound, and the feed is made for it.
 ///
 /// It ends with `Done` after the last turn, and then the engine and the feed stand behind all of them; with `TurnsSpent` where one more
-/// came than the limit; with `WriteFault` where a line could not be written; with `WorldFault` where the world could give no turn or take
-/// no orders; and with `OutOfMemory`. After another status than `Done` the engine may be spent, and nothing is said of the feed.
+/// came than the limit; with `WriteFault` where a line could not be written or handed on; with `WorldFault` where the world could give no
+/// turn or take no orders; and with `OutOfMemory`. After another status than `Done` the engine may be spent, and nothing is said of the feed.
 pub fn drive_part_one<W: World, S: Sink, F: Feed>(
     alloc: Global,
     engine: &mut Engine,
@@ -37,7 +38,7 @@ pub fn drive_part_one<W: World, S: Sink, F: Feed>(
     requires sound { IsSound (site_view engine.old.run.site) }
     requires made { F.made_for feed.old (site_view engine.old.run.site) }
     ensures ends { let c = course_of engine.old.run [] style F.gives F.after feed.old in
-        Ends result 1 c limit (λ done logs. Stands c F.after feed.old done logs engine.new feed.new) (outside (W.turns world.old) (W.started world.old) (S.written out.old)) (outside (W.turns world.new) (W.started world.new) (S.written out.new)) }
+        Ends result 1 c limit (λ done logs. Stands c F.after feed.old done logs engine.new feed.new) (outside (W.turns world.old) (W.started world.old) (W.calls world.old) (S.written out.old) (S.kept_back out.old)) (outside (W.turns world.new) (W.started world.new) (W.calls world.new) (S.written out.new) (S.kept_back out.new)) }
     ensures site { result ≡ Status.Done → engine.new.run.site ≡ engine.old.run.site }
     ensures zone { result ≡ Status.Done → engine.new.run.zone ≡ engine.old.run.zone }
     ensures made { result ≡ Status.Done → F.made_for feed.new (site_view engine.old.run.site) }
@@ -56,48 +57,6 @@ pub fn drive_part_one<W: World, S: Sink, F: Feed>(
     }
 }
 
-/// Takes the turns of a world with an engine that takes no others, as [`drive_part_one`] with no feed.
-pub fn drive_alone<W: World, S: Sink>(
-    alloc: Global,
-    mut engine: Engine,
-    world: &mut W,
-    out: &mut S,
-    style: Style,
-    limit: u64,
-) -> Status
-    requires fresh { engine.spent ≡ false }
-    requires few { engine.run.turns + limit ≤ 2 ^ 40 }
-    requires sound { IsSound (site_view engine.run.site) }
-    ensures ends { Ends result 1 (course_alone engine.run [] style) limit (λ _ _. Unit {0}) (outside (W.turns world.old) (W.started world.old) (S.written out.old)) (outside (W.turns world.new) (W.started world.new) (S.written out.new)) }
-    ensures write_fault { result ≡ Status.WriteFault → Rose (S.faults out.old) (S.faults out.new) }
-    ensures world_fault { result ≡ Status.WorldFault → Rose (W.faults world.old) (W.faults world.new) }
-    ensures calm_sink { S.calm out.old → result ≢ Status.WriteFault }
-    ensures calm_world { W.calm world.old → result ≢ Status.WorldFault }
-{
-    let mut feed = NoFeed::new(alloc);
-    drive_part_one(alloc, &mut engine, world, out, &mut feed, style, limit)
-}
-
-/// The same in version one of the log.
-pub fn drive_one<W: World, S: Sink>(
-    alloc: Global,
-    engine: Engine,
-    world: &mut W,
-    out: &mut S,
-    limit: u64,
-) -> Status
-    requires fresh { engine.spent ≡ false }
-    requires few { engine.run.turns + limit ≤ 2 ^ 40 }
-    requires sound { IsSound (site_view engine.run.site) }
-    ensures ends { Ends result 1 (course_alone engine.run [] Style.One) limit (λ _ _. Unit {0}) (outside (W.turns world.old) (W.started world.old) (S.written out.old)) (outside (W.turns world.new) (W.started world.new) (S.written out.new)) }
-    ensures write_fault { result ≡ Status.WriteFault → Rose (S.faults out.old) (S.faults out.new) }
-    ensures world_fault { result ≡ Status.WorldFault → Rose (W.faults world.old) (W.faults world.new) }
-    ensures calm_sink { S.calm out.old → result ≢ Status.WriteFault }
-    ensures calm_world { W.calm world.old → result ≢ Status.WorldFault }
-{
-    drive_alone(alloc, engine, world, out, Style::One, limit)
-}
-
 /// Takes the turns of a world, and tells with which status the run ends, or why it stops.
 fn drive_turns<W: World, S: Sink, F: Feed>(
     alloc: Global,
@@ -113,7 +72,7 @@ fn drive_turns<W: World, S: Sink, F: Feed>(
     requires sound { IsSound (site_view engine.old.run.site) }
     requires made { F.made_for feed.old (site_view engine.old.run.site) }
     ensures ends { let c = course_of engine.old.run [] style F.gives F.after feed.old in
-        Ends (ended result) 1 c limit (λ done logs. Stands c F.after feed.old done logs engine.new feed.new) (outside (W.turns world.old) (W.started world.old) (S.written out.old)) (outside (W.turns world.new) (W.started world.new) (S.written out.new)) }
+        Ends (ended result) 1 c limit (λ done logs. Stands c F.after feed.old done logs engine.new feed.new) (outside (W.turns world.old) (W.started world.old) (W.calls world.old) (S.written out.old) (S.kept_back out.old)) (outside (W.turns world.new) (W.started world.new) (W.calls world.new) (S.written out.new) (S.kept_back out.new)) }
     ensures site { ended result ≡ Status.Done → engine.new.run.site ≡ engine.old.run.site }
     ensures zone { ended result ≡ Status.Done → engine.new.run.zone ≡ engine.old.run.zone }
     ensures made { ended result ≡ Status.Done → F.made_for feed.new (site_view engine.old.run.site) }

@@ -16,9 +16,12 @@ mod stop;
 mod taking;
 mod turning;
 
-pub use driving::{drive_alone, drive_one, drive_part_one};
+pub use driving::drive_part_one;
 pub use feed::{Feed, NoFeed};
-pub use laws::{logs_of_one_caller_are_one, runs_write_their_text};
+pub use laws::{
+    a_log_over_a_site_is_one, a_zone_file_decides_when_periods_hold, logs_of_one_caller_are_one,
+    runs_write_their_text,
+};
 pub use logs::write_log;
 pub use script_world::ScriptWorld;
 pub use status::Status;

@@ -8,10 +8,11 @@ ghost use Rattle.site_edge.specs.Told.{Rose};
 ghost use Rattle.site_model.specs.PlainSite.{site_view};
 ghost use Rattle.site_model.specs.Sound.{IsSound};
 ghost use Rattle.time_range.specs.Zone.{IsBadFile};
-ghost use Rattle.site_run.specs.Ends.{outside};
+ghost use Rattle.site_run.specs.Ends.{HandsOn, outside};
 ghost use Rattle.site_run.specs.Logs.{AnswersWorld, EndsRun, Went};
 
-use crate::driving::drive_alone;
+use crate::driving::drive_part_one;
+use crate::feed::NoFeed;
 use crate::status::Status;
 use log_text::version_line;
 use run_text::Style;
@@ -21,7 +22,7 @@ use std::alloc::Global;
 use turn_engine::Engine;
 
 /// Writes the log of the world's turns over a site, and lets the world start the checks that they order. The site is one that an engine can
-/// be made of, and the limit is at most 2^40.
+/// be made of, and the limit is at most 2^40. What was kept back before is handed on first.
 ///
 /// It ends as [`crate::drive_part_one`] does over these turns, of which it takes no more than the limit; with `WriteFault` or
 /// `OutOfMemory` it may have come to no turn.
@@ -38,8 +39,9 @@ pub fn write_log<W: World, S: Sink>(
     requires free { All (λ d. IsOnCycle (site_view site) d → ⊥) (site_view site).depends }
     requires zone { MatchOption (site_view site).zone (Unit {0}) (λ bytes. IsBadFile bytes → ⊥) }
     requires limit { limit ≤ 2 ^ 40 }
-    ensures went { Went result 1 style limit (site_view site) (outside (W.turns world.old) (W.started world.old) (S.written out.old)) (outside (W.turns world.new) (W.started world.new) (S.written out.new)) }
+    ensures went { Went result 1 style limit (site_view site) (outside (W.turns world.old) (W.started world.old) (W.calls world.old) (S.written out.old) (S.kept_back out.old)) (outside (W.turns world.new) (W.started world.new) (W.calls world.new) (S.written out.new) (S.kept_back out.new)) }
     ensures written { EndsRun result (AnswersWorld 1 style limit (W.turns world.old) (site_view site)) (S.written out.old) (S.written out.new) }
+    ensures through { HandsOn result (S.kept_back out.new) }
     ensures never_usage { result ≢ Status.Usage }
     ensures no_read_fault { result ≢ Status.ReadFault }
     ensures never_diagnosed { result ≢ Status.Diagnosed }
@@ -48,19 +50,24 @@ pub fn write_log<W: World, S: Sink>(
     ensures calm_sink { S.calm out.old → result ≢ Status.WriteFault }
     ensures calm_world { W.calm world.old → result ≢ Status.WorldFault }
 {
-    let Ok(engine) = Engine::new(alloc, site) else {
+    let Ok(mut engine) = Engine::new(alloc, site) else {
         return Status::OutOfMemory;
     };
     match begin_log(style, out) {
-        Ok(()) => drive_alone(alloc, engine, world, out, style, limit),
+        Ok(()) => {
+            let mut feed = NoFeed::new(alloc);
+            drive_part_one(alloc, &mut engine, world, out, &mut feed, style, limit)
+        }
         Err(SinkFault::Failed) => Status::WriteFault,
         Err(SinkFault::OutOfMemory) => Status::OutOfMemory,
     }
 }
 
-/// Writes what stands before the first turn.
+/// Writes what stands before the first turn, and hands it on.
+#[tactic(auto, using(crate::proofs::Adding::adds_same, crate::proofs::Adding::part_same))]
 fn begin_log<S: Sink>(style: Style, out: &mut S) -> Result<(), SinkFault>
     ensures ok { OnOk result (Adds (concat (first_lines style)) (S.written out.old) (S.written out.new)) }
+    ensures through { OnOk result (S.kept_back out.new ≡ 0) }
     ensures err { OnErr result (AddsPart (concat (first_lines style)) (S.written out.old) (S.written out.new)) }
     ensures cause { IsErrOf result SinkFault.Failed → Rose (S.faults out.old) (S.faults out.new) }
     ensures counts { S.faults out.old ≤ S.faults out.new }
@@ -68,7 +75,7 @@ fn begin_log<S: Sink>(style: Style, out: &mut S) -> Result<(), SinkFault>
     ensures unfailing { S.calm out.old → result ≢ Err SinkFault.Failed }
 {
     match style {
-        Style::One => Ok(()),
+        Style::One => out.flush(),
         Style::Two => {
             out.put(version_line().as_bytes())?;
             out.flush()

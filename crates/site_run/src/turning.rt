@@ -10,7 +10,7 @@ ghost use Rattle.turn_engine.specs.Stages.{stage_of};
 ghost use Rattle.site_run.specs.Courses.{IsNextLog, behind, course_of, log_of, text_of};
 ghost use Rattle.site_run.specs.Ends.{IsAt, StopsIn, TakesTurn, outside};
 ghost use Rattle.site_run.specs.Feeds.{feed_after};
-ghost use Rattle.site_run.specs.Starts.{started_of};
+ghost use Rattle.site_run.specs.Starts.{calls_with, started_of};
 
 use crate::feed::Feed;
 use crate::stop::Stop;
@@ -20,7 +20,7 @@ use site_edge::{Order, Sink, Turn, World};
 use std::alloc::Global;
 use turn_engine::Engine;
 
-/// Takes a turn, writes its lines, and then starts its orders.
+/// Takes a turn, writes its lines and hands them on, and then starts its orders.
 pub(crate) fn drive_turn<W: World, S: Sink, F: Feed>(
     alloc: Global,
     engine: &mut Engine,
@@ -36,15 +36,16 @@ pub(crate) fn drive_turn<W: World, S: Sink, F: Feed>(
     requires made { F.made_for feed.old (site_view engine.old.run.site) }
     ensures goes { (begun : List Begun) (first : F) → feed.old ≡ feed_after F.after first begun →
         let c = course_of engine.old.run begun style F.gives F.after first in
-        OnOk result (IsAt [] (text_of c (log_of c turn)) (started_of (log_of c turn).orders) (outside (W.turns world.old) (W.started world.old) (S.written out.old)) (outside (W.turns world.new) (W.started world.new) (S.written out.new))) }
+        OnOk result (IsAt [] (text_of c (log_of c turn)) (started_of (log_of c turn).orders) (calls_with (started_of (log_of c turn).orders)) (outside (W.turns world.old) (W.started world.old) (W.calls world.old) (S.written out.old) (S.kept_back out.old)) (outside (W.turns world.new) (W.started world.new) (W.calls world.new) (S.written out.new) (S.kept_back out.new))) }
+    ensures through { OnOk result (S.kept_back out.new ≡ 0) }
     ensures stops { (begun : List Begun) (first : F) → feed.old ≡ feed_after F.after first begun →
         let c = course_of engine.old.run begun style F.gives F.after first in
-        IfErr result (λ stop. StopsIn stop (text_of c (log_of c turn)) (started_of (log_of c turn).orders) (outside (W.turns world.old) (W.started world.old) (S.written out.old)) (outside (W.turns world.new) (W.started world.new) (S.written out.new))) }
+        IfErr result (λ stop. StopsIn stop (text_of c (log_of c turn)) (started_of (log_of c turn).orders) (outside (W.turns world.old) (W.started world.old) (W.calls world.old) (S.written out.old) (S.kept_back out.old)) (outside (W.turns world.new) (W.started world.new) (W.calls world.new) (S.written out.new) (S.kept_back out.new))) }
     ensures turn { (begun : List Begun) (first : F) → feed.old ≡ feed_after F.after first begun →
         OnOk result (IsNextLog 1 (course_of engine.old.run begun style F.gives F.after first) [] [] turn (log_of (course_of engine.old.run begun style F.gives F.after first) turn)) }
     ensures taken { (begun : List Begun) (first : F) → feed.old ≡ feed_after F.after first begun →
         let c = course_of engine.old.run begun style F.gives F.after first in
-        IfErr result (λ stop. TakesTurn stop (IsNextLog 1 c [] [] turn (log_of c turn)) (outside (W.turns world.old) (W.started world.old) (S.written out.old)) (outside (W.turns world.new) (W.started world.new) (S.written out.new))) }
+        IfErr result (λ stop. TakesTurn stop (IsNextLog 1 c [] [] turn (log_of c turn)) (outside (W.turns world.old) (W.started world.old) (W.calls world.old) (S.written out.old) (S.kept_back out.old)) (outside (W.turns world.new) (W.started world.new) (W.calls world.new) (S.written out.new) (S.kept_back out.new))) }
     ensures stage { (begun : List Begun) (first : F) → feed.old ≡ feed_after F.after first begun →
         OnOk result (stage_of engine.new.run (begun_by (stage_of engine.old.run begun) engine.new.run.moment) ≡ (behind (course_of engine.old.run begun style F.gives F.after first) (turn ∷ [])).stage) }
     ensures feed { OnOk result (feed.new ≡ F.after feed.old engine.old.run.histories engine.new.run.moment) }
@@ -66,10 +67,13 @@ pub(crate) fn drive_turn<W: World, S: Sink, F: Feed>(
     start(world, taken.orders.as_slice())
 }
 
-/// Starts the orders, if there are any.
+/// Starts the orders by one call, if there are any.
+#[tactic(auto, using(crate::proofs::Adding::no_call, crate::proofs::Adding::one_call))]
 fn start<W: World>(world: &mut W, orders: &[Order]) -> Result<(), Stop>
     ensures ok { OnOk result (Adds orders.now (W.started world.old) (W.started world.new)) }
+    ensures once { OnOk result (Adds (calls_with orders.now) (W.calls world.old) (W.calls world.new)) }
     ensures err { OnErr result (AddsPart orders.now (W.started world.old) (W.started world.new)) }
+    ensures tried { OnErr result (AddsPart (orders.now ∷ []) (W.calls world.old) (W.calls world.new)) }
     ensures some { OnErr result (1 ≤ length orders.now) }
     ensures same { W.turns world.new ≡ W.turns world.old }
     ensures never_sink { result ≢ Err Stop.Sink }

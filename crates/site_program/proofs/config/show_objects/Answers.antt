@@ -4,7 +4,7 @@ use Rattle.site_program.specs.Runs.{replied}
 use Rattle.site_program.specs.TaskAnswers.{AnswersShown}
 use Rattle.site_replies.specs.Replies.{config_reply, files_in}
 use Rattle.site_program.proofs.Answering.{shown_answers}
-use Rattle.site_program.proofs.Ending.{ended, unread}
+use Rattle.site_program.proofs.Ending.{ended, unread, unread_through}
 use Rattle.site_program.proofs.config.show_objects.Goals as goal
 
 pub returns-in-Ok-clause-written : goal.returns-in-Ok-clause-written
@@ -21,3 +21,6 @@ returns-in-Ok-clause-written g c =
 pub returns-in-Err-clause-written : goal.returns-in-Err-clause-written
 returns-in-Err-clause-written g c =
     unread c.in-Err.fault c.status_of.result (λ w. IfSome (g.F.Files.told c.args.files.now) (λ all. AnswersShown all c.args.shown c.args.root.now w)) (g.S.Sink.written c.args.out.now) c.status_of.ensures
+
+pub returns-in-Err-clause-through : goal.returns-in-Err-clause-through
+returns-in-Err-clause-through g c = unread_through c.in-Err.fault c.status_of.result _ c.status_of.ensures

@@ -1,11 +1,11 @@
-use Rattle.std.proofs.Common.{◌≡◌, IfOk, IfSome, inr, rules}
+use Rattle.std.proofs.Common.{◌≡◌, IfOk, IfSome, inl, inr, refl, rules}
 use Rattle.site_model.specs.PlainSite.{site_view}
 use Rattle.site_program.specs.Runs.{replied}
 use Rattle.site_program.specs.TaskAnswers.{AnswersSite, most_turns}
 use Rattle.site_replies.specs.Replies.{diagnoses, reply_view}
 use Rattle.site_run.specs.Logs.{AnswersWorld}
-use Rattle.site_program.proofs.Answering.{always, diags_answer, site_answers, site_found}
-use Rattle.site_program.proofs.Ending.{ended, ended_as}
+use Rattle.site_program.proofs.Answering.{always, diags_answer, no_site_found, site_answers, site_found}
+use Rattle.site_program.proofs.Ending.{ended, ended_as, unanswered, unread_through}
 use Rattle.site_program.proofs.daemon.watch.Goals as goal
 
 pub returns-in-Ok-Site-clause-written : goal.returns-in-Ok-Site-clause-written
@@ -22,11 +22,11 @@ pub returns-in-Ok-Site-clause-came : goal.returns-in-Ok-Site-clause-came
 returns-in-Ok-Site-clause-came g c =
     let told = g.F.Files.told c.args.files.now in
     let a = c.in-Ok-Site in
-    inr (record {
+    inr (inr (record {
       site = site_view a.site;
       is = site_found c.args.root.now told a.field-0 a.site a.field-0-is (λ files h. (a.ensures.files files h, λ bad decided. a.ensures.value files bad h decided));
       went = c.write_log.ensures.went;
-    })
+    }))
 
 pub returns-in-Ok-Diags-clause-written : goal.returns-in-Ok-Diags-clause-written
 returns-in-Ok-Diags-clause-written g c =
@@ -40,3 +40,20 @@ returns-in-Ok-Diags-clause-written g c =
       diags_answer (λ all. AnswersWorld 1 c.args.style most_turns turns) c.args.root.now told a.field-0 a.files a.list a.field-0-is (λ files h. (a.ensures.files files h, λ bad decided. a.ensures.value files bad h decided)),
       c.write_made.ensures.written reply made,
     )
+
+pub returns-in-Err-clause-through : goal.returns-in-Err-clause-through
+returns-in-Err-clause-through g c = unread_through c.in-Err.fault c.status_of.result _ c.status_of.ensures
+
+pub returns-in-Ok-Diags-clause-came : goal.returns-in-Ok-Diags-clause-came
+returns-in-Ok-Diags-clause-came g c =
+    let a = c.in-Ok-Diags in
+    inr (inl (record {
+      is =
+          no_site_found c.args.root.now (g.F.Files.told c.args.files.now) a.field-0 a.files a.list a.field-0-is (λ files h. (a.ensures.files files h, λ bad decided. a.ensures.value files bad h decided));
+      turns = refl;
+      started = refl;
+      calls = refl;
+    }))
+
+pub returns-in-Err-clause-came : goal.returns-in-Err-clause-came
+returns-in-Err-clause-came g c = inl (unanswered c.in-Err.fault c.status_of.result _ c.status_of.ensures)

@@ -5,7 +5,7 @@ use Rattle.site_program.specs.Runs.{replied}
 use Rattle.site_program.specs.TaskAnswers.{AnswersBytes, AnswersSite, Files}
 use Rattle.site_replies.specs.Replies.{diagnoses, reply_view}
 use Rattle.site_program.proofs.Answering.{diags_answer, site_answers}
-use Rattle.site_program.proofs.Ending.{ended, ended_as}
+use Rattle.site_program.proofs.Ending.{ended, ended_as, unread_through}
 use Rattle.site_program.proofs.replay.replay.Goals as goal
 
 pub returns-in-Ok-Site-clause-written : goal.returns-in-Ok-Site-clause-written
@@ -31,3 +31,6 @@ returns-in-Ok-Diags-clause-written g c =
       diags_answer (λ all s. AnswersBytes c.args.style script s (find_file script all)) c.args.root.now told a.field-0 a.files a.list a.field-0-is (λ files h. (a.ensures.files files h, λ bad decided. a.ensures.value files bad h decided)),
       c.write_made.ensures.written reply made,
     )
+
+pub returns-in-Err-clause-through : goal.returns-in-Err-clause-through
+returns-in-Err-clause-through g c = unread_through c.in-Err.fault c.status_of.result _ c.status_of.ensures
