@@ -1,9 +1,9 @@
 // Trees that become values under names.
-ghost use Rattle.std.specs.Prelude.{◌≡◌, ◌++◌, ◌∷◌, [], OnOk, map};
+ghost use Rattle.std.specs.Prelude.{◌≡◌, ◌++◌, ◌∷◌, [], ℕ, IfOk, IfSome, OnOk, map};
 ghost use Rattle.site_base.specs.View.{view};
-ghost use Rattle.dsl_value.specs.Contents.{with_cells};
-ghost use Rattle.dsl_value.specs.Loads.{load, grown, given};
-ghost use Rattle.eval_work.specs.Kept.{HasGlobals, IsLater, PairsNamed};
+ghost use Rattle.dsl_value.specs.Contents.{Contents, with_cells};
+ghost use Rattle.dsl_value.specs.Loads.{bare, load, grown, given};
+ghost use Rattle.eval_work.specs.Kept.{HasGlobals, IsLater, Named, PairsNamed};
 ghost use Rattle.eval_work.specs.Works.{plain_pair};
 ghost use Rattle.item_start.specs.Bound.{bound_in};
 
@@ -26,9 +26,38 @@ pub fn bind_tree(
     ensures globals { OnOk result (HasGlobals store.new) }
     ensures later { OnOk result (IsLater store.old store.new) }
 {
-    let value = store.load_tree(tree)?;
+    let value = value_of(store, tree)?;
     bound.push((name, value))?;
     Ok(())
+}
+
+/// The value that is made of a tree. A store that shares its cells with a fork copies them only for an array or a dictionary.
+fn value_of(store: &mut Store, tree: &Tree) -> Result<Value, OutOfMemory>
+    requires { HasGlobals store.old }
+    ensures value { IfOk result (λ v. v ≡ given 0 store.old.cells (load (view tree.now))) }
+    ensures store { OnOk result (store.new ≡ with_cells store.old (grown 0 store.old.cells (load (view tree.now)))) }
+    ensures named { IfOk result (Named store.new) }
+    ensures globals { OnOk result (HasGlobals store.new) }
+    ensures later { OnOk result (IsLater store.old store.new) }
+{
+    match plain_value(tree)? {
+        Some(value) => Ok(value),
+        None => store.load_tree(tree),
+    }
+}
+
+/// The value of a tree that is no array and no dictionary. It takes no cell.
+fn plain_value(tree: &Tree) -> Result<Option<Value>, OutOfMemory>
+    ensures bare { IfOk result (λ o. IfSome o (λ v. (n : ℕ) → load (view tree.now) n ≡ bare v)) }
+    ensures named { IfOk result (λ o. IfSome o (λ v. (c : Contents) → Named c v)) }
+{
+    match tree {
+        Tree::Null => Ok(Some(Value::Null)),
+        Tree::Bool(truth) => Ok(Some(Value::Bool(*truth))),
+        Tree::Number(number) => Ok(Some(Value::Number(*number))),
+        Tree::Str(text) => Ok(Some(Value::Str(text.clone()?))),
+        Tree::List(_) | Tree::Dict(_) => Ok(None),
+    }
 }
 
 /// Binds names to values of their trees, one after another, behind those that are bound. Where memory runs out, some of them may be
