@@ -1,17 +1,20 @@
 -- The evaluation of a rule, in the parts in which it is run.
-use Rattle.std.proofs.Common.{◌≡◌, ◌+◌, ℕ, List, [], ◌∷◌, ◌++◌, Option, None, Some, Result, Ok, Err, Bool, false, refl, sym, ap, ◌∙◌, subst, append-nil}
+use Rattle.std.proofs.Common.{◌≡◌, ◌+◌, ◌==◌, ℕ, List, [], ◌∷◌, ◌++◌, length, Option, None, Some, Result, Ok, Err, Bool, true, false, refl, sym, ap, ◌∙◌, subst, append-nil}
+use Rattle.std.proofs.Math.Dec.{eqb-suc-zero}
+use Rattle.std.proofs.lemmas.Bool.{false≢true}
 use Rattle.std.specs.Prelude.{IfOk, OnOk}
 use Rattle.site_base.specs.declared.place.Place.{Place}
 use Rattle.dsl_syntax.specs.Syntax.{Loop, loop}
 use Rattle.dsl_value.specs.Pairs.{Pairs}
-use Rattle.dsl_value.specs.Contents.{Contents}
+use Rattle.dsl_value.specs.Contents.{Contents, PlainCell, with_cells}
+use Rattle.dsl_value.specs.Loads.{load, grown, given}
 use Rattle.dsl_value.specs.Walks.{tree_walked}
 use Rattle.dsl_value.specs.declared.tree_fault.TreeFault.{TreeFault}
 use Rattle.dsl_value.specs.declared.value.Value.{Value}
 use Rattle.dsl_value.specs.declared.value.Value.TheVariants as value
 use Rattle.site_base.specs.Data.{Data}
 use Rattle.eval_meaning.specs.Evaluation.{value_of}
-use Rattle.eval_meaning.specs.Frames.{entered}
+use Rattle.eval_meaning.specs.Frames.{entered, first_locals}
 use Rattle.eval_work.specs.Works.{state_of}
 use Rattle.eval_work.specs.declared.work.Work.{Work}
 use Rattle.eval_work.specs.declared.stop.Stop.{Stop}
@@ -29,7 +32,7 @@ use Rattle.commit_meaning.specs.Conditions.{no_verdict, judged}
 use Rattle.commit_meaning.specs.Names.{Target, target_names}
 use Rattle.commit_meaning.specs.Rules.{Element, of_value, in_rule, looped, elements_of, back_at, unless_dropped, element_judged, element_run, elements_run, first_number, rule_run}
 use Rattle.commit_meaning.specs.Starts.{Trees, fresh, values_of, tree_by, tree_at, trees_at}
-use Rattle.item_start.specs.Bound.{Bound}
+use Rattle.item_start.specs.Bound.{Bound, bound_in}
 use Rattle.item_start.proofs.Bindings.{values_are_bound}
 use Rattle.rule_expressions.specs.Framed.{in_rule_with}
 use Rattle.rule_expressions.specs.Looped.{elements_by}
@@ -47,6 +50,35 @@ pub ready_entered : {X E : Type 0} (this : Value) (locals : Pairs) (in_file : Bo
     → OnOk r (new ≡ record mid { this = this; locals = locals; in_file = in_file }) → OnOk r (IsFit new) → OnOk r (IsReady v new)
 ready_entered this locals in_file (Ok x) v w mid new h l d e f = record { fit = f; told = subst (λ u. IsTold v u.store) (sym e) (told_later v w.store mid.store l h.told); depth = ap (λ u. u.depth) e ∙ (d ∙ h.depth) }
 ready_entered this locals in_file (Err x) v w mid new h l d e f = tt
+
+-- names behind others
+bound_behind : (ts us : Trees) (ps : Pairs) (cs : List PlainCell) → bound_in (ts ++ us) ps cs ≡ bound_in us (bound_in ts ps cs).pairs (bound_in ts ps cs).cells
+bound_behind [] us ps cs = refl
+bound_behind (t ∷ ts) us ps cs = bound_behind ts us (ps ++ (t.0, given 0 cs (load t.1)) ∷ []) (grown 0 cs (load t.1))
+
+-- names that were prepared, and then others, are bound
+module _ (captured : Pairs) (ns us : Trees) (old : Work) (first then : Contents) (ps bound locals : Pairs)
+    (is_first : first ≡ with_cells old.store (bound_in ns [] old.store.cells).cells)
+    (are_first : ps ≡ (bound_in ns [] old.store.cells).pairs)
+    (is_then : then ≡ with_cells first (bound_in us ps first.cells).cells)
+    (are_bound : bound ≡ (bound_in us ps first.cells).pairs)
+    (are_locals : locals ≡ first_locals captured bound) where
+  framed_is : state_of (record old { store = then; this = value.Null; locals = locals; in_file = false }) ≡ in_rule_with captured (ns ++ us) (state_of old)
+  framed_is =
+      let cs = old.store.cells in
+      let b = bound_in us (bound_in ns [] cs).pairs (bound_in ns [] cs).cells in
+      let here : state_of (record old { store = then; this = value.Null; locals = locals; in_file = false }) ≡ in_rule captured b.pairs (record (state_of old) { cells = b.cells }) =
+      rw (are_locals, are_bound, is_then, are_first, is_first) refl in
+      here ∙ ap (λ (x : Bound). in_rule captured x.pairs (record (state_of old) { cells = x.cells })) (sym (bound_behind ns us [] cs))
+
+  pub framed_on : {X E : Type 0} (r : Result X E) (new : Work) → OnOk r (new ≡ record old { store = then; this = value.Null; locals = locals; in_file = false }) → OnOk r (state_of new ≡ in_rule_with captured (ns ++ us) (state_of old))
+  framed_on (Ok x) new h = ap state_of h ∙ framed_is
+  framed_on (Err e) new h = tt
+
+-- no element is there
+pub empty : {A : Type 0} (xs : List A) → (length xs == 0) ≡ true → xs ≡ []
+empty [] e = refl
+empty (x ∷ xs) e = absurd (false≢true (sym (eqb-suc-zero (length xs)) ∙ e))
 
 -- ---- one element
 

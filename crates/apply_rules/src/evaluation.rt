@@ -19,11 +19,12 @@ ghost use Rattle.apply_rules.specs.Lawful.{IsApplicable};
 ghost use Rattle.apply_rules.specs.Plain.{plain_target, plain_instance, plain_items, plain_kept};
 
 use crate::keeping::{element_item, judged_item};
+use crate::target::subject_of;
 use crate::{Instance, PreparedTarget, Target};
 use dsl_syntax::Each;
 use dsl_value::{Store, Value};
 use eval_work::{Locals, Rule, Stop, Task, Work, WorldView};
-use rule_expressions::{Element, begin_expressions, elements};
+use rule_expressions::{Element, begin_expressions, elements, prepare};
 use site_base::{OutOfMemory, Text};
 use std::alloc::Global;
 use std::mem;
@@ -140,7 +141,8 @@ fn begin_rule(
     )
 }
 
-/// The instances for elements that are kept, which are numbered from 1. Each begins with the cells and functions as they are before the first.
+/// The instances for elements that are kept, which are numbered from 1. Each begins with the cells and functions as they are before the
+/// first. The values of the target's names are made once behind these, and each element forks them.
 fn run_elements<'a>(
     view: &WorldView,
     rule: &'a Rule,
@@ -154,13 +156,17 @@ fn run_elements<'a>(
     requires task { work.old.task ≡ Task.Rule }
     ensures { Gives plain_items result (state_of work.new) (elements_run (view_of view.now) (plain_rule rule.now) (plain_target target.now) (unframed (state_of work.old)) 1 (map plain_element elements.now) [] (state_of work.old)) }
 {
-    let before = work.store.fork()?;
     let mut items = Vec::new(work.alloc);
+    if elements.is_empty() {
+        return Ok(items);
+    }
+    let before = work.store.fork()?;
+    let prepared = prepare(work.alloc, &before, subject_of(target))?;
     let mut number = 0;
     for element in elements {
         number = next_number(number)?;
         begin_again(&before, work)?;
-        let kept = element_item(view, rule, target, number, element, work)?;
+        let kept = element_item(view, rule, target, &prepared, number, element, work)?;
         keep(&mut items, kept)?;
     }
     Ok(items)

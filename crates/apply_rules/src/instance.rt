@@ -157,8 +157,12 @@ fn whole_item(
     })
 }
 
+/// The same names and values.
 #[tactic(auto, using(std::proofs::Common::append_assoc))]
-fn copy_pairs(alloc: Global, pairs: &[(Text, Value)]) -> Result<Vec<(Text, Value)>, OutOfMemory>
+pub(crate) fn copy_pairs(
+    alloc: Global,
+    pairs: &[(Text, Value)],
+) -> Result<Vec<(Text, Value)>, OutOfMemory>
     ensures { IfOk result (λ copy. copy.items ≡ pairs.now) }
 {
     let mut copy = Vec::with_capacity(alloc, pairs.len())?;

@@ -8,24 +8,26 @@ ghost use Rattle.eval_work.specs.declared.view.WorldView.{WorldView as WorldData
 ghost use Rattle.item_start.specs.Ready.{IsReady};
 ghost use Rattle.rule_expressions.specs.Framed.{in_rule_with};
 ghost use Rattle.rule_expressions.specs.Plain.{plain_element};
+ghost use Rattle.rule_expressions.specs.Preparations.{IsPrepared};
+ghost use Rattle.rule_expressions.specs.Seen.{names_of};
 ghost use Rattle.apply_rules.specs.Judging.{judged_element};
 ghost use Rattle.apply_rules.specs.Plain.{plain_target, plain_kept};
 
-use crate::instance::named_instance;
-use crate::target::subject_of;
+use crate::instance::{copy_pairs, named_instance};
 use crate::{Instance, Target};
 use dsl_value::Value;
 use eval_work::{Rule, Stop, Work, WorldView};
 use item_start::{bind_trees, enter_frame, trees_at};
-use rule_expressions::{Element, bind_subject, is_kept, judge};
+use rule_expressions::{Element, Prepared, is_kept, judge};
 use site_base::{Text, Tree};
 
 /// The instance for an element of a `for`, if it is kept. What the `for` binds goes through its trees before the conditions are
-/// evaluated, over new copies of all that is bound.
+/// evaluated, over new copies of all that is bound. The target's names were prepared behind the cells of the work.
 pub(crate) fn element_item<'a>(
     view: &WorldView,
     rule: &'a Rule,
     target: &Target<'a>,
+    prepared: &Prepared,
     number: u32,
     element: &Element,
     work: &mut Work,
@@ -33,30 +35,35 @@ pub(crate) fn element_item<'a>(
     requires ready { IsReady view.now work.old }
     requires captured { PairsNamed work.old.store rule.now.captured.items }
     requires bound { PairsNamed work.old.store element.now.bound.items }
+    requires prepared { IsPrepared work.old.store prepared.now }
+    requires subject { names_of prepared.now.subject ≡ target_names (plain_target target.now) }
     ensures gives { Gives plain_kept result (state_of work.new) (element_run (view_of view.now) (plain_rule rule.now) (plain_target target.now) number (plain_element element.now) (state_of work.old)) }
     ensures ready { OnOk result (IsReady view.now work.new) }
 {
     let own = trees_at(work, rule.place, &element.bound)?;
-    enter_with(rule, target, &own, work)?;
+    enter_with(rule, prepared, &own, work)?;
     judged_item(view, rule, target, number, &element.key, own, work)
 }
 
-/// Enters the frame of a rule's expressions, with new copies of what is bound: the names of the target, and then these.
+/// Enters the frame of a rule's expressions in a fork of a store in which names were prepared: with these, and then with new copies
+/// of what is bound besides.
 fn enter_with(
     rule: &Rule,
-    target: &Target,
+    prepared: &Prepared,
     own: &[(Text, Tree)],
     work: &mut Work,
 ) -> Result<(), Stop>
     requires fit { IsFit work.old }
     requires captured { PairsNamed work.old.store rule.now.captured.items }
-    ensures state { OnOk result (state_of work.new ≡ in_rule_with rule.now.captured.items (target_names (plain_target target.now) ++ map plain_pair own.now) (state_of work.old)) }
+    requires prepared { IsPrepared work.old.store prepared.now }
+    ensures state { OnOk result (state_of work.new ≡ in_rule_with rule.now.captured.items (names_of prepared.now.subject ++ map plain_pair own.now) (state_of work.old)) }
     ensures ready { (v : WorldData) → IsReady v work.old → OnOk result (IsReady v work.new) }
     ensures memory { IfErr result (λ e. e ≡ Stop.Memory) }
 {
-    let mut bound = Vec::new(work.alloc);
-    bind_subject(work.alloc, &mut work.store, &mut bound, &subject_of(target))?;
-    bind_trees(&mut work.store, &mut bound, own)?;
+    let mut store = prepared.store.fork()?;
+    let mut bound = copy_pairs(work.alloc, &prepared.bound)?;
+    bind_trees(&mut store, &mut bound, own)?;
+    work.store = store;
     enter_frame(work, Value::Null, &rule.captured, &bound)
 }
 

@@ -23,7 +23,9 @@ returns-clause-gives c =
     let s = state_of c.args.work.now in
     let us = map plain_pair c.in_ok-own.own.items in
     let trees : trees_at r.place e.bound [] s ≡ gives us s = ap (λ ps. trees_at r.place ps [] s) (sym c.deref.ensures.value) ∙ c.in_ok-own.ensures in
-    let frame : state_of c.enter_with.new.work ≡ in_rule_with r.captured (target_names t ++ us) s = c.in_ok-enter_with.ensures.state ∙ ap (λ xs. in_rule_with r.captured (target_names t ++ map plain_pair xs) s) c.deref-2.ensures.value in
+    let frame : state_of c.enter_with.new.work ≡ in_rule_with r.captured (target_names t ++ us) s = c.in_ok-enter_with.ensures.state
+    ∙ (ap (λ ns. in_rule_with r.captured (ns ++ map plain_pair c.deref-2.result.now) s) c.requires.subject
+    ∙ ap (λ xs. in_rule_with r.captured (target_names t ++ map plain_pair xs) s) c.deref-2.ensures.value) in
     let run : element_run v r t k e s ≡ judged_element v r t k e.key (target_names t ++ us) (state_of c.enter_with.new.work) =
     ap (λ o. o >>= λ own s1. element_judged v r t k e (target_names t ++ own) s1) trees
     ∙ (element_is v r t k e (target_names t ++ us) s ∙ ap (judged_element v r t k e.key (target_names t ++ us)) (sym frame)) in
