@@ -1,5 +1,5 @@
 -- What rules make at one target after another is what they make at all of them.
-use Rattle.std.proofs.Common.{◌≡◌, ◌<◌, ◌+◌, ℕ, List, [], ◌∷◌, ◌++◌, map, Bool, true, false, cond, refl, sym, ap, ap₂, ◌∙◌, subst, arith, length, get_or, drop, append-nil, append_assoc}
+use Rattle.std.proofs.Common.{◌≡◌, ◌<◌, ◌+◌, ℕ, List, [], ◌∷◌, ◌++◌, map, Bool, true, false, cond, refl, sym, ap, ap₂, ◌∙◌, subst, length, get_or, drop, append-nil, append_assoc}
 use Rattle.std.specs.List.{AllByRecursion, flat_map}
 use Rattle.std.specs.Borrow.{Bor}
 use Rattle.std.specs.Str.{bytes_eq}
@@ -17,7 +17,7 @@ use Rattle.eval_work.specs.declared.rule.Rule.{Rule}
 use Rattle.commit_meaning.specs.Answers.{Answer, all_made, diags_in}
 use Rattle.commit_meaning.specs.Names.{Target}
 use Rattle.commit_meaning.specs.Rules.{instances}
-use Rattle.wave_objects.specs.Applying.{AreApplied, AreGrown, AreNew, AreUnwanted, IsApplied, IsGrown, AppliedNamed, answers_to, rules_of, faults_by, made_by, applied_rule, targets_in, targets_of_one, wanted}
+use Rattle.wave_objects.specs.Applying.{AreApplied, AreGrown, AreNew, IsApplied, IsGrown, AppliedNamed, answers_to, rules_of, faults_by, made_by, applied_rule, targets_in, targets_of_one, wanted}
 use Rattle.wave_objects.specs.Steps.{answers_at}
 use Rattle.wave_objects.specs.declared.applying.Applied.{Applied}
 use Rattle.wave_objects.proofs.TargetLaws.{targets_are}
@@ -31,26 +31,14 @@ applied_have c (s ∷ ss) h = (h.0, applied_have c ss h.1)
 pub applied_named : (c : Contents) (ss : List Applied) (rs : List PlainRule) → rules_of ss ≡ rs → AllByRecursion (λ (r : PlainRule). PairsNamed c r.captured) rs → AppliedNamed c ss
 applied_named c ss rs e h = applied_have c ss (subst (AllByRecursion (λ (r : PlainRule). PairsNamed c r.captured)) (sym e) h)
 
--- ---- one applied after another
-
--- none is left
-pub all_grown : (view : View) (kind : List ℕ) (ts : List Target) (all now left : List Applied) → length left ≡ 0
-    → ((vs : List Applied) → AreGrown view kind ts left vs → AreGrown view kind ts all (now ++ vs)) → AreGrown view kind ts all now
-all_grown view kind ts all now [] none h = subst (AreGrown view kind ts all) (append-nil now) (h [] tt)
-all_grown view kind ts all now (x ∷ left) none h = absurd (omega (arith, none))
-
 -- ---- where nothing is made
 
 unchanged : (view : View) (s : Applied) → IsGrown view [] s s
 unchanged view s = record { rule = refl; made = sym (append-nil (made_by s)); faults = sym (append-nil (faults_by s)) }
 
--- a applied that isn't wanted stays as it is
+-- a rule that isn't wanted stays as it is
 pub passed_by : (view : View) (kind : List ℕ) (ts : List Target) (s : Applied) → bytes_eq kind s.rule.now.target ≡ false → IsGrown view (wanted kind s ts) s s
 passed_by view kind ts s e = subst (λ b. IsGrown view (cond b ts []) s s) (sym e) (unchanged view s)
-
-pub none_wanted : (view : View) (kind : List ℕ) (ts : List Target) (ss : List Applied) → AreUnwanted kind ss → AreGrown view kind ts ss ss
-none_wanted view kind ts [] h = tt
-none_wanted view kind ts (s ∷ ss) h = (passed_by view kind ts s h.0, none_wanted view kind ts ss h.1)
 
 pub no_target : (view : View) (kind : List ℕ) (ss : List Applied) → AreGrown view kind [] ss ss
 no_target view kind [] = tt
@@ -62,15 +50,13 @@ no_target view kind (s ∷ ss) = (by (bytes_eq kind s.rule.now.target), no_targe
 
 -- ---- an answer at a target
 
-pub taken : (view : View) (kind : List ℕ) (t : Target) (s u : Applied) (a : Answer (List PlainItem)) → bytes_eq kind s.rule.now.target ≡ true → a ≡ instances view (applied_rule s) t → u.rule ≡ s.rule
-    → made_by u ≡ made_by s ++ all_made a → faults_by u ≡ faults_by s ++ diags_in a → IsGrown view (wanted kind s (t ∷ [])) s u
-taken view kind t s u a is e er em ef =
-    subst (λ b. IsGrown view (cond b (t ∷ []) []) s u) (sym is)
-    (record {
-      rule = er;
-      made = em ∙ ap (λ xs. made_by s ++ xs) (ap all_made e ∙ sym (append-nil (all_made (instances view (applied_rule s) t))));
-      faults = ef ∙ ap (λ xs. faults_by s ++ xs) (ap diags_in e ∙ sym (append-nil (diags_in (instances view (applied_rule s) t))));
-    })
+pub taken : (view : View) (t : Target) (s u : Applied) (a : Answer (List PlainItem)) → a ≡ instances view (applied_rule s) t → u.rule ≡ s.rule → made_by u ≡ made_by s ++ all_made a
+    → faults_by u ≡ faults_by s ++ diags_in a → IsGrown view (t ∷ []) s u
+taken view t s u a e er em ef = record {
+  rule = er;
+  made = em ∙ ap (λ xs. made_by s ++ xs) (ap all_made e ∙ sym (append-nil (all_made (instances view (applied_rule s) t))));
+  faults = ef ∙ ap (λ xs. faults_by s ++ xs) (ap diags_in e ∙ sym (append-nil (diags_in (instances view (applied_rule s) t))));
+}
 
 -- ---- one object after another
 

@@ -1,5 +1,6 @@
 pub mod TargetLaws
 pub mod ApplyLaws
+pub mod TypeLaws
 pub mod NoGroups
 pub mod JoinLaws
 pub mod NamedRules

@@ -1,5 +1,5 @@
 -- What the rules of a wave make, target after target.
-use Rattle.std.specs.Prelude.{◌≡◌, ℕ, List, [], ◌∷◌, ◌++◌, codes, false, map, if◌then◌else◌}
+use Rattle.std.specs.Prelude.{◌≡◌, ℕ, List, [], ◌∷◌, ◌++◌, codes, map, if◌then◌else◌}
 use Rattle.std.specs.List.{AllByRecursion, flat_map}
 use Rattle.std.specs.Str.{bytes_eq}
 use Rattle.site_base.specs.declared.diag.Diag.{Diag}
@@ -52,10 +52,6 @@ pub record IsNew (x : Applied) : Type 0 where
 
 abbrev pub AreNew : List Applied → Type 0
 AreNew xs = AllByRecursion IsNew xs
-
--- no rule goes to objects of a type
-abbrev pub AreUnwanted : List ℕ → List Applied → Type 0
-AreUnwanted kind xs = AllByRecursion (λ x. bytes_eq kind x.rule.now.target ≡ false) xs
 
 -- what a rule comes to at these targets
 abbrev pub answers_to : View → PlainRule → List Target → List (Answer (List PlainItem))

@@ -1,5 +1,5 @@
 // What the rules of a wave make, target after target.
-ghost use Rattle.std.specs.Prelude.{◌≡◌, ◌++◌, ◌∷◌, [], false, IfOk, OnOk, map};
+ghost use Rattle.std.specs.Prelude.{◌≡◌, ◌++◌, ◌∷◌, [], ℕ, List, IfOk, OnOk, map};
 ghost use Rattle.std.specs.List.{filter};
 ghost use Rattle.site_model.specs.PlainSite.{object_view};
 ghost use Rattle.eval_work.specs.Kept.{PairsNamed};
@@ -9,8 +9,10 @@ ghost use Rattle.apply_rules.specs.Plain.{plain_instance, plain_target, rule_ans
 ghost use Rattle.apply_rules.specs.Preparations.{IsPreparedTarget};
 ghost use Rattle.commit_meaning.specs.Answers.{all_made, diags_in};
 ghost use Rattle.commit_meaning.specs.Waves.{is_in_wave as in_wave};
-ghost use Rattle.wave_objects.specs.Applying.{AppliedNamed, AreApplied, AreGrown, AreNew, AreUnwanted, IsGrown, rules_of, targets_of_one, wanted};
+ghost use Rattle.wave_objects.specs.Applying.{AppliedNamed, AreApplied, AreGrown, AreNew, IsGrown, rules_of, targets_of_one};
+ghost use Rattle.wave_objects.specs.ByType.{places_to, type_places};
 
+use crate::by_type::{RulesOfType, by_type, places_in};
 use crate::targets::target_of;
 use apply_rules::{Instance, PreparedTarget, RuleAnswer, Target, instances};
 use eval_work::{Committed, Locals, Rule, WorldView};
@@ -19,7 +21,7 @@ use site_model::Object;
 use std::alloc::Global;
 use wave_order::is_in_wave;
 
-/// A rule of a wave, with what it has made so far and what was wrong.
+/// A rule of a wave, with the instances that it has made so far, and its faults.
 #[derive(Drop)]
 pub(crate) struct Applied<'a> {
     pub(crate) rule: &'a Rule,
@@ -49,105 +51,92 @@ pub(crate) fn unapplied<'a>(
     Ok(of_wave)
 }
 
-/// The rules with what they make of what stands before their wave. One target after another is prepared, for all rules at once, so that
-/// only one has its values at a time.
+/// Applies rules to all objects that are their targets. Each object is prepared once, for all rules that go to its type, so that only one
+/// has its values at a time.
 pub(crate) fn apply_to_all<'a>(
     alloc: Global,
     view: &WorldView,
     objects: &'a Committed,
-    rules: Vec<Applied<'a>>,
-) -> Result<Vec<Applied<'a>>, OutOfMemory>
+    rules: &mut Vec<Applied<'a>>,
+) -> Result<(), OutOfMemory>
     requires lawful { IsLawfulView view.now }
-    requires named { AppliedNamed view.now.store.now rules.items }
-    requires new { AreNew rules.items }
-    ensures rules { IfOk result (λ rs. rules_of rs.items ≡ rules_of rules.entry.items) }
-    ensures applied { IfOk result (λ rs. AreApplied (view_of view.now) (map object_view objects.now) [] rs.items) }
+    requires named { AppliedNamed view.now.store.now rules.old.items }
+    requires new { AreNew rules.old.items }
+    ensures rules { OnOk result (rules_of rules.new.items ≡ rules_of rules.old.items) }
+    ensures applied { OnOk result (AreApplied (view_of view.now) (map object_view objects.now) [] rules.new.items) }
 {
+    let types = by_type(alloc, rules)?;
     let mut spare = Locals::new(alloc);
-    let mut rules = rules;
     for object in objects.as_slice() {
-        rules = apply_to(alloc, view, objects, object, rules, &mut spare)?;
+        apply_to(alloc, view, objects, object, &types, rules, &mut spare)?;
     }
-    Ok(rules)
+    Ok(())
 }
 
-/// The rules with what they make of an object besides, if it is a target of some of them.
+/// Applies to an object the rules that go to its type, if it is a target.
 fn apply_to<'a>(
     alloc: Global,
     view: &WorldView,
     objects: &'a Committed,
     object: &'a Object,
-    rules: Vec<Applied<'a>>,
+    types: &[RulesOfType],
+    rules: &mut Vec<Applied<'a>>,
     spare: &mut Locals,
-) -> Result<Vec<Applied<'a>>, OutOfMemory>
+) -> Result<(), OutOfMemory>
     requires lawful { IsLawfulView view.now }
-    requires named { AppliedNamed view.now.store.now rules.items }
-    ensures { IfOk result (λ rs. AreGrown (view_of view.now) object.now.kind (targets_of_one (map object_view objects.now) (object_view object.now)) rules.entry.items rs.items) }
+    requires named { AppliedNamed view.now.store.now rules.old.items }
+    requires types { (kind : List ℕ) → type_places kind types.now ≡ places_to kind 0 rules.old.items }
+    ensures { OnOk result (AreGrown (view_of view.now) object.now.kind (targets_of_one (map object_view objects.now) (object_view object.now)) rules.old.items rules.new.items) }
 {
-    if !is_wanted(&rules, object.kind.as_str()) {
-        return Ok(rules);
+    let kind = object.kind.as_str();
+    let places = places_in(types, kind);
+    if places.is_empty() {
+        return Ok(());
     }
     match target_of(objects, object) {
-        Some(target) => apply_at(alloc, view, object.kind.as_str(), target, rules, spare),
-        None => Ok(rules),
+        Some(target) => apply_at(alloc, view, kind, target, places, rules, spare),
+        None => Ok(()),
     }
 }
 
-/// Whether a rule goes to objects of a type.
-fn is_wanted(rules: &[Applied], kind: &str) -> bool
-    ensures { result ≡ false → AreUnwanted kind.now rules.now }
-{
-    for applied in rules {
-        if kind == applied.rule.target.as_str() {
-            return true;
-        }
-    }
-    false
-}
-
-/// The rules with what those that go to objects of a type make of a target of that type besides.
+/// Applies the rules at these places, which are all that go to objects of a type, to a target of that type.
 fn apply_at<'a>(
     alloc: Global,
     view: &WorldView,
     kind: &str,
     target: Target<'a>,
-    rules: Vec<Applied<'a>>,
+    places: &[usize],
+    rules: &mut Vec<Applied<'a>>,
     spare: &mut Locals,
-) -> Result<Vec<Applied<'a>>, OutOfMemory>
+) -> Result<(), OutOfMemory>
     requires lawful { IsLawfulView view.now }
-    requires named { AppliedNamed view.now.store.now rules.items }
-    ensures { IfOk result (λ rs. AreGrown (view_of view.now) kind.now (plain_target target.entry ∷ []) rules.entry.items rs.items) }
+    requires named { AppliedNamed view.now.store.now rules.old.items }
+    requires places { places.now ≡ places_to kind.now 0 rules.old.items }
+    ensures { OnOk result (AreGrown (view_of view.now) kind.now (plain_target target.entry ∷ []) rules.old.items rules.new.items) }
 {
     let prepared = PreparedTarget::new(alloc, view.store, target)?;
-    let mut grown = Vec::with_capacity(alloc, rules.len())?;
-    for applied in rules {
-        grown.push(applied.at(alloc, view, kind, &prepared, spare)?)?;
+    for place in places {
+        rules[*place].apply(alloc, view, &prepared, spare)?;
     }
-    Ok(grown)
+    Ok(())
 }
 
 impl<'a> Applied<'a> {
-    /// The rule with what it comes to at a target of a type besides, if it goes to that type.
-    fn at(
-        self,
+    /// Applies the rule to a target, and keeps its instances or its fault.
+    fn apply(
+        &mut self,
         alloc: Global,
         view: &WorldView,
-        kind: &str,
         target: &PreparedTarget<'a>,
         spare: &mut Locals,
-    ) -> Result<Applied<'a>, OutOfMemory>
+    ) -> Result<(), OutOfMemory>
         requires lawful { IsLawfulView view.now }
-        requires captured { PairsNamed view.now.store.now self.rule.now.captured.items }
+        requires captured { PairsNamed view.now.store.now self.old.rule.now.captured.items }
         requires prepared { IsPreparedTarget view.now.store.now target.now }
-        ensures { IfOk result (IsGrown (view_of view.now) (wanted kind.now self.entry (plain_target target.now.target ∷ [])) self.entry) }
+        ensures { OnOk result (IsGrown (view_of view.now) (plain_target target.now.target ∷ []) self.old self.new) }
     {
-        if kind != self.rule.target.as_str() {
-            return Ok(self);
-        }
-        let mut applied = self;
-        let answer = instances(alloc, view, applied.rule, target, spare)?;
-        applied.take(answer)?;
-        Ok(applied)
+        let answer = instances(alloc, view, self.rule, target, spare)?;
+        self.take(answer)
     }
 
     /// Adds an answer. Over a world nothing is blocked.

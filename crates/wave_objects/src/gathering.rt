@@ -73,9 +73,9 @@ fn add_instances<'a>(
     ensures items { OnOk result (map plain_pending out.new.items.items ≡ map plain_pending out.old.items.items ++ flat_map all_made (flat_map (answers_at (view_of view.now) objects.now) (filter (λ r. in_wave wave r.kind) (map plain_rule rules.now)))) }
     ensures faults { OnOk result (out.new.faults ≡ out.old.faults ++ flat_map diags_in (flat_map (answers_at (view_of view.now) objects.now) (filter (λ r. in_wave wave r.kind) (map plain_rule rules.now)))) }
 {
-    let of_wave = unapplied(alloc, rules, wave)?;
-    let applied = apply_to_all(alloc, view, objects, of_wave)?;
-    add_applied(applied, out)
+    let mut of_wave = unapplied(alloc, rules, wave)?;
+    apply_to_all(alloc, view, objects, &mut of_wave)?;
+    add_applied(of_wave, out)
 }
 
 /// Adds what rules have made, one rule after another.

@@ -17,11 +17,11 @@ apply_to_all-requires-clause-named c =
 pub returns-clause-items : goal.returns-clause-items
 returns-clause-items c =
     subst (λ (is : List PlainItem). OnOk c.add_applied.result (map plain_pending c.add_applied.new.out.items.items ≡ map plain_pending c.args.out.now.items.items ++ is))
-    (made_are (view_of c.args.view.now) c.args.objects.now c.in_ok-applied.applied.items (filter (λ r. is_in_wave c.args.wave r.kind) (map plain_rule c.args.rules.now)) c.in_ok-applied.ensures.applied (c.in_ok-applied.ensures.rules ∙ c.in_ok-of_wave.ensures.rules))
+    (made_are (view_of c.args.view.now) c.args.objects.now c.apply_to_all.new.rules.items (filter (λ r. is_in_wave c.args.wave r.kind) (map plain_rule c.args.rules.now)) c.in_ok-apply_to_all.ensures.applied (c.in_ok-apply_to_all.ensures.rules ∙ c.in_ok-of_wave.ensures.rules))
     c.add_applied.ensures.items
 
 pub returns-clause-faults : goal.returns-clause-faults
 returns-clause-faults c =
     subst (λ (ds : List Diag). OnOk c.add_applied.result (c.add_applied.new.out.faults ≡ c.args.out.now.faults ++ ds))
-    (faults_are (view_of c.args.view.now) c.args.objects.now c.in_ok-applied.applied.items (filter (λ r. is_in_wave c.args.wave r.kind) (map plain_rule c.args.rules.now)) c.in_ok-applied.ensures.applied (c.in_ok-applied.ensures.rules ∙ c.in_ok-of_wave.ensures.rules))
+    (faults_are (view_of c.args.view.now) c.args.objects.now c.apply_to_all.new.rules.items (filter (λ r. is_in_wave c.args.wave r.kind) (map plain_rule c.args.rules.now)) c.in_ok-apply_to_all.ensures.applied (c.in_ok-apply_to_all.ensures.rules ∙ c.in_ok-of_wave.ensures.rules))
     c.add_applied.ensures.faults
