@@ -167,15 +167,9 @@ fn finish(alloc: Global, loaded: Loaded, objects: Vec<Object>) -> Result<Answer,
     if !are_placed(&loaded.files, &objects) {
         return Err(OutOfMemory);
     }
-    let globals = site_globals(alloc, &loaded)?;
-    last_phases(alloc, files_of(loaded), Row::from(objects), globals)
-}
-
-/// The names of the files of a load, of which the rest goes.
-fn files_of(loaded: Loaded) -> Texts
-    ensures { result ≡ loaded.files }
-{
-    loaded.files
+    let Loaded { files, parts, zone } = loaded;
+    let globals = site_globals(parts, zone)?;
+    last_phases(alloc, files, Row::from(objects), globals)
 }
 
 /// Whether each object stands in one of these files.

@@ -5,24 +5,23 @@ ghost use Rattle.eval_meaning.specs.Frames.{name_in};
 ghost use Rattle.eval_work.specs.Kept.{HasGlobals, Named};
 ghost use Rattle.site_phases.specs.Constants.{globals_view, tree_view};
 ghost use Rattle.commit_waves.specs.Globals.{global_tree, globals_of, tree_or_null};
-ghost use Rattle.dsl_load.specs.Loads.{plain_parts};
 
-use crate::Loaded;
+use dsl_load::LoadParts;
 use dsl_value::{Cell, Store, TreeFault, Value};
 use site_base::{Blob, OutOfMemory, Tree};
 use site_phases::Globals;
-use std::alloc::Global;
 
-/// The globals of a load that a site takes (Icinga 2 documentation, Language Reference, Constants).
-pub(crate) fn site_globals(alloc: Global, loaded: &Loaded) -> Result<Globals, OutOfMemory>
-    requires { HasGlobals loaded.now.parts.store }
-    ensures { IfOk result (λ g. globals_view g ≡ globals_of loaded.now.parts.store.cells loaded.now.zone) }
+/// The globals of a load that a site takes, and the bytes of the zone's file (Icinga 2 documentation, Language Reference, Constants).
+/// What else was loaded goes.
+pub(crate) fn site_globals(parts: LoadParts, zone: Option<Blob>) -> Result<Globals, OutOfMemory>
+    requires { HasGlobals parts.store }
+    ensures { IfOk result (λ g. globals_view g ≡ globals_of parts.store.cells zone) }
 {
-    let store = &loaded.parts.store;
+    let store = &parts.store;
     Ok(Globals {
         max_checks: tree_of_global(store, "MaxConcurrentChecks")?,
         site_zone: tree_of_global(store, "SiteZone")?,
-        zone_file: copied(alloc, &loaded.zone)?,
+        zone_file: zone,
         vars: match tree_of_global(store, "Vars")? {
             Some(tree) => tree,
             None => Tree::Null,
@@ -62,14 +61,5 @@ fn tree_of(store: &Store, value: &Value) -> Result<Tree, OutOfMemory>
         Err(TreeFault::Cyclic { .. } | TreeFault::HasFunction | TreeFault::TooLarge) => {
             Ok(Tree::Null)
         }
-    }
-}
-
-fn copied(alloc: Global, file: &Option<Blob>) -> Result<Option<Blob>, OutOfMemory>
-    ensures { IfOk result (λ f. f ≡ file.now) }
-{
-    match file {
-        Some(bytes) => Ok(Some(Blob::copy_of(alloc, bytes.as_slice())?)),
-        None => Ok(None),
     }
 }

@@ -43,9 +43,8 @@ const TYPES: [ObjectType; 22] = [
 pub(crate) fn add_groups(out: &mut Vec<Item>, more: Vec<Item>) -> Result<(), OutOfMemory>
     ensures { OnOk result (map plain_item out.new.items ≡ map plain_item out.old.items ++ map plain_item more.items) }
 {
-    for group in more {
-        out.push(group)?;
-    }
+    let mut more = more;
+    out.append(&mut more)?;
     Ok(())
 }
 
