@@ -61,7 +61,7 @@ one_string n t ts = by (list_any (bytes_eq t) ts) refl
     by false e = list_any-append (bytes_eq n) ts (t ∷ []) ∙ ap (λ b. list_any (bytes_eq n) ts || b) (or_false (bytes_eq n t) ∙ either_way n t)
 
 -- a list with one more
-last_string : (n m : List ℕ) (ds : Items) → has_string n (with_last m ds) ≡ (has_string n ds || bytes_eq m n)
+pub last_string : (n m : List ℕ) (ds : Items) → has_string n (with_last m ds) ≡ (has_string n ds || bytes_eq m n)
 last_string n m no_items = alone (bytes_eq m n)
   where
     alone : (b : Bool) → cond b true false ≡ b
