@@ -3,4 +3,6 @@ pub mod Objects
 pub mod Rules
 pub mod Groups
 pub mod Items
+pub mod Evaluations
+pub mod Failing
 pub mod Sites

@@ -1,0 +1,7 @@
+use Rattle.std.proofs.Common.{refl}
+use Rattle.commit_examples.proofs.Computing.{computing}
+use Rattle.commit_examples.proofs.evaluations.adding_to_nothing.Goals as goal
+
+pub returns : goal.returns
+unfolding computing
+returns c = refl

@@ -1,0 +1,7 @@
+use Rattle.std.proofs.Common.{refl}
+use Rattle.commit_examples.proofs.Computing.{computing}
+use Rattle.commit_examples.proofs.failing.faults_of_one_wave.Goals as goal
+
+pub returns : goal.returns
+unfolding computing
+returns c = λ phases last. refl
