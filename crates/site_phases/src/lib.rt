@@ -13,5 +13,5 @@ mod phases;
 
 pub use answer::Answer;
 pub use globals::Globals;
-pub use laws::cycles_are_those_of_any_length;
+pub use laws::{cycles_are_those_of_any_length, cycles_are_told_before_constants};
 pub use phases::last_phases;

@@ -467,12 +467,17 @@ notifies_short os =
 named : (cs : List PlainCheck) → map check_name cs ≡ map (λ (c : PlainCheck). c.name) cs
 named cs = refl
 
+-- a typed site has a checkable for each of its names, whatever is wrong with its objects
+pub has_names : (files : List (List ℕ)) (settings : PlainSettings) (os : List PlainObject) → HasNames (typed_site files settings os)
+unfolding typed_site
+has_names files settings os = record { named = named (checkables os); distinct = checks_distinct os }
+
 pub sound : (files : List (List ℕ)) (settings : PlainSettings) (os : List PlainObject) → All (λ (o : PlainObject). o.place.file < length files) os → length os < 2 ^ 32 - 2
     → 1 ≤ settings.max_orders → settings.max_orders ≤ 65535 → IsSound (typed_site files settings os)
 unfolding typed_site
 sound files settings os placed few some most = record {
   in_order = in_order os;
-  names = record { named = named (checkables os); distinct = checks_distinct os };
+  names = has_names files settings os;
   attempts = checks_all os (λ (c : PlainCheck). 1 ≤ c.max) (λ name c h. h.attempts);
   places = placed;
   commands = subst (λ n. All (λ (c : PlainCheck). c.command < n) (checkables os)) (commands_count os)
