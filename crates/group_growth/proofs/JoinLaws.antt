@@ -1,5 +1,5 @@
 -- An object joins the groups that it wasn't in.
-use Rattle.std.proofs.Common.{◌≡◌, ◌⊎◌, inl, inr, ℕ, List, [], ◌∷◌, Bool, true, false, cond, Option, Some, refl, sym, ap, ◌∙◌, subst}
+use Rattle.std.proofs.Common.{◌≡◌, inl, inr, ℕ, List, [], ◌∷◌, Bool, true, false, cond, Some, refl, sym, ap, ◌∙◌, subst}
 use Rattle.std.specs.Prelude.{◌||◌}
 use Rattle.std.specs.List.{AllByRecursion, IsDistinct}
 use Rattle.std.specs.Str.{bytes_eq}
@@ -102,6 +102,7 @@ grows (n ∷ ns) ps = by (has_string n (groups_in ps)) refl (λ qs. grows ns qs)
   where
     more : Pairs
     more = with_pair groups_key (tree.list (with_last n (groups_in ps))) ps
+
     by : (b : Bool) → has_string n (groups_in ps) ≡ b → ((qs : Pairs) → TakesNames ns (groups_in qs) (groups_in (with_groups ns qs))) → TakesNames (n ∷ ns) (groups_in ps) (groups_in (with_groups ns (cond b ps more)))
     by true h rest = known n ns (groups_in ps) (groups_in (with_groups ns ps)) h (rest ps)
     by false h rest =
@@ -127,6 +128,7 @@ stays (n ∷ ns) key ps h = by (has_string n (groups_in ps)) (λ qs. stays ns ke
   where
     more : Pairs
     more = with_pair groups_key (tree.list (with_last n (groups_in ps))) ps
+
     by : (b : Bool) → ((qs : Pairs) → value_under key (with_groups ns qs) ≡ value_under key qs) → value_under key (with_groups ns (cond b ps more)) ≡ value_under key ps
     by true rest = rest ps
     by false rest = rest more ∙ other_key groups_key key (tree.list (with_last n (groups_in ps))) ps h
