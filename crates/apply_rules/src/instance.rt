@@ -157,7 +157,7 @@ fn whole_item(
     })
 }
 
-/// The same names and values.
+/// A copy of these names with their values.
 #[tactic(auto, using(std::proofs::Common::append_assoc))]
 pub(crate) fn copy_pairs(
     alloc: Global,

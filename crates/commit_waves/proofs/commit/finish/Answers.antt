@@ -1,7 +1,7 @@
 use Rattle.std.proofs.Common.{◌≡◌, IfOk, map, sym, ap, ◌∙◌, subst}
 use Rattle.std.specs.Bool.{Decides}
 use Rattle.site_model.specs.PlainSite.{object_view}
-use Rattle.site_phases.specs.Constants.{AreBadBytes, globals_view, settings_of}
+use Rattle.site_phases.specs.Constants.{AreBadBytes, settings_of}
 use Rattle.site_phases.specs.Phases.{answer_view, last_part}
 use Rattle.commit_waves.specs.Globals.{globals_of}
 use Rattle.commit_waves.proofs.commit.finish.Goals as goal

@@ -1,5 +1,5 @@
 -- One place after another; the target that was prepared is the one that is asked for.
-use Rattle.std.proofs.Common.{◌≡◌, ◌<◌, ◌≤◌, ◌∷◌, [], length, rules, sym, ap, ◌∙◌, subst}
+use Rattle.std.proofs.Common.{◌≤◌, ◌∷◌, [], length, rules, sym, ap, ◌∙◌, subst}
 use Rattle.std.proofs.lemmas.List.{drop_all}
 use Rattle.eval_work.specs.Kept.{PairsNamed}
 use Rattle.eval_work.specs.Works.{view_of}
