@@ -134,4 +134,4 @@ stays (n ∷ ns) key ps h = by (has_string n (groups_in ps)) (λ qs. stays ns ke
     by false rest = rest more ∙ other_key groups_key key (tree.list (with_last n (groups_in ps))) ps h
 
 pub objects_join : ObjectsJoin
-objects_join o ps names is = (with_groups names ps, (ap (λ d. record o { tree = tree_grown names d }) is, record { groups = grows names ps; others = λ key h. stays names key ps h }))
+objects_join o ps names is = (with_groups names ps, ap (λ d. record o { tree = tree_grown names d }) is, record { groups = grows names ps; others = λ key h. stays names key ps h })
