@@ -6,5 +6,6 @@ pub mod MadeLaws
 pub mod OrderLaws
 pub mod PieceLaws
 pub mod SignLaws
+pub mod StandLaws
 pub mod TreeViews
 pub mod WalkLaws

@@ -9,6 +9,7 @@ pub mod Resolved
 pub mod Returns
 pub mod Scopes
 pub mod Sorted
+pub mod Stands
 pub mod Truth
 pub mod Values
 pub mod Walk
