@@ -1,3 +1,4 @@
 pub mod Tracing
 pub mod Sorting
 pub mod Above
+pub mod Idle
