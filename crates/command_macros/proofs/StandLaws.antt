@@ -30,7 +30,7 @@ put_all_permutes (pair key d ps) sorted =
     IsPermutation-trans ((key, d) ∷ (listed ps ++ sorted)) (listed ps ++ (key, d) ∷ sorted) (put_all ps (put key d sorted))
     (IsPermutation-sym (listed ps ++ (key, d) ∷ sorted) ((key, d) ∷ (listed ps ++ sorted)) (IsPermutation-middle (listed ps) (key, d) sorted))
     (IsPermutation-trans (listed ps ++ (key, d) ∷ sorted) (listed ps ++ put key d sorted) (put_all ps (put key d sorted))
-        (behind (listed ps)) (put_all_permutes ps (put key d sorted)))
+    (behind (listed ps)) (put_all_permutes ps (put key d sorted)))
   where
     behind : (front : List Argument) → IsPermutation (front ++ (key, d) ∷ sorted) (front ++ put key d sorted)
     behind [] = put_permutes key d sorted

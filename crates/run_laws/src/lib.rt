@@ -6,7 +6,5 @@
 mod laws;
 mod reaching;
 
-pub use laws::{
-    due_ones_stand_in_order, idle_callers_change_no_round, traces_make_a_round,
-};
+pub use laws::{due_ones_stand_in_order, idle_callers_change_no_round, traces_make_a_round};
 pub use reaching::what_holds_back_goes_by_parents;
