@@ -1,14 +1,15 @@
 // A host or a service with its history.
-ghost use Rattle.std.specs.Prelude.{◌≡◌, ◌<◌, ◌≤◌, ◌^◌, [], IfOk, length};
+ghost use Rattle.std.specs.Prelude.{◌≡◌, ◌<◌, ◌≤◌, [], IfOk, length};
 ghost use Rattle.site_model.specs.PlainSite.{site_view};
 ghost use Rattle.run_meaning.specs.Dealing.{last_moment};
 ghost use Rattle.run_meaning.specs.Downtimes.{in_effect};
 ghost use Rattle.run_meaning.specs.Runs.{greatest_of};
 ghost use Rattle.run_meaning.specs.View.{view_of};
-ghost use Rattle.notify_rules.specs.Sent.{TellOnce};
+ghost use Rattle.notify_rules.specs.Sent.{IsNoteIndex, TellOnce};
 ghost use Rattle.checkable_core.specs.Contents.{check_at};
 
 use crate::running::Running;
+use notify_rules::NoteIndex;
 use site_base::{Moment, OutOfMemory};
 use site_model::{Entry, Site, View};
 use std::alloc::Global;
@@ -45,14 +46,19 @@ impl Model for Checkable {
 }
 
 impl Checkable {
-    /// The checkable of this index of a site, without entries.
+    /// The checkable of this index of a site, without entries, by an index of the site's notifications.
     ///
     /// # Errors
     ///
     /// `OutOfMemory` where there is none for what is kept of its notifications.
-    pub fn new(alloc: Global, site: &Site, checkable: u32) -> Result<Checkable, OutOfMemory>
+    pub fn new(
+        alloc: Global,
+        site: &Site,
+        notes: &NoteIndex,
+        checkable: u32,
+    ) -> Result<Checkable, OutOfMemory>
         requires once { TellOnce (site_view site.now) }
-        requires notifies { length site.now.notifies < 2 ^ 32 }
+        requires notes { IsNoteIndex (site_view site.now) notes.now }
         requires checkable { checkable < length site.now.checkables }
         ensures { IfOk result (λ k. k ≡ record { site = site.now; index = checkable; entries = [] }) }
     {
@@ -60,7 +66,7 @@ impl Checkable {
             alloc,
             site: Told::of(site),
             index: checkable,
-            running: Running::new(alloc, site, checkable)?,
+            running: Running::new(alloc, site, notes, checkable)?,
             entries: Trail::new(),
         })
     }

@@ -1,19 +1,21 @@
 // A checkable that has entries from the start.
-ghost use Rattle.std.specs.Prelude.{◌≡◌, ◌<◌, ◌^◌, IfOk, IsErrOf, length};
+ghost use Rattle.std.specs.Prelude.{◌≡◌, ◌<◌, IfOk, IsErrOf, length};
 ghost use Rattle.site_model.specs.PlainSite.{site_view};
-ghost use Rattle.notify_rules.specs.Sent.{TellOnce};
+ghost use Rattle.notify_rules.specs.Sent.{IsNoteIndex, TellOnce};
 ghost use Rattle.checkable_core.specs.Histories.{IsHistory};
 
 use crate::histories::is_history;
 use crate::running::Running;
 use crate::{Checkable, RestoreFault};
+use notify_rules::NoteIndex;
 use site_model::{Entry, Site};
 use std::alloc::Global;
 use trail::{Told, Trail};
 
 impl Checkable {
-    /// The checkable of this index of a site, with these entries, the oldest first. Their events, moments and decisions count
-    /// as they are, and whether an event was taken; states aren't compared with what the events make.
+    /// The checkable of this index of a site, with these entries, the oldest first, by an index of the site's notifications. The
+    /// entries' events, moments and decisions count as they are, and whether an event was taken; states aren't compared with what
+    /// the events make.
     ///
     /// # Errors
     ///
@@ -22,11 +24,12 @@ impl Checkable {
     pub fn restored(
         alloc: Global,
         site: &Site,
+        notes: &NoteIndex,
         checkable: u32,
         entries: &[Entry],
     ) -> Result<Checkable, RestoreFault>
         requires once { TellOnce (site_view site.now) }
-        requires notifies { length site.now.notifies < 2 ^ 32 }
+        requires notes { IsNoteIndex (site_view site.now) notes.now }
         requires checkable { checkable < length site.now.checkables }
         ensures ok { IfOk result (λ k. (k ≡ record { site = site.now; index = checkable; entries = entries.now }) × IsHistory (site_view site.now) entries.now) }
         ensures bad { IsErrOf result RestoreFault.BadHistory → ¬ IsHistory (site_view site.now) entries.now }
@@ -35,7 +38,7 @@ impl Checkable {
         if !is_history(site, entries) {
             return Err(RestoreFault::BadHistory);
         }
-        let running = Running::after(alloc, site, checkable, entries)?;
+        let running = Running::after(alloc, site, notes, checkable, entries)?;
         Ok(Checkable {
             alloc,
             site: Told::of(site),

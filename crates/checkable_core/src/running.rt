@@ -4,7 +4,7 @@ ghost use Rattle.site_model.specs.PlainSite.{PlainCheck, PlainSite, check_view, 
 ghost use Rattle.site_model.specs.declared.entry.Entry.{Entry};
 ghost use Rattle.run_meaning.specs.Dealing.{last_moment};
 ghost use Rattle.check_state.specs.Stands.{StandsFor};
-ghost use Rattle.notify_rules.specs.Sent.{TellOnce};
+ghost use Rattle.notify_rules.specs.Sent.{IsNoteIndex, TellOnce};
 ghost use Rattle.checkable_core.specs.Histories.{Rises};
 ghost use Rattle.checkable_core.specs.Keeping.{Keeps, IsKept};
 
@@ -12,7 +12,7 @@ use crate::downtimes::enter;
 use crate::stepping::follow;
 use check_state::{Status, is_problem};
 use downtime_book::Book;
-use notify_rules::SentBook;
+use notify_rules::{NoteIndex, SentBook};
 use site_base::{Moment, OutOfMemory};
 use site_model::{CheckSpec, Entry, Site};
 use std::alloc::Global;
@@ -34,13 +34,18 @@ impl Running {
     /// # Errors
     ///
     /// `OutOfMemory` where there is none for the users of its notifications.
-    pub(crate) fn new(alloc: Global, site: &Site, checkable: u32) -> Result<Running, OutOfMemory>
+    pub(crate) fn new(
+        alloc: Global,
+        site: &Site,
+        notes: &NoteIndex,
+        checkable: u32,
+    ) -> Result<Running, OutOfMemory>
         requires once { TellOnce (site_view site.now) }
-        requires notifies { length site.now.notifies < 2 ^ 32 }
+        requires notes { IsNoteIndex (site_view site.now) notes.now }
         requires checkable { checkable < length site.now.checkables }
         ensures { IfOk result (λ r. IsKept (site_view site.now) checkable r []) }
     {
-        let sent = SentBook::new(alloc, site, checkable)?;
+        let sent = SentBook::new(alloc, site, notes, checkable)?;
         Ok(Running {
             status: Status::new(&site.checkables.as_slice()[checkable as usize]),
             last: Moment::of(0).unwrap(),
@@ -101,17 +106,18 @@ impl Running {
     pub(crate) fn after(
         alloc: Global,
         site: &Site,
+        notes: &NoteIndex,
         checkable: u32,
         entries: &[Entry],
     ) -> Result<Running, OutOfMemory>
         requires once { TellOnce (site_view site.now) }
-        requires notifies { length site.now.notifies < 2 ^ 32 }
+        requires notes { IsNoteIndex (site_view site.now) notes.now }
         requires checkable { checkable < length site.now.checkables }
         requires count { length entries.now < 2 ^ 64 - 1 }
         requires moments { Rises 0 entries.now }
         ensures { IfOk result (λ r. IsKept (site_view site.now) checkable r entries.now) }
     {
-        let mut running = Running::new(alloc, site, checkable)?;
+        let mut running = Running::new(alloc, site, notes, checkable)?;
         let spec = &site.checkables.as_slice()[checkable as usize];
         for entry in entries {
             running.take(spec, entry)?;

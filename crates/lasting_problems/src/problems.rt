@@ -1,5 +1,5 @@
 // The checkables that show a HARD problem.
-ghost use Rattle.std.specs.Prelude.{◌≡◌, ◌<◌, ℕ, List, Option, [], length, slice_set, IfOk, OnOk};
+ghost use Rattle.std.specs.Prelude.{◌≡◌, ◌<◌, ℕ, List, Option, [], length, slice_set, IfOk, OnErr, OnOk};
 ghost use Rattle.lasting_problems.specs.Noted.{late_in, noted};
 
 use site_base::{Moment, OutOfMemory};
@@ -41,7 +41,8 @@ impl Problems {
     /// `OutOfMemory` where there is none for one more; it is then as before.
     #[tactic(auto, using(crate::proofs::Noting::inserted, crate::proofs::Noting::removed))]
     pub fn note(&mut self, checkable: u32, moment: Option<Moment>) -> Result<(), OutOfMemory>
-        ensures { (ms : List (Option ℕ)) → checkable < length ms → self.old ≡ noted ms → OnOk result (self.new ≡ noted (slice_set ms checkable moment)) }
+        ensures noted { (ms : List (Option ℕ)) → checkable < length ms → self.old ≡ noted ms → OnOk result (self.new ≡ noted (slice_set ms checkable moment)) }
+        ensures err { OnErr result (self.new ≡ self.old) }
     {
         match moment {
             Some(moment) => {

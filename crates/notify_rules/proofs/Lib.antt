@@ -3,3 +3,4 @@ pub mod Telling
 pub mod Noting
 pub mod Standing
 pub mod Decided
+pub mod Indexing

@@ -51,32 +51,13 @@ distinct_notes b s c check h stands = subst AreDistinct (sym stands.notes) (dist
 abbrev pub row : ℕ → NotifySpec → SentNote
 row n note = record { notification = n; problem = None; listeners = map untold note.users }
 
-abbrev pub rows_from : ℕ → ℕ → List NotifySpec → List SentNote
-rows_from c n [] = []
-rows_from c n (note ∷ notes) = cond (nat_eq note.checkable c) (row n note ∷ []) [] ++ rows_from c (suc n) notes
+-- each is the row of the notification that it names
+abbrev pub IsMade : List NotifySpec → SentNote → Type 0
+IsMade notes r = (note : NotifySpec) × (slice_get notes r.notification ≡ Some note) × (r ≡ row r.notification note)
 
 untold_users : (us : List ℕ) → map user_of (map untold us) ≡ us
 untold_users [] = refl
 untold_users (u ∷ us) = ap (λ vs. u ∷ vs) (untold_users us)
-
-rows_numbers : (c n : ℕ) (notes : List NotifySpec) → map number_of (rows_from c n notes) ≡ notes_from c n notes
-rows_numbers c n [] = refl
-rows_numbers c n (note ∷ notes) =
-    elim (nat_eq note.checkable c) as (λ b. map number_of (cond b (row n note ∷ []) [] ++ rows_from c (suc n) notes) ≡ cond b (n ∷ []) [] ++ notes_from c (suc n) notes) [
-      | true ↦ ap (λ ns. n ∷ ns) (rows_numbers c (suc n) notes)
-      | false ↦ rows_numbers c (suc n) notes
-    ]
-
-all_rows : (P : SentNote → Type 0) (c n : ℕ) (notes : List NotifySpec) → ((k : ℕ) (note : NotifySpec) → slice_get notes k ≡ Some note → P (row (n + k) note)) → All P (rows_from c n notes)
-all_rows P c n [] h = All-nil P
-all_rows P c n (note ∷ notes) h =
-    let here : P (row n note) = let e : n + 0 ≡ n = omega arith in subst (λ (m : ℕ). P (row m note)) e (h 0 note refl) in
-    let rest : All P (rows_from c (suc n) notes) =
-    all_rows P c (suc n) notes (λ k other is. let e : n + suc k ≡ suc n + k = omega arith in subst (λ (m : ℕ). P (row m other)) e (h (suc k) other is)) in
-    elim (nat_eq note.checkable c) as (λ b. All P (cond b (row n note ∷ []) [] ++ rows_from c (suc n) notes)) [
-      | true ↦ All-cons P (row n note) (rows_from c (suc n) notes) here rest
-      | false ↦ rest
-    ]
 
 all_untold : (check : PlainCheck) (n : ℕ) (us : List ℕ) → All (λ (l : Listener). l.told ≡ has_received check n l.user []) (map untold us)
 all_untold check n us = All-map (λ (l : Listener). l.told ≡ has_received check n l.user []) untold us (λ k d within. refl)
@@ -86,23 +67,30 @@ all_at P [] h k x e = absurd cc
 all_at P (y ∷ ys) h zero x e = let same : y ≡ x = cc in subst P same (All-head P y ys h)
 all_at P (y ∷ ys) h (suc k) x e = all_at P ys (All-tail P y ys h) k x e
 
-has_users : (notes : List NotifySpec) (k n : ℕ) (note : NotifySpec) → slice_get notes k ≡ Some note → n ≡ k → HasUsers notes (row n note)
-has_users notes k n note is e =
-    let at : slice_get notes n ≡ Some note = ap (slice_get notes) e ∙ is in
-    subst (λ (o : Option NotifySpec). IsSomeAnd o (λ other. map user_of (map untold note.users) ≡ other.users)) (sym at) (untold_users note.users)
-
 once_at : (s : PlainSite) → TellOnce s → (k : ℕ) (note : NotifySpec) → slice_get s.notifies k ≡ Some note → AreDistinct note.users
 once_at s once k note at = all_at (λ (n : NotifySpec). AreDistinct n.users) s.notifies once k note at
 
-pub stands_empty : (s : PlainSite) (c : ℕ) (check : PlainCheck) (b : Contents) → TellOnce s → b.host ≡ check.host → b.notes ≡ rows_from c 0 s.notifies → StandsFor b s c check []
-stands_empty s c check b tell host is = record {
+pub stands_empty : (s : PlainSite) (c : ℕ) (check : PlainCheck) (b : Contents) → TellOnce s → b.host ≡ check.host → map number_of b.notes ≡ notes_from c 0 s.notifies → All (IsMade s.notifies) b.notes → StandsFor b s c check []
+stands_empty s c check b tell host numbers made = record {
   host = host;
-  notes = ap (map number_of) is ∙ rows_numbers c 0 s.notifies;
-  users = subst (All (HasUsers s.notifies)) (sym is) (all_rows (HasUsers s.notifies) c 0 s.notifies (λ k note at. has_users s.notifies k (0 + k) note at (omega arith)));
-  once = subst HaveDistinct (sym is) (all_rows (λ r. AreDistinct (map user_of r.listeners)) c 0 s.notifies (λ k note at. subst AreDistinct (sym (untold_users note.users)) (once_at s tell k note at)));
+  notes = numbers;
+  users = All-weaker (IsMade s.notifies) (HasUsers s.notifies) (λ r own. has_users r own.0 own.1 own.2) b.notes made;
+  once = All-weaker (IsMade s.notifies) (λ r. AreDistinct (map user_of r.listeners)) (λ r own. subst AreDistinct (sym (users_are r own.0 own.2)) (once_at s tell r.notification own.0 own.1)) b.notes made;
   in_order = tt;
-  remembers = subst (All (Remembers check [])) (sym is) (all_rows (Remembers check []) c 0 s.notifies (λ k note at. record { problem = refl; told = all_untold check (0 + k) note.users }));
+  remembers = All-weaker (IsMade s.notifies) (Remembers check []) (λ r own. remembers r own.0 own.2) b.notes made;
 }
+  where
+    users_are : (r : SentNote) (note : NotifySpec) → r ≡ row r.notification note → map user_of r.listeners ≡ note.users
+    users_are r note is = ap (λ (x : SentNote). map user_of x.listeners) is ∙ untold_users note.users
+
+    has_users : (r : SentNote) (note : NotifySpec) → slice_get s.notifies r.notification ≡ Some note → r ≡ row r.notification note → HasUsers s.notifies r
+    has_users r note at is = subst (λ (o : Option NotifySpec). IsSomeAnd o (λ other. map user_of r.listeners ≡ other.users)) (sym at) (users_are r note is)
+
+    remembers : (r : SentNote) (note : NotifySpec) → r ≡ row r.notification note → Remembers check [] r
+    remembers r note is = record {
+      problem = ap (λ (x : SentNote). x.problem) is;
+      told = subst (All (λ (l : Listener). l.told ≡ has_received check r.notification l.user [])) (sym (ap (λ (x : SentNote). x.listeners) is)) (all_untold check r.notification note.users);
+    }
 
 -- One entry more.
 

@@ -1,5 +1,5 @@
 -- What a book of sent notifications keeps, and the entries that it stands for.
-use Rattle.std.specs.Prelude.{◌≡◌, ℕ, suc, ◌≤◌, ◌||◌, ◌++◌, Bool, true, false, List, [], ◌∷◌, map, reverse, nat_eq, slice_get, is_some, Option, Some, None, All, IsSomeAnd, MatchOption, if◌then◌else◌}
+use Rattle.std.specs.Prelude.{◌≡◌, ℕ, suc, ◌<◌, ◌≤◌, ◌||◌, ◌++◌, Bool, true, false, List, [], ◌∷◌, length, map, reverse, nat_eq, slice_get, is_some, Option, Some, None, All, IsSomeAnd, MatchOption, if◌then◌else◌}
 use Rattle.std.specs.List.{list_any}
 use Rattle.site_model.specs.PlainSite.{PlainCheck, PlainSite}
 use Rattle.site_model.specs.Sound.{AreDistinct}
@@ -7,6 +7,7 @@ use Rattle.site_model.specs.declared.decision.Decision.{Decision}
 use Rattle.site_model.specs.declared.entry.Entry.{Entry}
 use Rattle.site_model.specs.declared.notify_spec.NotifySpec.{NotifySpec}
 use Rattle.run_meaning.specs.Decisions.{problem_sent, is_among, has_received}
+use Rattle.run_meaning.specs.Turns.{of_index}
 use Rattle.notify_rules.specs.declared.listeners.Listener.{Listener}
 use Rattle.notify_rules.specs.declared.sent_note.SentNote.{SentNote}
 
@@ -95,6 +96,11 @@ pub record Contents : Type 0 where
 abbrev pub notes_from : ℕ → ℕ → List NotifySpec → List ℕ
 notes_from c n [] = []
 notes_from c n (note ∷ notes) = (if nat_eq note.checkable c then n ∷ [] else []) ++ notes_from c (suc n) notes
+
+-- these are the notifications of each checkable
+pub record IsNoteIndex (s : PlainSite) (rows : List (List ℕ)) : Type 0 where
+  pub many : length rows ≡ length s.checkables
+  pub own : (c : ℕ) → c < length s.checkables → of_index c rows ≡ notes_from c 0 s.notifies
 
 -- each notification names each user once
 abbrev pub TellOnce : PlainSite → Type 0

@@ -6,9 +6,10 @@ ghost use Rattle.site_model.specs.Sound.{AreDistinct};
 ghost use Rattle.site_model.specs.declared.decision.Decision.{Decision as Decided};
 ghost use Rattle.run_meaning.specs.Decisions.{is_for_problem, users_sent, is_well};
 ghost use Rattle.run_meaning.specs.View.{status_in};
-ghost use Rattle.notify_rules.specs.Sent.{number_of, noted, forgetting, is_note, IsAt, HaveDistinct, StandsFor, TellOnce, Follows};
+ghost use Rattle.notify_rules.specs.Sent.{IsNoteIndex, number_of, noted, forgetting, is_note, IsAt, HaveDistinct, StandsFor, TellOnce, Follows};
 
 use crate::filters::is_for_problem;
+use crate::note_index::NoteIndex;
 use crate::sent_note::SentNote;
 use site_base::{Moment, OutOfMemory};
 use site_model::{Decision, Entry, Event, Outcome, Site};
@@ -33,23 +34,27 @@ impl Model for SentBook {
 }
 
 impl SentBook {
-    /// The book of a checkable without entries. It takes the room for every user of its notifications, so that no later
-    /// call takes memory.
+    /// The book of a checkable without entries, by an index of the site's notifications. It takes the room for every user of the
+    /// checkable's notifications, so that no later call takes memory, and a time that grows with these users.
     ///
     /// # Errors
     ///
     /// `OutOfMemory` where there is none for that room.
-    pub fn new(alloc: Global, site: &Site, checkable: u32) -> Result<SentBook, OutOfMemory>
+    pub fn new(
+        alloc: Global,
+        site: &Site,
+        index: &NoteIndex,
+        checkable: u32,
+    ) -> Result<SentBook, OutOfMemory>
         requires checkable { checkable < length site.now.checkables }
-        requires notifies { length site.now.notifies < 2 ^ 32 }
+        requires index { IsNoteIndex (site_view site.now) index.now }
         ensures { (check : PlainCheck) → TellOnce (site_view site.now) → slice_get (site_view site.now).checkables checkable ≡ Some check →
             IfOk result (λ b. StandsFor b (site_view site.now) checkable check []) }
     {
         let mut notes = Vec::new(alloc);
-        for (index, note) in site.notifies.as_slice().iter().enumerate() {
-            if note.checkable == checkable {
-                notes.push(SentNote::new(alloc, index as u32, note.users.as_slice())?)?;
-            }
+        for place in index.of_checkable(checkable) {
+            let note = &site.notifies.as_slice()[*place as usize];
+            notes.push(SentNote::new(alloc, *place, note.users.as_slice())?)?;
         }
         Ok(SentBook {
             host: site.checkables.as_slice()[checkable as usize].host,

@@ -5,6 +5,7 @@ ghost use Rattle.notify_rules.specs.Sent.{TellOnce};
 ghost use Rattle.turn_engine.specs.Checkables.{AreEmpty};
 
 use checkable_core::Checkable;
+use notify_rules::NoteIndex;
 use site_base::OutOfMemory;
 use site_model::Site;
 use std::alloc::Global;
@@ -16,9 +17,10 @@ pub(crate) fn books_of(alloc: Global, site: &Site) -> Result<Vec<Checkable>, Out
     requires few { length site.now.checkables < 2 ^ 32 }
     ensures { IfOk result (λ books. AreEmpty (site_view site.now) books.items) }
 {
+    let notes = NoteIndex::of(alloc, site)?;
     let mut books = Vec::new(alloc);
     for checkable in 0..site.checkables.len() as u32 {
-        books.push(Checkable::new(alloc, site, checkable)?)?;
+        books.push(Checkable::new(alloc, site, &notes, checkable)?)?;
     }
     Ok(books)
 }

@@ -33,7 +33,7 @@ loop-segment-preserved c = λ s moment before round are many stand gathered old.
     (drop_next i xs x l ∙ ap (λ y. y ∷ drop (i + 1) xs) (sym c.segment-item.is))
     (omega (arith, within, whole))
     (c.lasting_of.ensures ∙ book_lasts s moment books x.checkable book (joined before round) are at stand)
-    c.in_ok-note.ensures
+    c.in_ok-note.ensures.noted
     (c.loop-segment.invariant s moment before round are many stand gathered old)
 
 pub returns : goal.returns

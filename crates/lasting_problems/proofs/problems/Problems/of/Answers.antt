@@ -22,7 +22,7 @@ loop-checkable-preserved c = λ s moment are.
     one_more k (lasting s h) c.lasting_of.result c.loop-checkable.problems c.note.new.self
     (lasting_at s h k (omega (arith, within, whole)) ∙ ap Some (sym (c.lasting_of.ensures ∙ book_lasts s moment books k book h are at refl)))
     (c.loop-checkable.invariant s moment are)
-    c.in_ok-note.ensures
+    c.in_ok-note.ensures.noted
 
 pub returns : goal.returns
 returns c = λ s moment are.
