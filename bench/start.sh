@@ -34,10 +34,12 @@ site() {
         }'
 }
 
-# timed WORD..: seconds of the processor and kilobytes at the peak.
+# timed WORD..: seconds of the processor, the least of three runs, and kilobytes at the peak.
 timed() {
-    /usr/bin/time -f '%U %S %M' -o "$work/time" taskset -c 0 "$program" "$@" >"$work/log"
-    awk '{ printf "%.2f %d\n", $1 + $2, $3 }' "$work/time"
+    for _ in 1 2 3; do
+        /usr/bin/time -f '%U %S %M' -o "$work/time" taskset -c 0 "$program" "$@" >"$work/log"
+        awk '{ printf "%.2f %d\n", $1 + $2, $3 }' "$work/time"
+    done | sort -n | head -1
 }
 
 beyond() {
