@@ -85,10 +85,19 @@ same "on-sent, its fields" 'db1 disk OK HARD 1 1764000360 DISK OK' \
     "$(bin/on-sent --once --from-start --position "$scratch/q" "$log" sh -c 'echo "$SENT_HOST" "$SENT_SERVICE" "$SENT_STATE" "$SENT_TYPE" "$SENT_ATTEMPT" "$SENT_MOMENT" "$SENT_OUTPUT"' | tail -n 1)"
 
 # A diagnostic gets its source line, a mark, a meaning and where to read on; every other line is passed on.
-printf 'object Host "a" {\n}\n' >"$scratch/r"
+printf 'object Host "a" {\n  vars.x = 1\n  adress = "192.0.2.1"\n}\n' >"$scratch/r"
 explained=$(printf '%s/r:1:8: Syntax\nok\n' "$scratch" | bin/explain)
 same "explain, the source line and its mark" '    object Host "a" {|           ^' "$(printf '%s\n' "$explained" | sed -n '2,3p' | paste -sd '|')"
-same "explain, other lines" ok "$(printf '%s\n' "$explained" | tail -n 1)"
+same "explain, other lines, and how many faults there are" 'ok|1 fault in 1 file' "$(printf '%s\n' "$explained" | tail -n 2 | paste -sd '|')"
+printf '%s/r:1:8: Syntax\n' "$scratch" | bin/explain >/dev/null
+same "explain's status, with a diagnostic" 1 $?
+same "explain, without a diagnostic" "ok 0" "$(printf 'ok\n' | bin/explain | tr '\n' ' '; echo "${PIPESTATUS[1]}")"
+same "explain, the line of the attribute" '    line 3: adress = "192.0.2.1"' "$(printf '%s/r:1:1: UnknownAttr "adress"\n' "$scratch" | bin/explain | sed -n 4p)"
+same "explain, an attribute that isn't found" 0 "$(printf '%s/r:1:1: AttrType "notes"\n' "$scratch" | bin/explain | grep -c 'line [0-9]')"
+same "explain, a file that isn't there" 3 "$(printf 'none:1:1: AttrType "notes"\n' | bin/explain | head -n -1 | wc -l)"
+# Each kind of the program has a sentence.
+kinds=$(sed -n '/^pub enum DiagKind/,/^}/s/^    \([A-Z][A-Za-z]*\),$/\1/p' crates/site_base/src/diag_kind.rt)
+same "explain, each kind" 0 "$(for kind in $kinds; do printf 'none:1:1: %s\n' "$kind" | bin/explain | grep -q See || echo "$kind"; done | wc -l)"
 
 echo "$tried tried, $failed not as they should be"
 [ "$failed" = 0 ]

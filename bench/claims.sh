@@ -1,0 +1,271 @@
+#!/usr/bin/env bash
+# Checks what README.md, docs/ and the other pages of the repository name: files, headings, crates, clauses, kinds and counts.
+#
+# usage: bench/claims.sh [DOCUMENT ..]
+#
+# Without names it takes every page. It says of each page
+#   - that each path that it names is there, and each heading that it sends a reader to, as `docs/RUN.md, "Time periods"`;
+#   - that each name in backticks is a word of the sources, the scripts or the examples;
+#   - that `A` of `F` names a clause A of a function F, and a name in brackets stands in the crate that the brackets or the paragraph name;
+#   - that each count of rows is the one of its table, as `| `words.rows` | 103 |` or `103 rows (words.rows)`;
+# and of the tables that list the same things as the sources that they do: the crates, the kinds of diagnostics, the faults of command
+# lines, the commands, the attributes, the statuses and the must-fail edits. It needs no program. Ends with 1 where a claim doesn't hold.
+set -u
+cd "$(dirname "${BASH_SOURCE[0]}")/.." || exit 1
+exec python3 - "$@" <<'PYTHON'
+import functools
+import glob
+import os
+import re
+import sys
+
+pages = sys.argv[1:] or ["README.md", *sorted(glob.glob("docs/*.md")), "library/README.md", *sorted(glob.glob("examples/*/README.md"))]
+whole = not sys.argv[1:]
+checked, wrong = 0, 0
+
+
+def check(holds, page, line, said):
+    global checked, wrong
+    checked += 1
+    if not holds:
+        wrong += 1
+        print(f"{page}:{line}: {said}")
+
+
+def read(path):
+    with open(path, encoding="utf-8", errors="replace") as file:
+        return file.read()
+
+
+@functools.cache
+def crates():
+    """Each crate with what crates.txt says that it cites, in its order."""
+    lines = (line.split("#")[0] for line in read("crates.txt").splitlines())
+    return {name.strip(): cited.split() for name, mark, cited in (line.partition(":") for line in lines) if mark}
+
+
+@functools.cache
+def sources(crate):
+    """The files of a crate that clauses and definitions stand in."""
+    found = [path for part in ("src", "specs", "proofs") for path in glob.glob(f"crates/{crate}/{part}/**", recursive=True)]
+    return {path: read(path) for path in found if os.path.isfile(path)}
+
+
+WORD = re.compile(r"[A-Za-z_]\w*")
+
+
+@functools.cache
+def words_of(crate):
+    return {word for text in sources(crate).values() for word in WORD.findall(text)} | {os.path.basename(path).split(".")[0] for path in sources(crate)}
+
+
+@functools.cache
+def all_words():
+    """Every word that the crates, the scripts, the examples and the library have."""
+    found = {word for crate in crates() for word in words_of(crate)} | set(crates())
+    rows = glob.glob("crates/*/stdin") + glob.glob("crates/program_cases/data/*") + glob.glob("crates/*/edits/**", recursive=True)
+    rows += glob.glob("crates/*/must-fail/**", recursive=True)
+    others = [path for part in ("bin", "bench", "library", "examples", "packaging") for path in glob.glob(f"{part}/**", recursive=True)]
+    for path in rows + others + ["crates.txt", "HANDLES", ".ci/run"]:
+        if os.path.isfile(path):
+            found |= set(WORD.findall(read(path)))
+            found.add(os.path.basename(path).split(".")[0])
+    return found
+
+
+@functools.cache
+def contracts():
+    """Of each function, by its name, the clauses of the contracts that it has, in whatever crate it stands."""
+    found = {}
+    for crate in crates():
+        for path, text in sources(crate).items():
+            if not path.endswith(".rt"):
+                continue
+            parts = re.split(r"\bfn (\w+)", text)
+            for name, body in zip(parts[1::2], parts[2::2]):
+                found.setdefault(name, set()).update(re.findall(r"\b(?:ensures|requires|clause)\s+(\w+)", body))
+    return found
+
+
+@functools.cache
+def headings(page):
+    return {line.lstrip("#").strip() for line in read(page).splitlines() if line.startswith("#")}
+
+
+def anchor(heading):
+    return re.sub(r"[^\w\- ]", "", heading.lower()).replace(" ", "-")
+
+
+@functools.cache
+def rows_in(name):
+    """How many rows a table of program_cases has, or the stdin of another program of rows."""
+    if name.endswith(".rows"):
+        path = f"crates/program_cases/data/{name}"
+        lines = [line for line in read(path).splitlines() if not line.startswith(("  ", "text ", "| "))] if os.path.exists(path) else None
+    else:
+        path = f"crates/{name}/stdin"
+        lines = read(path).splitlines() if os.path.exists(path) else None
+    return None if lines is None else sum(1 for line in lines if line and not line.startswith("#"))
+
+
+def total_of_rows():
+    return sum(rows_in(os.path.basename(path)) for path in glob.glob("crates/program_cases/data/*.rows"))
+
+
+def number(text):
+    return int(text.replace(",", ""))
+
+
+def paragraphs(page):
+    """The paragraphs and rows of tables of a page outside of fenced blocks, each with the number of its first line."""
+    fenced, start, lines = False, 0, []
+    for at, line in enumerate(read(page).splitlines(), 1):
+        if line.startswith("```"):
+            fenced, line = not fenced, ""
+        if fenced:
+            line = ""
+        if not line.strip() or line.startswith(("|", "#")) or re.match(r" *(-|\d+\.) ", line):
+            if lines:
+                yield start, " ".join(lines)
+            lines = []
+        if line.strip():
+            start = start if lines else at
+            lines.append(line.strip())
+    if lines:
+        yield start, " ".join(lines)
+
+
+PATH = re.compile(r"(?<![\w/.<-])((?:docs|bench|bin|packaging|examples|library|release|crates|\.ci)/[\w./+-]*\w)(?![\w/]*[*{])")
+INSIDE = re.compile(r"`((?:specs|proofs|src|must-fail|edits|data)/[\w./+-]*)`")
+SENT = re.compile(r"(docs/\w+\.md|library/README\.md)(?:, \"([^\"]+)\"| under \"([^\"]+)\")")
+LINK = re.compile(r"\]\(([^)#]*)(?:#([^)]*))?\)")
+CLAUSE = re.compile(r"((?:`\w+`(?:, | and ))*`\w+`) of ((?:`\w+`(?:, | and ))*`\w+`)")
+BRACKETS = re.compile(r"\(([^()]*`[^()]*)\)")
+COUNT = re.compile(r"([\d,]+\d|\d) rows \(([\w.]+)\)")
+
+
+def check_paths(page, line, text):
+    for path in PATH.findall(text):
+        if path.startswith(("bin/true", "bin/sh")):
+            continue
+        there = os.path.exists(path) or os.path.exists(os.path.join(os.path.dirname(page), path)) or "NAME" in path
+        check(there, page, line, f"{path} isn't there")
+    for path in INSIDE.findall(text):
+        names = [name for name in crates() if re.search(rf"\b{name}\b", text)] or list(crates())
+        there = any(glob.glob(f"crates/{name}/{path.rstrip('/')}*") for name in names) or any(glob.glob(f"crates/{name}/{path.rstrip('/')}*") for name in crates())
+        check(there, page, line, f"no crate has {path}")
+    for target, one, other in SENT.findall(text):
+        heading = one or other
+        check(os.path.exists(target) and heading in headings(target), page, line, f'{target} has no heading "{heading}"')
+    for target, part in LINK.findall(text):
+        if target.startswith("http"):
+            continue
+        path = os.path.normpath(os.path.join(os.path.dirname(page), target)) if target else page
+        there = os.path.exists(path) and (not part or part in {anchor(it) for it in headings(path)})
+        check(there, page, line, f"the link to {target}{'#' if part else ''}{part} leads nowhere")
+
+
+def check_clauses(page, line, text, near):
+    """The clauses that a paragraph names. Near are the crates that stand in bold at the begin of its section."""
+    for clauses, functions in CLAUSE.findall(text):
+        clauses, functions = re.findall(r"\w+", clauses.replace(" and ", " ")), re.findall(r"\w+", functions.replace(" and ", " "))
+        if not any(name in contracts() for name in functions):
+            continue
+        for clause in clauses:
+            stands = any(clause in contracts().get(name, ()) for name in functions)
+            stands = stands or any(name in words_of(crate) and clause in words_of(crate) for crate in crates() for name in functions)
+            check(stands, page, line, f"`{clause}` of `{'`, `'.join(functions)}`: no such clause")
+    for inside in BRACKETS.findall(text):
+        named = [name for name in crates() if re.search(rf"\b{name}\b", inside)]
+        if not named and (page != "docs/PROVED.md" or not near or re.search(r"[^`\w\s,;:/.()]|\b(?!and\b|of\b|in\b)[a-z]+\b(?![^`]*`)", re.sub(r"`[^`]*`", "", inside))):
+            continue
+        for name in re.findall(r"`(\w+)`", inside):
+            there = any(name in words_of(crate) or name == crate for crate in named or near)
+            check(there, page, line, f"`{name}` doesn't stand in {', '.join(named or near)}")
+
+
+def check_names(page, line, text):
+    for name in re.findall(r"`([A-Za-z_]\w*(?:::\w+)*)`", text):
+        for part in name.split("::"):
+            check(part in all_words(), page, line, f"`{name}` is no word of the sources")
+
+
+def check_counts(page, line, text):
+    row = re.match(r"\| `(\w+(?:\.rows)?)` \| ([\d,]+) \|", text)
+    if row and rows_in(row[1]) is not None:
+        check(rows_in(row[1]) == number(row[2]), page, line, f"{row[1]} has {rows_in(row[1])} rows and not {row[2]}")
+    for count, name in COUNT.findall(text):
+        check(rows_in(name) == number(count), page, line, f"{name} has {rows_in(name)} rows and not {count}")
+    for count in re.findall(r"([\d,]+\d|\d) (?:command lines \(program_cases|rows in all)", text):
+        check(total_of_rows() == number(count), page, line, f"program_cases has {total_of_rows()} rows and not {count}")
+    rest = COUNT.sub("", text)
+    for count in re.findall(r"([\d,]+\d|\d) (?:more )?rows(?! in all)", rest):
+        check(page == "docs/ARCHITECTURE.md" and "library/" in text, page, line, f"{count} rows: of which table?")
+
+
+def table(page, heading, columns=1):
+    """The first cells of the rows of the first table below a heading."""
+    text = read(page)
+    below = text.partition(f"\n## {heading}\n")[2].partition("\n## ")[0]
+    rows = [line.strip().strip("|").split(" | ") for line in below.splitlines() if line.startswith("|")]
+    return [[cell.strip() for cell in row[:columns]] for row in rows[2:]]
+
+
+def variants(path, name):
+    body = re.search(rf"enum {name} \{{\n(.*?)\n\}}", read(path), re.S)
+    return re.findall(r"^    (\w+)", re.sub(r"^\s*(//|#).*$", "", body[1], flags=re.M), re.M) if body else []
+
+
+def same(page, what, listed, there):
+    for name in sorted(set(there) - set(listed)):
+        check(False, page, 1, f"{what}: {name} isn't listed")
+    for name in sorted(set(listed) - set(there)):
+        check(False, page, 1, f"{what}: there is no {name}")
+    check(True, page, 1, "")
+
+
+def check_tables():
+    """The tables that list what the sources have."""
+    page = "docs/ARCHITECTURE.md"
+    rows = [row for row in table(page, "The crates, lowest first", 3) if row[0] in crates()]
+    same(page, "the crates", [row[0] for row in rows], crates())
+    for name, _, cited in rows:
+        listed = {it.strip("` ") for it in cited.split(",")} - {"-"}
+        check(listed <= set(crates()[name]) | {"indexmap", "jiff", "libc", "anyhow", "atomic_table"}, page, 1, f"{name} doesn't cite {', '.join(sorted(listed - set(crates()[name])))}")
+    kinds = variants("crates/site_base/src/diag_kind.rt", "DiagKind")
+    same("docs/FORMATS.md", "the kinds of diagnostics", [name.strip("` ") for row in table("docs/FORMATS.md", "Kinds of diagnostics") for name in row[0].split(",")], kinds)
+    same("bin/explain", "the kinds of diagnostics", re.findall(r'^    "(\w+)": \(', read("bin/explain"), re.M), kinds)
+    faults = variants(next(path for path, text in sources("event_text").items() if "enum LineFault" in text), "LineFault")
+    text = read("docs/FORMATS.md")
+    same("docs/FORMATS.md", "the faults of a command line", re.findall(r"^\| `?(\w+)`? \|", text.partition("What is wrong with a line")[2].partition("## ")[0], re.M)[1:], faults)
+    commands = set(re.findall(r"\b((?:PROCESS|SCHEDULE|ACKNOWLEDGE|REMOVE|DEL|ENABLE|DISABLE)_[A-Z_]+)\b", "".join(text for path, text in sources("event_text").items() if path.endswith(".rt"))))
+    same("docs/FORMATS.md", "the commands", set(re.findall(r"`((?:PROCESS|SCHEDULE|ACKNOWLEDGE|REMOVE|DEL|ENABLE|DISABLE)_[A-Z_]+)", text)), commands)
+    statuses = variants(next(path for path, text in sources("site_run").items() if "enum Status" in text), "Status")
+    for page, heading in (("docs/OPERATING.md", "When it ends"),):
+        same(page, "the statuses", [row[0].split()[-1] for row in table(page, heading)], statuses)
+    listed = set(re.findall(r"`([\w-]+)` \(\w+\)|, `([\w-]+)` \(", read("docs/ARCHITECTURE.md").partition("| wrong body | edit |")[2].partition("\n\n")[0]))
+    for name in {one or other for one, other in listed}:
+        check(bool(glob.glob(f"crates/*/must-fail/{name}.edit")), "docs/ARCHITECTURE.md", 1, f"must-fail/ has no {name}")
+    attributes = set(re.findall(r'"(\w+)"', read("crates/object_types/src/attribute.rt")))
+    text = read("docs/OBJECTS.md").partition("## Every type")[2].partition("## Inert types")[0]
+    listed = {name.strip("` ") for row in re.findall(r"^\| ([a-z][\w, `]*) \|", text, re.M) for name in row.split(",")} - {"attribute"}
+    same("docs/OBJECTS.md", "the attributes", listed, attributes)
+
+
+for page in pages:
+    near = []
+    for line, text in paragraphs(page):
+        bold = re.match(r"(?:\*\*\w+\*\*(?:, | and |,)?)+", text)
+        if text.startswith("#"):
+            near = []
+        elif bold:
+            near = [name for name in re.findall(r"\*\*(\w+)\*\*", text.partition(". ")[0]) if name in crates()]
+        check_paths(page, line, text)
+        check_clauses(page, line, text, near)
+        check_names(page, line, text)
+        check_counts(page, line, text)
+if whole:
+    check_tables()
+print(f"{checked} claims checked, {wrong} don't hold")
+sys.exit(1 if wrong else 0)
+PYTHON
