@@ -23,9 +23,10 @@ import sys
 import tempfile
 
 top, *words = sys.argv[1:]
-program = f"{top}/bin/icinga_site"
 if words[:1] == ["--program"]:
     program, words = os.path.abspath(words[1]), words[2:]
+else:
+    program = subprocess.run([f"{top}/bin/program"], stdin=subprocess.DEVNULL, stdout=subprocess.PIPE, text=True, check=True).stdout.strip()
 documents = words or [f"{top}/README.md", *sorted(glob.glob(f"{top}/docs/*.md"))]
 SECONDS = 60
 
@@ -126,11 +127,15 @@ def run_console(path, number, lines, room, env):
     ran = differed = 0
     at = 0
     while at < len(lines):
-        command = lines[at][2:]
-        end = at + 1
+        command, end = lines[at][2:], at + 1
+        # (what a here-document holds is part of the command)
+        mark = re.search(r"<< '(\w+)'", command)
+        while mark and end < len(lines) and not command.endswith(f"\n{mark[1]}"):
+            command, end = f"{command}\n{lines[end]}", end + 1
+        begin = end
         while end < len(lines) and not lines[end].startswith("$ "):
             end += 1
-        wanted = lines[at + 1 : end]
+        wanted = lines[begin:end]
         done = subprocess.run(
             ["bash", "-c", command], cwd=room, env=env, stdin=subprocess.DEVNULL, stdout=subprocess.PIPE, stderr=subprocess.STDOUT, timeout=SECONDS, text=True
         )
