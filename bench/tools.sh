@@ -1,6 +1,6 @@
 #!/usr/bin/env bash
-# Tries the tools of bin/ that read logs and diagnostics, over stored logs: bin/now, bin/on-sent and bin/explain. It needs no program,
-# prints a line for each thing that isn't as it should be, and ends with 1 where there is one.
+# Tries the tools of bin/ that read logs and diagnostics, over stored logs: bin/now, bin/on-sent and bin/explain, and the completion
+# of words. It needs no program, prints a line for each thing that isn't as it should be, and ends with 1 where there is one.
 set -u
 cd "$(dirname "${BASH_SOURCE[0]}")/.." || exit 1
 export TZ=UTC
@@ -98,6 +98,25 @@ same "explain, a file that isn't there" 3 "$(printf 'none:1:1: AttrType "notes"\
 # Each kind of the program has a sentence.
 kinds=$(sed -n '/^pub enum DiagKind/,/^}/s/^    \([A-Z][A-Za-z]*\),$/\1/p' crates/site_base/src/diag_kind.rt)
 same "explain, each kind" 0 "$(for kind in $kinds; do printf 'none:1:1: %s\n' "$kind" | bin/explain | grep -q See || echo "$kind"; done | wc -l)"
+
+# The completion of words.
+completed() { # WORD .., of which the last is completed
+    (
+        # shellcheck source=packaging/icinga_site.bash
+        . packaging/icinga_site.bash
+        COMP_WORDS=(icinga_site "$@")
+        # shellcheck disable=SC2034
+        COMP_CWORD=$#
+        _icinga_site
+        echo "${COMPREPLY[*]}"
+    )
+}
+same "completion, the first word" "check" "$(completed ch)"
+same "completion, a file" "README.md" "$(completed check READ)"
+same "completion, the version of the log" "1 2" "$(completed replay r s --log '')"
+same "completion, behind the version" "replay" "$(completed --log 2 r)"
+same "completion, --log behind the words" "--log" "$(completed daemon r --)"
+same "completion, --log once" "" "$(completed --log 2 daemon r --)"
 
 echo "$tried tried, $failed not as they should be"
 [ "$failed" = 0 ]
