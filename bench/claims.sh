@@ -10,15 +10,19 @@
 #   - that `A` of `F` names a clause A of a function F, and a name in brackets stands in the crate that the brackets or the paragraph name;
 #   - that each count of rows is the one of its table, as `| `words.rows` | 103 |` or `103 rows (words.rows)`;
 # and of the tables that list the same things as the sources that they do: the crates, the kinds of diagnostics, the faults of command
-# lines, the commands, the attributes, the statuses and the must-fail edits. It needs no program. Ends with 1 where a claim doesn't hold.
+# lines, the commands, the attributes, the statuses, the must-fail edits, and the variables of the library's check commands, which the
+# program in release/ lists. Ends with 1 if a claim doesn't hold.
 set -u
 cd "$(dirname "${BASH_SOURCE[0]}")/.." || exit 1
 exec python3 - "$@" <<'PYTHON'
 import functools
 import glob
+import json
 import os
 import re
+import subprocess
 import sys
+import tempfile
 
 pages = sys.argv[1:] or ["README.md", *sorted(glob.glob("docs/*.md")), "library/README.md", *sorted(glob.glob("examples/*/README.md"))]
 whole = not sys.argv[1:]
@@ -261,6 +265,29 @@ def check_tables():
     same("docs/OBJECTS.md", "the attributes", listed, attributes)
 
 
+def check_library():
+    """The table of library/README.md: the variables of each check command, and the values that they have unless they are set."""
+    page, text = "library/README.md", read("library/README.md")
+    with tempfile.TemporaryDirectory() as room:
+        with open(f"{room}/all.conf", "w", encoding="utf-8") as file:
+            file.write(f'const PluginDir = "/p"\ninclude <itl>\ninclude "{os.getcwd()}/library/commands.conf"\n')
+        listing = subprocess.run(["release/icinga_site", "objects", f"{room}/all.conf"], stdout=subprocess.PIPE, text=True, check=True).stdout
+    commands = {}
+    for name, value in re.findall(r'^CheckCommand "([^"]+)" (.*)$', listing, re.M):
+        commands[name] = json.loads(value)
+    rows = {cells[0].strip("` "): cells[2] for cells in ([it.strip() for it in row.split("|")[1:-1]] for row in re.findall(r"^\| `.*\|$", text, re.M))}
+    same(page, "the commands", rows, commands)
+    for name in rows.keys() & commands.keys():
+        listed = {one or other: value for one, other, value in re.findall(r"(?:\*\*`(\w+)`\*\*|`(\w+)`)(?: \(((?:[^()]|\([^)]*\))*)\))?", rows[name])}
+        variables = commands[name].get("vars", {})
+        used = set(re.findall(r"\$([a-z]\w*)\$", json.dumps([commands[name].get("arguments"), commands[name]["command"], variables])))
+        same(page, f"the variables of {name}", listed, {it for it in used if it not in ("address", "address6")} | set(variables))
+        for variable, value in listed.items():
+            there = variables.get(variable)
+            there = "" if there is None else str(there).lower() if isinstance(there, bool) else str(there)
+            check(value == there, page, 1, f"{variable} of {name} is {there or 'not set'} and not {value or 'left out'}")
+
+
 for page in pages:
     near = []
     for line, text in paragraphs(page):
@@ -275,6 +302,7 @@ for page in pages:
         check_counts(page, line, text)
 if whole:
     check_tables()
+    check_library()
 print(f"{checked} claims checked, {wrong} don't hold")
 sys.exit(1 if wrong else 0)
 PYTHON
