@@ -256,7 +256,7 @@ def check_tables():
         same(page, "the statuses", [row[0].split()[-1] for row in table(page, heading)], statuses)
     text = read("docs/ARCHITECTURE.md").partition("| wrong body | edit |")[2]
     listed = {f"{crate}/{name}" for name, crate in re.findall(r"`([\w-]+)` \((\w+)\)", text.partition("\n\n")[0])}
-    several = re.findall(r"\w+", re.search(r"The leaves with several are ([\w, ]+)\.", text)[1].replace(" and ", " "))
+    several = re.findall(r"\w+", re.search(r"The leaves with several are ([\w, ]+)\.", " ".join(text.split()))[1].replace(" and ", " "))
     edits = {f"{path.split('/')[1]}/{os.path.basename(path)[:-5]}" for path in glob.glob("crates/*/must-fail/*.edit")}
     same("docs/ARCHITECTURE.md", "the must-fail edits", listed | {it for it in edits if it.split("/")[0] in several}, edits)
     attributes = set(re.findall(r'"(\w+)"', read("crates/object_types/src/attribute.rt")))
