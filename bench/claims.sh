@@ -192,6 +192,16 @@ def check_clauses(page, line, text, near):
             check(there, page, line, f"`{name}` doesn't stand in {', '.join(named or near)}")
 
 
+@functools.cache
+def counted():
+    """What else pages count, by the words behind the number."""
+    return {
+        "commands": len(variants("crates/event_text/src/command.rt", "Command")),
+        "names, arguments": len(variants("crates/dsl_lib/src/plain.rt", "Plain")),
+        "statuses": len(variants("crates/site_run/src/status.rt", "Status")),
+    }
+
+
 def check_names(page, line, text):
     # (what Icinga 2 has and this program hasn't)
     if page == "docs/MIGRATING.md" or text.startswith(">"):
@@ -209,6 +219,9 @@ def check_counts(page, line, text):
         check(rows_in(name) == number(count), page, line, f"{name} has {rows_in(name)} rows and not {count}")
     for count in re.findall(r"([\d,]+\d|\d) (?:command lines \(program_cases|rows in all)", text):
         check(total_of_rows() == number(count), page, line, f"program_cases has {total_of_rows()} rows and not {count}")
+    for what, there in counted().items():
+        for count in re.findall(rf"(?<![\w,.])([\d,]*\d) {what}", text):
+            check(number(count) == there, page, line, f"there are {there} {what} and not {count}")
     rest = COUNT.sub("", text)
     for count in re.findall(r"([\d,]+\d|\d) (?:more )?rows(?! in all)", rest):
         check(False, page, line, f"{count} rows: of which table?")

@@ -53,6 +53,20 @@ same "now's status, without a log" 2 $?
 printf 'turn 1 1\nentry "a" 1 by 0 at 1: passive 2 -> Down HARD 1 | - | -' >"$scratch/cut"
 same "now, a line that is being written" "0 of 0 are down at 1970-01-01 00:00:01" "$(now "$scratch/cut")"
 
+# It follows a log that grows, and one that was cut.
+head -n 4 bench/logs/one.log >"$scratch/growing"
+bin/now --follow "$scratch/growing" >"$scratch/followed" &
+follower=$!
+sleep 1.5
+tail -n +5 bench/logs/one.log >>"$scratch/growing"
+sleep 2.5
+cp bench/logs/two.log "$scratch/growing.new" && cat "$scratch/growing.new" >"$scratch/growing"
+sleep 2.5
+kill "$follower"
+wait "$follower" 2>/dev/null
+same "now, following" "$(printf '%s\n' '1 of 2 are down at 2025-11-24 16:01:00' '3 of 4 are down at 2025-11-24 16:04:00' '1 of 2 are down at 2025-11-24 16:07:00')" \
+    "$(grep ' are down at ' "$scratch/followed")"
+
 # Each decision that was sent is told once, also over a log that grew, was cut by copytruncate, or was moved.
 log=$scratch/log
 sent() { bin/on-sent --once "$@" "$log" sh -c 'printf "%s %s %s\n" "$SENT_KIND" "$SENT_NOTIFICATION" "$(printf %s "$SENT_USERS" | tr "\n" ,)"' 2>&1; }
@@ -83,6 +97,14 @@ same "on-sent, a command that fails" "on-sent: false ended with 1 for db1!disk!m
     "$(bin/on-sent --once --from-start --position "$scratch/p" "$log" false 2>&1 | head -n 1)"
 same "on-sent, its fields" 'db1 disk OK HARD 1 1764000360 DISK OK' \
     "$(bin/on-sent --once --from-start --position "$scratch/q" "$log" sh -c 'echo "$SENT_HOST" "$SENT_SERVICE" "$SENT_STATE" "$SENT_TYPE" "$SENT_ATTEMPT" "$SENT_MOMENT" "$SENT_OUTPUT"' | tail -n 1)"
+
+# The mail of examples/mail.sh, by a `mail` that writes what it was given.
+mkdir "$scratch/bin"
+printf '#!/bin/sh\necho "$@"; cat\n' >"$scratch/bin/mail"
+chmod +x "$scratch/bin/mail"
+printf 'User "anna" {"email":"anna@example.org","name":"anna"}\nUser "bob" {"name":"bob"}\n' >"$scratch/objects"
+same "mail.sh, its recipients" "$(printf '%s\n' '-s Problem: db1!disk is Critical -- anna@example.org' '-s Problem: db1!disk is Critical -- bob')" \
+    "$(cp bench/logs/one.log "$scratch/m"; PATH=$scratch/bin:$PATH LISTING=$scratch/objects bin/on-sent --once --from-start "$scratch/m" examples/mail.sh | grep '^-s' | head -n 2)"
 
 # A diagnostic gets its source line, a mark, a meaning and where to read on; every other line is passed on.
 printf 'object Host "a" {\n  vars.x = 1\n  adress = "192.0.2.1"\n}\n' >"$scratch/r"
