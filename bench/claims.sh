@@ -248,6 +248,28 @@ def same(page, what, listed, there):
     check(True, page, 1, "")
 
 
+def check_snippets(page):
+    """A block that names a file of the sources has lines that stand there so."""
+    for number, kind, lines in blocks_of(page):
+        if len(kind) == 2 and kind[1].startswith("crates/"):
+            there = os.path.exists(kind[1]) and "\n".join(lines) in read(kind[1])
+            check(there, page, number, f"{kind[1]} has no such lines")
+
+
+def blocks_of(page):
+    """Of each fenced block the number of its first line, the words behind the fence, and its lines."""
+    block = None
+    for number, line in enumerate(read(page).splitlines(), 1):
+        if line.startswith("```"):
+            if block:
+                yield block
+                block = None
+            else:
+                block = (number + 1, line[3:].split(), [])
+        elif block:
+            block[2].append(line)
+
+
 def check_tables():
     """The tables that list what the sources have."""
     page = "docs/ARCHITECTURE.md"
@@ -303,6 +325,7 @@ def check_library():
 
 for page in pages:
     near = []
+    check_snippets(page)
     for line, text in paragraphs(page):
         bold = re.match(r"(?:\*\*\w+\*\*(?:, | and |,)?)+", text)
         if text.startswith("#"):

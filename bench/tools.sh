@@ -1,6 +1,6 @@
 #!/usr/bin/env bash
 # Tries the tools of bin/ that read logs and diagnostics, over stored logs: bin/now, bin/on-sent and bin/explain, and the completion
-# of words. It needs no program, prints a line for each thing that isn't as it should be, and ends with 1 where there is one.
+# of words. It needs no program, prints a line for each thing that isn't as it should be, and ends with 1 if there is one.
 set -u
 cd "$(dirname "${BASH_SOURCE[0]}")/.." || exit 1
 export TZ=UTC
