@@ -300,6 +300,56 @@ def check_tables():
     same("docs/OBJECTS.md", "the attributes", listed, attributes)
 
 
+SECTIONS = {
+    "COMMON": "Every type", "HOST": "Host", "SERVICE": "Service", "HOST_GROUP": "HostGroup, ServiceGroup, UserGroup",
+    "COMMAND": "CheckCommand, NotificationCommand, EventCommand", "USER": "User", "NOTIFICATION": "Notification",
+    "DEPENDENCY": "Dependency", "SCHEDULED_DOWNTIME": "ScheduledDowntime", "TIME_PERIOD": "TimePeriod",
+}
+KINDS = {
+    "Text": "string", "Bool": "boolean", "Dict": "dictionary", "Count": "number", "PositiveSeconds": "seconds above 0", "Seconds": "seconds",
+    "Command": "command", "States": "states", "NoteKinds": "kinds", "Times": "times", "Ranges": "ranges",
+}
+
+
+def in_words(kind, of):
+    """How a table says what an attribute takes."""
+    if kind == "Name":
+        return f"an {of}" if of[0] in "AEIOU" else f"a {of}"
+    if kind == "Names":
+        return f"{of}s"
+    if kind == "Service":
+        return f"a service of `{re.sub(r'(?<!^)(?=[A-Z])', '_', of).lower()}`"
+    return KINDS[kind]
+
+
+def check_schema():
+    """The tables of attributes: each attribute of a type with what it takes and what holds if it isn't set, in the order of the sources."""
+    page, text = "docs/OBJECTS.md", read("crates/object_types/src/schema.rt")
+    names = dict(re.findall(r'Attribute::(\w+) => "(\w+)"', read("crates/object_types/src/attribute.rt")))
+    row = r"(\w+): (\w+)(?:\((?:\w+::)?\$?(\w+)\))?, (\w+)(?:\((\w+)\))?;"
+    shared = re.findall(row, text.partition("macro_rules! checkable_rows")[2].partition("static")[0].partition("$own)*")[2])
+    for static, macro, body in re.findall(r"static (\w+): \[SchemaRow; \d+\] = (\w+)! \{\n(.*?)\n\};", text, re.S):
+        if static not in SECTIONS:
+            continue
+        rows = re.findall(row, body)
+        if static == "HOST":
+            rows = [(*it[:2], it[2].replace("groups", "HostGroup"), *it[3:]) for it in shared] + rows
+        wanted = {}
+        for attribute, kind, of, unset, value in rows:
+            default = {"Missing": "needed", "Nothing": "none", "GoodStates": "`OK`"}.get(unset, value)
+            wanted[names[attribute]] = (in_words(kind, of), default)
+        listed = {}
+        for cells in table(page, SECTIONS[static], 3):
+            for name in cells[0].split(","):
+                listed[name.strip("` ")] = (cells[1], cells[2])
+        same(page, f"the attributes of {SECTIONS[static]}", listed, wanted)
+        for name in listed.keys() & wanted.keys():
+            (kind, default), (told, said) = wanted[name], listed[name]
+            fits = told.split(", read as")[0] in (kind, "groups of the same type" if kind.endswith("Groups") else kind)
+            check(fits, page, 1, f"{name} of {SECTIONS[static]} takes {kind} and not {told}")
+            check(said.startswith(default) or (static == "COMMON" and name == "name"), page, 1, f"{name} of {SECTIONS[static]} is {default} unless it is set, and not {said}")
+
+
 def check_library():
     """The table of library/README.md: the variables of each check command, and the values that they have unless they are set."""
     page, text = "library/README.md", read("library/README.md")
@@ -338,6 +388,7 @@ for page in pages:
         check_counts(page, line, text)
 if whole:
     check_tables()
+    check_schema()
     check_library()
 print(f"{checked} claims checked, {wrong} don't hold")
 sys.exit(1 if wrong else 0)
