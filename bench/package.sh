@@ -57,7 +57,7 @@ printf 'object Hosst "h" { }\n' >/tmp/site.conf
 holds "a faulty configuration ends with 1" sh -c 'ROOT=/tmp/site.conf /usr/lib/icinga_site/run; [ $? = 1 ]'
 holds "logrotate takes its file" sh -c '! command -v logrotate >/dev/null || logrotate -d /etc/logrotate.d/icinga_site'
 holds "it is removed" dpkg -r icinga-site
-holds "nothing but its settings and its log is left" sh -c '[ "$(find / -xdev -path /proc -prune -o -path "*icinga[_-]site*" -newer /root/site.conf -print 2>/dev/null | grep -v -e ^/root -e ^/var/lib/dpkg -e ^/run -e ^/work -e ^/tmp -e ^/var/log/icinga_site -e ^/etc/logrotate.d/icinga_site$ | wc -l)" = 0 ]'
+holds "nothing but its settings and its log is left" sh -c '[ "$(find /usr /etc /var /opt /lib -xdev -path "*icinga[_-]site*" -newer /root/site.conf -print 2>/dev/null | grep -v -e ^/root -e ^/var/lib/dpkg -e ^/run -e ^/work -e ^/tmp -e ^/var/log/icinga_site -e ^/etc/logrotate.d/icinga_site$ | wc -l)" = 0 ]'
 holds "it is purged" dpkg -P icinga-site
 holds "nothing is left of it" sh -c '! ls /etc/logrotate.d/icinga_site /var/log/icinga_site 2>/dev/null'
 [ "$failed" = 0 ] && echo "the package is as it should be"
