@@ -5,7 +5,7 @@
 #
 # usage: bench/debian.sh [--program FILE] [SECONDS]
 #
-# It ends with 1 where a state differs.
+# It ends with 1 if a state differs.
 set -u
 cd "$(dirname "${BASH_SOURCE[0]}")/.." || exit 1
 program=$PWD/bin/icinga_site

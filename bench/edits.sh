@@ -6,7 +6,7 @@
 # It runs the gate over a copy of these crates and all that they stand on, in which these edits are the only must-fail ones. So it takes the libraries
 # that the gate kept; `rt must-fail` would prove each of them again in a copy. A crate with several edits takes a whole check of it, and then for each
 # edit, and once more at the end, the time to read what stands below and to check what the edit changed; a crate with one edit takes one whole check.
-# What was tried before, over the same files, isn't tried again. Writes a line for each edit, and ends with 1 where one isn't refused.
+# What was tried before, over the same files, isn't tried again. Writes a line for each edit, and ends with 1 if one isn't refused.
 set -euo pipefail
 # shellcheck source=bin/sources.sh
 . "$(dirname "$(readlink -f "${BASH_SOURCE[0]}")")/../bin/sources.sh"

@@ -76,7 +76,7 @@ def measure(run):
 
 
 def read_figures(name, table):
-    """Adds the figures of a file to a table, where it has none of their crate and kind."""
+    """Adds the figures of a file to a table, if it has none of their crate and kind."""
     with open(name) as file:
         for crate, kind, seconds in map(str.split, file):
             if kind not in KINDS:

@@ -1,6 +1,6 @@
 #!/usr/bin/env bash
 # Runs generated sites with the built program, on one core: `gen` of so many hosts, each time twice as many. Prints objects and entries, seconds
-# of the processor, how many times as long each took as the one of half as many, and peak memory a host. Ends with 1 where the counts of 1,000
+# of the processor, how many times as long each took as the one of half as many, and peak memory a host. Ends with 1 if the counts of 1,000
 # hosts aren't those that were worked out apart from the program. An argument is a built icinga_site to take.
 set -eu
 top=$(cd "$(dirname "$(readlink -f "${BASH_SOURCE[0]}")")/.." && pwd)

@@ -11,7 +11,7 @@ work=$(mktemp -d)
 trap 'rm -rf "$work"' EXIT
 : >"$work/script"
 
-# site HOSTS PARENT NOTES: hosts of which each after the first depends on the one that the expression of awk names, where it names one.
+# site HOSTS PARENT NOTES: hosts of which each after the first depends on the one that the expression of awk names, if it names one.
 site() {
     rm -f "$work"/*.conf
     awk -v hosts="$1" -v folder="$work" '

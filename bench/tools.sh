@@ -1,6 +1,6 @@
 #!/usr/bin/env bash
-# Tries the tools of bin/ that read logs and diagnostics, over stored logs: bin/now, bin/on-sent and bin/explain. It needs no program,
-# prints a line for each thing that isn't as it should be, and ends with 1 where there is one.
+# Tries the tools of bin/ that read logs and diagnostics, over stored logs: bin/now, bin/on-sent and bin/explain, and the completion
+# of words. It needs no program, prints a line for each thing that isn't as it should be, and ends with 1 if there is one.
 set -u
 cd "$(dirname "${BASH_SOURCE[0]}")/.." || exit 1
 export TZ=UTC
@@ -53,6 +53,20 @@ same "now's status, without a log" 2 $?
 printf 'turn 1 1\nentry "a" 1 by 0 at 1: passive 2 -> Down HARD 1 | - | -' >"$scratch/cut"
 same "now, a line that is being written" "0 of 0 are down at 1970-01-01 00:00:01" "$(now "$scratch/cut")"
 
+# It follows a log that grows, and one that was cut.
+head -n 4 bench/logs/one.log >"$scratch/growing"
+bin/now --follow "$scratch/growing" >"$scratch/followed" &
+follower=$!
+sleep 1.5
+tail -n +5 bench/logs/one.log >>"$scratch/growing"
+sleep 2.5
+cp bench/logs/two.log "$scratch/growing.new" && cat "$scratch/growing.new" >"$scratch/growing"
+sleep 2.5
+kill "$follower"
+wait "$follower" 2>/dev/null
+same "now, following" "$(printf '%s\n' '1 of 2 are down at 2025-11-24 16:01:00' '3 of 4 are down at 2025-11-24 16:04:00' '1 of 2 are down at 2025-11-24 16:07:00')" \
+    "$(grep ' are down at ' "$scratch/followed")"
+
 # Each decision that was sent is told once, also over a log that grew, was cut by copytruncate, or was moved.
 log=$scratch/log
 sent() { bin/on-sent --once "$@" "$log" sh -c 'printf "%s %s %s\n" "$SENT_KIND" "$SENT_NOTIFICATION" "$(printf %s "$SENT_USERS" | tr "\n" ,)"' 2>&1; }
@@ -84,11 +98,47 @@ same "on-sent, a command that fails" "on-sent: false ended with 1 for db1!disk!m
 same "on-sent, its fields" 'db1 disk OK HARD 1 1764000360 DISK OK' \
     "$(bin/on-sent --once --from-start --position "$scratch/q" "$log" sh -c 'echo "$SENT_HOST" "$SENT_SERVICE" "$SENT_STATE" "$SENT_TYPE" "$SENT_ATTEMPT" "$SENT_MOMENT" "$SENT_OUTPUT"' | tail -n 1)"
 
+# The mail of examples/mail.sh, by a `mail` that writes what it was given.
+mkdir "$scratch/bin"
+printf '#!/bin/sh\necho "$@"; cat\n' >"$scratch/bin/mail"
+chmod +x "$scratch/bin/mail"
+printf 'User "anna" {"email":"anna@example.org","name":"anna"}\nUser "bob" {"name":"bob"}\n' >"$scratch/objects"
+same "mail.sh, its recipients" "$(printf '%s\n' '-s Problem: db1!disk is Critical -- anna@example.org' '-s Problem: db1!disk is Critical -- bob')" \
+    "$(cp bench/logs/one.log "$scratch/m"; PATH=$scratch/bin:$PATH LISTING=$scratch/objects bin/on-sent --once --from-start "$scratch/m" examples/mail.sh | grep '^-s' | head -n 2)"
+
 # A diagnostic gets its source line, a mark, a meaning and where to read on; every other line is passed on.
-printf 'object Host "a" {\n}\n' >"$scratch/r"
+printf 'object Host "a" {\n  vars.x = 1\n  adress = "192.0.2.1"\n}\n' >"$scratch/r"
 explained=$(printf '%s/r:1:8: Syntax\nok\n' "$scratch" | bin/explain)
 same "explain, the source line and its mark" '    object Host "a" {|           ^' "$(printf '%s\n' "$explained" | sed -n '2,3p' | paste -sd '|')"
-same "explain, other lines" ok "$(printf '%s\n' "$explained" | tail -n 1)"
+same "explain, other lines, and how many faults there are" 'ok|1 fault in 1 file' "$(printf '%s\n' "$explained" | tail -n 2 | paste -sd '|')"
+printf '%s/r:1:8: Syntax\n' "$scratch" | bin/explain >/dev/null
+same "explain's status, with a diagnostic" 1 $?
+same "explain, without a diagnostic" "ok 0" "$(printf 'ok\n' | bin/explain | tr '\n' ' '; echo "${PIPESTATUS[1]}")"
+same "explain, the line of the attribute" '    line 3: adress = "192.0.2.1"' "$(printf '%s/r:1:1: UnknownAttr "adress"\n' "$scratch" | bin/explain | sed -n 4p)"
+same "explain, an attribute that isn't found" 0 "$(printf '%s/r:1:1: AttrType "notes"\n' "$scratch" | bin/explain | grep -c 'line [0-9]')"
+same "explain, a file that isn't there" 3 "$(printf 'none:1:1: AttrType "notes"\n' | bin/explain | head -n -1 | wc -l)"
+# Each kind of the program has a sentence.
+kinds=$(sed -n '/^pub enum DiagKind/,/^}/s/^    \([A-Z][A-Za-z]*\),$/\1/p' crates/site_base/src/diag_kind.rt)
+same "explain, each kind" 0 "$(for kind in $kinds; do printf 'none:1:1: %s\n' "$kind" | bin/explain | grep -q See || echo "$kind"; done | wc -l)"
+
+# The completion of words.
+completed() { # WORD .., of which the last is completed
+    (
+        # shellcheck source=packaging/icinga_site.bash
+        . packaging/icinga_site.bash
+        COMP_WORDS=(icinga_site "$@")
+        # shellcheck disable=SC2034
+        COMP_CWORD=$#
+        _icinga_site
+        echo "${COMPREPLY[*]}"
+    )
+}
+same "completion, the first word" "check" "$(completed ch)"
+same "completion, a file" "README.md" "$(completed check READ)"
+same "completion, the version of the log" "1 2" "$(completed replay r s --log '')"
+same "completion, behind the version" "replay" "$(completed --log 2 r)"
+same "completion, --log behind the words" "--log" "$(completed daemon r --)"
+same "completion, --log once" "" "$(completed --log 2 daemon r --)"
 
 echo "$tried tried, $failed not as they should be"
 [ "$failed" = 0 ]

@@ -3,5 +3,5 @@ if exists("current_compiler")
     finish
 endif
 let current_compiler = "icinga_site"
-CompilerSet makeprg=icinga_site\ objects\ $*
+CompilerSet makeprg=icinga_site\ check\ $*
 CompilerSet errorformat=%f:%l:%c:\ %m
