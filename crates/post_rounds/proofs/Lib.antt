@@ -1,0 +1,9 @@
+pub mod Places
+pub mod Lists
+pub mod Courses
+pub mod Looks
+pub mod Held
+pub mod Fresh
+pub mod Dealing
+pub mod Endings
+pub mod Whole
