@@ -21,9 +21,6 @@ module _ {M S V E G : Type 0} where
   }
 
 module _ {M S V E G W : Type 0} where
-  pub callers_none : AreCallers {M} {S} {V} {E} {G} {W} [] [] []
-  callers_none = record { whole = refl; each = λ i jobs c at_jobs at_c. absurd cc }
-
   -- a caller of one list more
   pub callers_more : (lists : List (Vec (Job W) Global)) (callers : List (Caller M W S V E G)) (jobs : Vec (Job W) Global) (c : Caller M W S V E G) → AreCallers [] lists callers → c.number ≡ length callers → c.jobs ≡ jobs → c.hand.items ≡ [] → AreCallers [] (lists ++ jobs ∷ []) (callers ++ c ∷ [])
   callers_more lists callers jobs c are number is none = record {

@@ -82,3 +82,7 @@ pub get_map : {A B : Type 0} (f : A → B) (xs : List A) (n : ℕ) (y : B) → s
 get_map f [] n y e = absurd cc
 get_map f (x ∷ xs) zero y e = (x, refl, same_Some (f x) y e)
 get_map f (x ∷ xs) (suc n) y e = get_map f xs n y e
+
+pub get_seam : {A : Type 0} (xs ys : List A) (y : A) → slice_get (xs ++ y ∷ ys) (length xs) ≡ Some y
+get_seam [] ys y = refl
+get_seam (x ∷ xs) ys y = get_seam xs ys y
