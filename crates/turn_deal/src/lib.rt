@@ -1,9 +1,11 @@
 //! Which acts a turn gives, and what it refuses.
 //!
-//! In reading order: what is refused (`refusal`), what is dealt (`dealt`), from command lines (`lines`), from the reports of orders
-//! (`reports`) and from lasting problems (`ticks`), and all of it (`dealing`).
+//! In reading order: what is refused (`refusal`), what is dealt (`dealt`), which of it each of many callers takes (`callers`), what
+//! command lines give (`lines`), what the reports of orders give (`reports`) and what lasting problems give (`ticks`), and all of it
+//! (`dealing`).
 #![tactic(auto)]
 
+mod callers;
 mod dealing;
 mod dealt;
 mod lines;
