@@ -3,3 +3,5 @@ pub mod Turning
 pub mod OneStarted
 pub mod Unwritten
 pub mod Beginning
+pub mod Rounding
+pub mod Sole

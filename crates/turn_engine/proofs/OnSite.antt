@@ -1,12 +1,13 @@
 -- All that a turn gives is on checkables of the site.
-use Rattle.std.proofs.Common.{◌≡◌, ℕ, zero, suc, ◌+◌, ◌<◌, Bool, true, false, cond, nat_eq, List, [], ◌∷◌, ◌++◌, length, map, Option, Some, None, refl, subst, arith}
+use Rattle.std.proofs.Common.{◌≡◌, ℕ, zero, suc, ◌+◌, ◌<◌, Bool, true, false, cond, nat_eq, All, List, [], ◌∷◌, ◌++◌, length, map, filter, get_or, Option, Some, None, refl, subst, arith}
+use Rattle.std.proofs.lemmas.List.Elements.{All-map}
 use Rattle.site_model.specs.PlainSite.{PlainCheck, PlainSite}
 use Rattle.site_model.specs.declared.event.Event.TheVariants as event
 use Rattle.event_text.specs.Lines.{Answer, told, faulty}
 use Rattle.event_text.specs.Reading.{line_read}
 use Rattle.run_meaning.specs.Alone.{AreOnSite}
-use Rattle.run_meaning.specs.Dealing.{Taken, checkable_of, line_events, taken_reports, taking, ticks, ticks_from, wants_tick, without}
-use Rattle.run_meaning.specs.Turns.{Asked, Histories, Outstanding, Reported, of_index}
+use Rattle.run_meaning.specs.Dealing.{Taken, checkable_of, dealt, dealt_to, goes_to, line_events, lines_to, taken_reports, taking, ticks, ticks_from, wants_tick, without}
+use Rattle.run_meaning.specs.Turns.{Asked, Histories, Outstanding, Reported, from_on, of_index}
 use Rattle.run_meaning.proofs.Counting.{AreWithin, within_still}
 use Rattle.run_text.specs.TurnReading.{as_line, lines_read}
 use Rattle.run_text.proofs.ReadingForms.{line_on_site}
@@ -57,3 +58,35 @@ ticks_from_on_site s k (c ∷ cs) before moment n = by (wants_tick c (of_index k
 
 pub ticks_on_site : (s : PlainSite) (before : Histories) (moment : ℕ) → AreOnSite s (ticks s before moment)
 ticks_on_site s before moment = ticks_from_on_site s 0 s.checkables before moment (omega arith)
+
+-- What each caller takes.
+
+kept_on_site : (s : PlainSite) (test : Asked → Bool) (as' : List Asked) → AreOnSite s as' → AreOnSite s (filter test as')
+kept_on_site s test [] all = nothing_on_site s
+kept_on_site s test (a ∷ as') all = by (test a) (kept_on_site s test as' (λ i. all (suc i)))
+  where
+    by : (t : Bool) → AreOnSite s (filter test as') → AreOnSite s (cond t (a ∷ filter test as') (filter test as'))
+    by true rest = one_more s a (filter test as') (all zero a refl) rest
+    by false rest = rest
+
+taken_on_site : (s : PlainSite) (test : Taken → Bool) (ts : List Taken) → AreOnSite s (map (λ t. t.asked) ts) → AreOnSite s (map (λ t. t.asked) (filter test ts))
+taken_on_site s test [] all = nothing_on_site s
+taken_on_site s test (t ∷ ts) all = by (test t) (taken_on_site s test ts (λ i. all (suc i)))
+  where
+    by : (b : Bool) → AreOnSite s (map (λ (t : Taken). t.asked) (filter test ts)) → AreOnSite s (map (λ (t : Taken). t.asked) (cond b (t ∷ filter test ts) (filter test ts)))
+    by true rest = one_more s t.asked (map (λ (t : Taken). t.asked) (filter test ts)) (all zero t.asked refl) rest
+    by false rest = rest
+
+lines_to_on_site : (s : PlainSite) (k : ℕ) (as' : List Asked) → AreOnSite s as' → AreOnSite s (lines_to k as')
+lines_to_on_site s zero as' all = all
+lines_to_on_site s (suc k) as' all = nothing_on_site s
+
+pub dealt_on_site : (s : PlainSite) (callers : ℕ) (lines : List Asked) (reports : List Taken) (ticks : List Asked) → AreOnSite s lines → AreOnSite s (map (λ t. t.asked) reports) → AreOnSite s ticks → All (λ events. AreOnSite s events) (dealt callers lines reports ticks)
+dealt_on_site s callers lines reports ticks a b c =
+    All-map (λ events. AreOnSite s events) (dealt_to callers lines reports ticks) (from_on 0 callers) (λ i d h. share (get_or (from_on 0 callers) i d))
+  where
+    share : (k : ℕ) → AreOnSite s (dealt_to callers lines reports ticks k)
+    share k =
+        both_on_site s (lines_to k lines) (map (λ (t : Taken). t.asked) (filter (λ (t : Taken). goes_to callers k t.order) reports) ++ filter (λ (a : Asked). goes_to callers k a.checkable) ticks) (lines_to_on_site s k lines a)
+        (both_on_site s (map (λ (t : Taken). t.asked) (filter (λ (t : Taken). goes_to callers k t.order) reports)) (filter (λ (a : Asked). goes_to callers k a.checkable) ticks)
+        (taken_on_site s (λ t. goes_to callers k t.order) reports b) (kept_on_site s (λ a. goes_to callers k a.checkable) ticks c))

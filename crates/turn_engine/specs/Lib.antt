@@ -2,3 +2,5 @@ pub mod Checkables
 pub mod Orders
 pub mod Stages
 pub mod Ready
+pub mod Many
+pub mod Midst

@@ -3,8 +3,8 @@ use Rattle.std.specs.Prelude.{◌≡◌, ℕ, List, map, Option}
 use Rattle.jiff_tz.specs.declared.tzif.Tzif.{Tzif}
 use Rattle.depend_graph.specs.Outlooks.{holds_in}
 use Rattle.run_meaning.specs.Meaning.{basis_of}
-use Rattle.run_meaning.specs.Runs.{Basis, Stage, TurnLog}
-use Rattle.run_meaning.specs.Turns.{Begun, Histories, Plans, Reported}
+use Rattle.run_meaning.specs.Runs.{Basis, IsTurn, Stage, TurnLog, stage_after}
+use Rattle.run_meaning.specs.Turns.{Begun, Histories, Plans, ReadTurn, Reported}
 use Rattle.site_model.specs.PlainSite.{PlainSite}
 use Rattle.site_model.specs.declared.site.Site.{Site}
 use Rattle.site_posts.specs.Segments.{segments_of}
@@ -39,3 +39,10 @@ pub record Tells (out : TurnOut) (l : TurnLog) : Type 0 where
   pub refused : map refusal_of out.refusals.items ≡ l.refusals
   pub entries : out.segments ≡ segments_of l.round
   pub ordered : map order_as out.orders.items ≡ l.orders
+
+-- a turn of so many callers as it is told, and the stage behind it
+pub record Takes (b : Basis) (callers : ℕ) (st : Stage) (t : ReadTurn) (out : TurnOut) (next : Stage) : Type 0 where
+  pub log : TurnLog
+  pub tells : Tells out log
+  pub is : IsTurn b callers st t log
+  pub after : next ≡ stage_after b st t log

@@ -16,7 +16,7 @@ ghost use Rattle.turn_engine.specs.Ready.{IsZoneOf};
 use crate::books::books_of;
 use crate::moments::greatest_moment_of;
 use crate::turn_out::TurnOut;
-use crate::turns::take;
+use crate::turns::take_alone;
 use crate::works::Works;
 use check_plan::CheckPlan;
 use checkable_core::Checkable;
@@ -153,7 +153,7 @@ impl Engine {
         ensures spent { OnErr result (self.new.spent ≡ true) }
     {
         self.spent = true;
-        let out = take(&mut self.works, turn)?;
+        let out = take_alone(&mut self.works, turn)?;
         self.spent = false;
         Ok(out)
     }

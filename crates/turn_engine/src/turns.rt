@@ -1,38 +1,48 @@
 // One turn of the engine.
 ghost use Rattle.std.specs.Prelude.{◌≡◌, ◌<◌, ◌^◌, List, IfOk, OnOk};
-ghost use Rattle.site_model.specs.PlainSite.{site_view};
-ghost use Rattle.run_meaning.specs.Alone.{turn_alone};
-ghost use Rattle.run_meaning.specs.Runs.{IsTurn, begun_by, stage_after};
+ghost use Rattle.run_meaning.specs.Runs.{begun_by};
 ghost use Rattle.run_meaning.specs.Turns.{Begun};
-ghost use Rattle.run_text.specs.TurnReading.{turn_read};
+ghost use Rattle.turn_engine.specs.Midst.{IsOpen, basis_at, read_at};
 ghost use Rattle.turn_engine.specs.Ready.{IsReady, running};
-ghost use Rattle.turn_engine.specs.Stages.{Tells, basis_of_site, stage_of};
+ghost use Rattle.turn_engine.specs.Stages.{Takes, stage_of};
 
 use crate::moments::later_of;
-use crate::starting::start;
+use crate::settling::settle;
 use crate::turn_out::TurnOut;
 use crate::works::Works;
-use site_base::OutOfMemory;
+use site_base::{Moment, OutOfMemory};
 use site_edge::Turn;
-use site_posts::{Setting, round_one};
-use turn_deal::deal;
+use site_posts::round_one;
+use turn_deal::{Dealt, deal};
 
-/// Takes a turn: its lines, the reports of its orders and the ticks of problems make a round, after which checks are ordered.
-pub(crate) fn take(works: &mut Works, turn: &Turn) -> Result<TurnOut, OutOfMemory>
+/// Takes a turn by one worker: its lines, the reports of its orders and the ticks of problems make a round, after which checks are ordered.
+pub(crate) fn take_alone(works: &mut Works, turn: &Turn) -> Result<TurnOut, OutOfMemory>
     requires ready { IsReady works.old }
     requires few { works.old.turns < 2 ^ 40 }
-    ensures tells { (begun : List Begun) →
-        IfOk result (λ out. Tells out (turn_alone (basis_of_site (site_view works.old.site) works.old.zone) (stage_of (running works.old) begun) (turn_read (site_view works.old.site) turn.now))) }
-    ensures turn { (begun : List Begun) →
-        OnOk result (IsTurn (basis_of_site (site_view works.old.site) works.old.zone) 1 (stage_of (running works.old) begun) (turn_read (site_view works.old.site) turn.now)
-        (turn_alone (basis_of_site (site_view works.old.site) works.old.zone) (stage_of (running works.old) begun) (turn_read (site_view works.old.site) turn.now))) }
-    ensures stage { (begun : List Begun) →
-        OnOk result (stage_of (running works.new) (begun_by (stage_of (running works.old) begun) works.new.moment)
-        ≡ stage_after (basis_of_site (site_view works.old.site) works.old.zone) (stage_of (running works.old) begun) (turn_read (site_view works.old.site) turn.now)
-        (turn_alone (basis_of_site (site_view works.old.site) works.old.zone) (stage_of (running works.old) begun) (turn_read (site_view works.old.site) turn.now))) }
+    ensures takes { (begun : List Begun) →
+        IfOk result (λ out. Takes (basis_at works.old) 1 (stage_of (running works.old) begun) (read_at works.old turn.now) out (stage_of (running works.new) (begun_by (stage_of (running works.old) begun) works.new.moment))) }
     ensures ready { OnOk result (IsReady works.new) }
     ensures site { OnOk result (works.new.site ≡ works.old.site) }
     ensures zone { OnOk result (works.new.zone ≡ works.old.zone) }
+{
+    let (moment, dealt) = deal_turn(works, turn)?;
+    let acts = dealt.acts.for_one()?;
+    let segments = round_one(
+        works.alloc,
+        &works.site,
+        &works.graph,
+        &works.zone,
+        &mut works.books,
+        moment,
+        acts,
+    )?;
+    settle(works, moment, dealt.refusals, segments)
+}
+
+/// Deals a turn: takes the reports of its orders, and gives its moment, with the acts of its round and what is refused.
+fn deal_turn(works: &mut Works, turn: &Turn) -> Result<(Moment, Dealt), OutOfMemory>
+    requires { IsReady works.old }
+    ensures { IfOk result (λ r. IsOpen works.old turn.now r.0 r.1 works.new) }
 {
     let moment = later_of(works.moment, turn.moment);
     let dealt = deal(
@@ -44,38 +54,5 @@ pub(crate) fn take(works: &mut Works, turn: &Turn) -> Result<TurnOut, OutOfMemor
         turn,
         moment,
     )?;
-    let acts = dealt.acts.for_one()?;
-    let segments = round_one(
-        works.alloc,
-        &works.site,
-        &works.graph,
-        &works.zone,
-        &mut works.books,
-        moment,
-        acts,
-    )?;
-    let setting = Setting {
-        alloc: works.alloc,
-        site: &works.site,
-        graph: &works.graph,
-        zone: &works.zone,
-        moment,
-    };
-    let ordered = works
-        .plan
-        .after_round(&setting, works.books.as_slice(), segments.as_slice())?;
-    works
-        .problems
-        .follow(works.books.as_slice(), segments.as_slice())?;
-    let started = start(works.alloc, &works.site, ordered.as_slice())?;
-    works.not_started = started.not_started;
-    works.turns += 1;
-    works.moment = moment;
-    Ok(TurnOut {
-        number: works.turns,
-        moment,
-        refusals: dealt.refusals,
-        segments,
-        orders: started.orders,
-    })
+    Ok((moment, dealt))
 }
