@@ -6,7 +6,7 @@ use site_base::{OutOfMemory, Text};
 use site_edge::{Files, MemFiles, MemSink, MemWorld, Sink, World};
 use site_load::config_answer;
 use site_phases::Answer;
-use site_run::{Status, write_log};
+use site_run::{OneWorker, Status, write_log};
 use site_text::{ScriptError, read_script};
 use std::alloc::Global;
 use std::str;
@@ -69,7 +69,15 @@ fn limited<F: Files, W: World, S: Sink>(
 ) -> Option<Status> {
     let limit = limit.min(MOST);
     match config_answer(alloc, files, root) {
-        Ok(Answer::Site(site)) => Some(write_log(alloc, Style::One, site, world, sink, limit)),
+        Ok(Answer::Site(site)) => Some(write_log(
+            alloc,
+            &OneWorker,
+            Style::One,
+            site,
+            world,
+            sink,
+            limit,
+        )),
         Ok(Answer::Diags { .. }) => None,
         Err(_) => None,
     }

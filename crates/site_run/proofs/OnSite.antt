@@ -1,18 +1,21 @@
 -- All that the turns of a run without a feed give is on checkables of the site.
-use Rattle.std.proofs.Common.{◌≡◌, ◌<◌, ℕ, zero, suc, nat_lt, max, Bool, true, false, cond, List, [], ◌∷◌, ◌++◌, All, length, map, slice_get, Option, Some, None, refl, ap, subst}
+use Rattle.std.proofs.Common.{◌≡◌, ◌<◌, ◌≤◌, ◌+◌, ◌⊎◌, inl, inr, ℕ, zero, suc, nat_lt, max, Bool, true, false, cond, List, [], ◌∷◌, ◌++◌, All, filter, length, map, slice_get, Option, Some, None, refl, sym, ap, ◌∙◌, subst, arith}
+use Rattle.std.proofs.lemmas.Bool.{cases_lt}
 use Rattle.std.proofs.lemmas.List.Elements.{All-head, All-nil, All-push, All-tail}
 use Rattle.std.proofs.lemmas.Option.{slice_get_within}
 use Rattle.depend_graph.specs.Outlooks.{holds_in}
 use Rattle.jiff_tz.specs.declared.tzif.Tzif.{Tzif}
-use Rattle.run_meaning.specs.Alone.{AreOnSite, IsOnSite, all_events, run_alone, turn_alone}
-use Rattle.run_meaning.specs.Dealing.{Taken, line_events, still, taken_reports, ticks}
+use Rattle.run_meaning.specs.Alone.{AreOnSite, IsOnSite, all_events, one_by_one, round_of, run_alone, turn_alone}
+use Rattle.run_meaning.specs.Dealing.{Taken, dealt, dealt_to, goes_to, line_events, lines_to, still, taken_reports, ticks}
 use Rattle.run_meaning.specs.Reachability.{Outlook}
-use Rattle.run_meaning.specs.Runs.{IsRun, Stage, TurnLog, reports_of, stage_after, start}
+use Rattle.run_meaning.specs.Runs.{Basis, IsRun, IsRunFrom, IsTurn, Stage, TurnLog, events_of, planned_of, refusals_of, reports_of, stage_after, stage_by, start}
 use Rattle.run_meaning.specs.Schedule.{Due, Walk, due_from, gets_order, ordering, outlook_after, skipping, walk_from, walk_over, walk_with, watches_after}
-use Rattle.run_meaning.specs.Turns.{Command, Histories, Ordered, Outstanding}
+use Rattle.run_meaning.specs.Turns.{Asked, Command, Histories, Ordered, Outstanding, from_on, of_index}
 use Rattle.run_meaning.proofs.Counting.{AreWithin, within_still}
-use Rattle.run_meaning.proofs.Lists.{get_map}
+use Rattle.run_meaning.proofs.Lists.{get_map, get_of_map, length_from_on, length_map, of_index_each, of_index_past}
 use Rattle.run_meaning.proofs.OneLog.{is_log}
+use Rattle.run_meaning.proofs.Parts.{get_kept}
+use Rattle.run_meaning.proofs.Shares.{one_after_another}
 use Rattle.run_text.specs.TurnReading.{lines_read, turn_read}
 use Rattle.site_edge.specs.declared.turn.Turn.{Turn}
 use Rattle.site_model.specs.PlainSite.{PlainCheck, PlainSite}
@@ -74,12 +77,18 @@ module _ (s : PlainSite) (zone : Option Tzif) where
       both_on_site s (line_events (lines_read s t.lines)) (map (λ (x : Taken). x.asked) (taken_reports os reports) ++ ticks s st.histories moment) (lines_on_site s t.lines)
       (both_on_site s (map (λ (x : Taken). x.asked) (taken_reports os reports)) (ticks s st.histories moment) (reports_on_site s os reports within) (ticks_on_site s st.histories moment))
 
-  orders_within : (st : Stage) (t : Turn) → AreOrdersWithin count (turn_alone (basis_of_site s zone) st (turn_read s t)).orders
-  orders_within st t =
-      let l = turn_alone (basis_of_site s zone) st (turn_read s t) in
-      let o = outlook_after s (holds_in s zone) l.moment st.histories l.round in
-      let watches = watches_after s st.plans st.histories l.round in
-      walked (command_of s) o (due_from l.moment 0 watches) (walk_from st.plans watches) (All-nil (λ (x : Ordered). x.checkable < count))
+  -- whatever round it has, what a turn orders is on checkables of the site
+  planned_within : (st : Stage) (moment : ℕ) (round : Histories) → AreOrdersWithin count (planned_of (basis_of_site s zone) st moment round).orders
+  planned_within st moment round =
+      let o = outlook_after s (holds_in s zone) moment st.histories round in
+      let watches = watches_after s st.plans st.histories round in
+      walked (command_of s) o (due_from moment 0 watches) (walk_from st.plans watches) (All-nil (λ (x : Ordered). x.checkable < count))
+
+  -- and so is what is outstanding behind it
+  within_after : (st : Stage) (t : Turn) (l : TurnLog) → AreOrdersWithin count l.orders → AreWithin count st.plans.outstanding → AreWithin count (stage_after (basis_of_site s zone) st (turn_read s t) l).plans.outstanding
+  within_after st t l orders within =
+      let reports = reports_of st (turn_read s t) in
+      both_within count (still reports st.plans.outstanding) (map outstanding_of l.orders) (within_still count reports st.plans.outstanding within) (new_within count l.orders orders)
 
   turns_on_site : (ts : List Turn) (st : Stage) → AreWithin count st.plans.outstanding → IsOnSite (basis_of_site s zone) st (map (turn_read s) ts)
   turns_on_site [] st within = tt
@@ -87,9 +96,103 @@ module _ (s : PlainSite) (zone : Option Tzif) where
       let read = turn_read s t in
       let l = turn_alone (basis_of_site s zone) st read in (
         events_on_site st t (max st.moment t.moment) within,
-        turns_on_site ts (stage_after (basis_of_site s zone) st read l)
-            (both_within count (still (reports_of st read) st.plans.outstanding) (map outstanding_of l.orders) (within_still count (reports_of st read) st.plans.outstanding within) (new_within count l.orders (orders_within st t))),
+        turns_on_site ts (stage_after (basis_of_site s zone) st read l) (within_after st t l (planned_within st l.moment l.round) within),
       )
+
+  -- Turns of several callers.
+
+  module _ (callers : ℕ) where
+    abbrev b : Basis
+    b = basis_of_site s zone
+
+    kept_on_site : (test : Asked → Bool) (xs : List Asked) → AreOnSite s xs → AreOnSite s (filter test xs)
+    kept_on_site test xs p i a at = let (j, there, is) = get_kept test xs i a at in p j a there
+
+    taken_on_site : (test : Taken → Bool) (xs : List Taken) → AreOnSite s (map (λ (x : Taken). x.asked) xs) → AreOnSite s (map (λ (x : Taken). x.asked) (filter test xs))
+    taken_on_site test xs p i a at =
+        let (x, kept, is) = get_map (λ (x : Taken). x.asked) (filter test xs) i a at in
+        let (j, there, tested) = get_kept test xs i x kept in
+        subst (λ (y : Asked). y.checkable < count) is (p j x.asked (get_of_map (λ (x : Taken). x.asked) xs j x there))
+
+    own_lines : (k : ℕ) (xs : List Asked) → AreOnSite s xs → AreOnSite s (lines_to k xs)
+    own_lines zero xs p = p
+    own_lines (suc k) xs p = λ i a at. absurd cc
+
+    -- what each takes is on checkables of the site
+    dealt_on_site : (st : Stage) (t : Turn) (moment : ℕ) → AreWithin count st.plans.outstanding → (k : ℕ) → AreOnSite s (of_index k (events_of b callers st (turn_read s t) moment))
+    dealt_on_site st t moment within k = by (cases_lt k callers)
+      where
+        os : List Outstanding
+        os = st.plans.outstanding
+
+        lines : List Asked
+        lines = line_events (lines_read s t.lines)
+
+        reports : List Taken
+        reports = taken_reports st.plans.outstanding (reports_of st (turn_read s t))
+
+        looks : List Asked
+        looks = ticks s st.histories moment
+
+        each : AreOnSite s (dealt_to callers lines reports looks k)
+        each =
+            both_on_site s (lines_to k lines) (map (λ (x : Taken). x.asked) (filter (λ (x : Taken). goes_to callers k x.order) reports) ++ filter (λ (a : Asked). goes_to callers k a.checkable) looks)
+            (own_lines k lines (lines_on_site s t.lines))
+            (both_on_site s (map (λ (x : Taken). x.asked) (filter (λ (x : Taken). goes_to callers k x.order) reports)) (filter (λ (a : Asked). goes_to callers k a.checkable) looks)
+            (taken_on_site (λ (x : Taken). goes_to callers k x.order) reports (reports_on_site s st.plans.outstanding (reports_of st (turn_read s t)) within))
+            (kept_on_site (λ (a : Asked). goes_to callers k a.checkable) looks (ticks_on_site s st.histories moment)))
+
+        by : (k < callers) ⊎ (callers ≤ k) → AreOnSite s (of_index k (events_of b callers st (turn_read s t) moment))
+        by (inl lt) =
+            let same : k ≡ 0 + k = omega arith in
+            subst (AreOnSite s) (sym (of_index_each (dealt_to callers lines reports looks) 0 callers k lt)) (subst (λ j. AreOnSite s (dealt_to callers lines reports looks j)) same each)
+        by (inr le) =
+            let many = length_map (dealt_to callers lines reports looks) (from_on 0 callers) ∙ length_from_on 0 callers in
+            subst (AreOnSite s) (sym (of_index_past (dealt callers lines reports looks) k (omega (arith, many, le)))) (λ i a at. absurd cc)
+
+    -- a log of a turn: of callers that act one after another
+    abbrev some_log : Stage → Turn → TurnLog
+    some_log st t =
+        let moment = max st.moment t.moment in
+        let round = round_of b.rules moment st.histories (one_by_one 0 (events_of b callers st (turn_read s t) moment)) in
+        record {
+          number = st.turns + 1;
+          moment = moment;
+          refusals = refusals_of b st (turn_read s t) moment;
+          round = round;
+          orders = (planned_of b st moment round).orders;
+        }
+
+    is_some : (st : Stage) (t : Turn) → AreWithin count st.plans.outstanding → IsTurn b callers st (turn_read s t) (some_log st t)
+    is_some st t within =
+        let moment = max st.moment t.moment in
+        record {
+          number = refl;
+          moment = refl;
+          refusals = refl;
+          round = one_after_another b.rules moment st.histories (events_of b callers st (turn_read s t) moment) (dealt_on_site st t moment within);
+          orders = refl;
+        }
+
+    -- turns have logs
+    some_logs : (ts : List Turn) (st : Stage) → AreWithin count st.plans.outstanding → (ls : List TurnLog) × IsRunFrom b callers st (map (turn_read s) ts) ls
+    some_logs [] st within = ([], refl)
+    some_logs (t ∷ ts) st within =
+        let l = some_log st t in
+        let rest = some_logs ts (stage_after b st (turn_read s t) l) (within_after st t l (planned_within st l.moment l.round) within) in
+        (l ∷ rest.0, (is_some st t within, rest.1))
+
+    within_by : (ts : List Turn) (ls : List TurnLog) (st : Stage) → IsRunFrom b callers st (map (turn_read s) ts) ls → AreWithin count st.plans.outstanding → AreWithin count (stage_by b st (map (turn_read s) ts) ls).plans.outstanding
+    within_by [] ls st run within = within
+    within_by (t ∷ ts) [] st run within = within
+    within_by (t ∷ ts) (l ∷ ls) st run within =
+        within_by ts ls (stage_after b st (turn_read s t) l) run.1
+        (within_after st t l (subst (AreOrdersWithin count) (sym run.0.orders) (planned_within st l.moment l.round)) within)
+
+    -- and so have more of them, behind those that a run from its start has
+    pub more_logs : (given : Histories) (done : List Turn) (ls : List TurnLog) → IsRunFrom b callers (start s given) (map (turn_read s) done) ls → (more : List Turn)
+        → (rest : List TurnLog) × IsRunFrom b callers (stage_by b (start s given) (map (turn_read s) done) ls) (map (turn_read s) more) rest
+    more_logs given done ls run more = some_logs more (stage_by b (start s given) (map (turn_read s) done) ls) (within_by done ls (start s given) run (λ i o at. absurd cc))
 
 -- the logs that turns have one after the other are those of a run with one caller
 pub runs_alone : (s : PlainSite) (zone : Option Tzif) (given : Histories) (ts : List Turn) → IsRun (basis_of_site s zone) 1 (start s given) (map (turn_read s) ts) (run_alone (basis_of_site s zone) (start s given) (map (turn_read s) ts))

@@ -1,48 +1,30 @@
 -- Where a turn stops.
 use Rattle.std.proofs.Common.{◌≡◌, ◌≢◌, ◌≤◌, ℕ, List, [], ◌∷◌, ◌++◌, length, Option, Some, None, Result, Ok, Err, IfErr, OnErr, OnOk, inl, inr, refl, sym, ap, ◌∙◌, subst}
 use Rattle.std.specs.Prelude.{IsErrAnd}
-use Rattle.run_meaning.specs.Runs.{TurnLog}
+use Rattle.run_meaning.specs.Runs.{Stage, TurnLog}
 use Rattle.site_edge.specs.Lists.{Adds, AddsPart}
 use Rattle.site_edge.specs.declared.order.Order.{Order}
 use Rattle.site_edge.specs.declared.sink_fault.SinkFault.{SinkFault}
 use Rattle.site_edge.specs.declared.sink_fault.SinkFault.TheVariants as sink
 use Rattle.site_edge.specs.declared.turn.Turn.{Turn}
-use Rattle.site_run.specs.Courses.{Course}
-use Rattle.site_run.specs.Ends.{Ends, IsPartStarted, IsPartWritten, Outside, StopsIn, Takes, TakesTurn, ended, outside}
+use Rattle.site_run.specs.Courses.{Course, IsNextLog, behind_over, text_of}
+use Rattle.site_run.specs.Ends.{Ends, IsAt, IsGone, IsPartStarted, IsPartWritten, Outside, StopsIn, StopsTurn, Takes, ended, outside}
+use Rattle.site_run.specs.Starts.{calls_with, started_of}
 use Rattle.site_run.specs.Stops.{status_of, stop_of_sink}
 use Rattle.site_run.specs.declared.status.Status.{Status}
 use Rattle.site_run.specs.declared.stop.Stop.{Stop}
 use Rattle.site_run.specs.declared.stop.Stop.TheVariants as stop
-use Rattle.site_run.proofs.Adding.{adds_none, at_none, part_of, takes_none}
+use Rattle.site_run.proofs.Adding.{adds_none, part_of, takes_none}
 
 -- with what a call stops that hands on why
-pub stops_by : (r : Result (Unit {0}) Stop) (why : Stop) (text : List ℕ) (os : List Order) (o n : Outside) → IsErrAnd r (λ x. x ≡ why) → StopsIn why text os o n → IfErr r (λ x. StopsIn x text os o n)
-stops_by (Ok x) why text os o n e p = tt
-stops_by (Err x) why text os o n e p = subst (λ y. StopsIn y text os o n) (sym e) p
+pub stops_by : (r : Result (Unit {0}) Stop) (why : Stop) (callers : ℕ) (c : Course) (t : Turn) (o n : Outside) → IsErrAnd r (λ x. x ≡ why) → StopsTurn callers c t why o n → IfErr r (λ x. StopsTurn callers c t x o n)
+stops_by (Ok x) why callers c t o n e p = tt
+stops_by (Err x) why callers c t o n e p = subst (λ y. StopsTurn callers c t y o n) (sym e) p
 
 pub ended_by : (r : Result Status Stop) (why : Stop) (callers : ℕ) (c : Course) (limit : ℕ) (stands : List Turn → List TurnLog → Type 0) (o n : Outside) → IsErrAnd r (λ x. x ≡ why) → Ends (status_of why) callers c limit stands o n
     → Ends (ended r) callers c limit stands o n
 ended_by (Ok x) why callers c limit stands o n e p = absurd e
 ended_by (Err x) why callers c limit stands o n e p = subst (λ y. Ends (status_of y) callers c limit stands o n) (sym e) p
-
--- whether a turn was taken
-pub takes_by : (r : Result (Unit {0}) Stop) (why : Stop) (Is : Type 0) (o n : Outside) → IsErrAnd r (λ x. x ≡ why) → TakesTurn why Is o n → IfErr r (λ x. TakesTurn x Is o n)
-takes_by (Ok x) why Is o n e p = tt
-takes_by (Err x) why Is o n e p = subst (λ y. TakesTurn y Is o n) (sym e) p
-
-pub any_taken : (r : Result (Unit {0}) Stop) (Is : Type 0) (o n : Outside) → Is → IfErr r (λ x. TakesTurn x Is o n)
-any_taken (Ok x) Is o n is = tt
-any_taken (Err stop.Sink) Is o n is = is
-any_taken (Err stop.World) Is o n is = is
-any_taken (Err stop.OutOfMemory) Is o n is = inr is
-
-pub on_any : (Is : Type 0) (r : Result (Unit {0}) Stop) → Is → OnOk r Is
-on_any Is (Ok x) is = is
-on_any Is (Err x) is = tt
-
--- before anything is written
-pub nothing_written : (text : List ℕ) (o : Outside) → IsPartWritten [] [] text [] [] o o
-nothing_written text o = record { part = []; rest = text; are = refl; at = at_none o }
 
 -- in its lines
 pub lines_stopped : (fault : SinkFault) (text text' : List ℕ) (os : List Order) (t : Option (List Turn)) (s : Option (List Order)) (k : Option (List (List Order))) (w w' : Option (List ℕ)) (b b' : ℕ) → text' ≡ text → AddsPart text' w w'
@@ -85,3 +67,27 @@ orders_stopped (Err x) text text' os os' t t' s s' k k' w w' b b' never same the
     by stop.Sink h = absurd (h refl)
     by stop.World h = part
     by stop.OutOfMemory h = inr part
+
+-- so a turn with this log stops
+pub stopped_so : (r : Result (Unit {0}) Stop) (callers : ℕ) (c : Course) (t : Turn) (l : TurnLog) (o n : Outside) → IsNextLog callers c [] [] t l → IfErr r (λ x. StopsIn x (text_of c l) (started_of l.orders) o n)
+    → IfErr r (λ x. StopsTurn callers c t x o n)
+stopped_so (Ok x) callers c t l o n is p = tt
+stopped_so (Err x) callers c t l o n is p = inr (l, is, p)
+
+-- or goes through
+pub gone_through : (r : Result (Unit {0}) Stop) (callers : ℕ) (c : Course) (turn : Turn) (l : TurnLog) (next : Stage) (text' : List ℕ) (os' : List Order) (t t' : Option (List Turn)) (s s' : Option (List Order)) (k k' : Option (List (List Order))) (w w' : Option (List ℕ)) (b b' : ℕ)
+    → IsNextLog callers c [] [] turn l → next ≡ (behind_over c (turn ∷ []) (l ∷ [])).stage → text' ≡ text_of c l → os' ≡ started_of l.orders → t' ≡ t → Adds text' w w' → b' ≡ 0 → OnOk r (Adds os' s s') → OnOk r (Adds (calls_with os') k k')
+    → OnOk r (IsGone callers c turn next (outside t s k w b) (outside t' s' k' w' b'))
+gone_through (Ok x) callers c turn l next text' os' t t' s s' k k' w w' b b' is after text these kept written through started called = record {
+  log = l;
+  is = is;
+  at = record {
+    turns = subst (Takes [] t) (sym kept) (takes_none t);
+    written = subst (λ v. Adds v w w') text written;
+    started = subst (λ os. Adds os s s') these started;
+    calls = subst (λ os. Adds (calls_with os) k k') these called;
+  };
+  through = through;
+  after = after;
+}
+gone_through (Err x) callers c turn l next text' os' t t' s s' k k' w w' b b' is after text these kept written through started called = tt

@@ -1,6 +1,6 @@
 -- How far a run came when it ends.
 use Rattle.std.specs.Prelude.{◌≡◌, ◌<◌, ◌≤◌, ◌⊎◌, ℕ, List, [], ◌∷◌, ◌++◌, length, take, Option, None, Some, IfSome, MatchOption, false, Result, Ok, Err}
-use Rattle.run_meaning.specs.Runs.{TurnLog}
+use Rattle.run_meaning.specs.Runs.{Stage, TurnLog}
 use Rattle.site_edge.specs.Lists.{Adds, AddsPart}
 use Rattle.site_edge.specs.declared.order.Order.{Order}
 use Rattle.site_edge.specs.declared.turn.Turn.{Turn}
@@ -8,7 +8,7 @@ use Rattle.turn_engine.specs.Ready.{Held}
 use Rattle.turn_engine.specs.Stages.{stage_of}
 use Rattle.site_run.specs.Courses.{AreLogsOf, Course, IsNextLog, behind_over, calls_over, orders, orders_over, text, text_of, text_over}
 use Rattle.site_run.specs.Feeds.{Changing, feed_after}
-use Rattle.site_run.specs.Starts.{started_of}
+use Rattle.site_run.specs.Starts.{calls_with, started_of}
 use Rattle.site_run.specs.Stops.{status_of}
 use Rattle.site_run.specs.declared.status.Status.{Status}
 use Rattle.site_run.specs.declared.status.Status.TheVariants as status
@@ -70,11 +70,18 @@ StopsIn stop.Sink text orders old new = IsPartWritten [] [] text [] [] old new
 StopsIn stop.World text orders old new = IsPartStarted [] text [] orders [] old new
 StopsIn stop.OutOfMemory text orders old new = IsPartWritten [] [] text [] [] old new ⊎ IsPartStarted [] text [] orders [] old new
 
--- a turn with such a log was taken, unless there was no memory, in which case nothing may have happened
-abbrev pub TakesTurn : Stop → Type 0 → Outside → Outside → Type 0
-TakesTurn stop.Sink Is old new = Is
-TakesTurn stop.World Is old new = Is
-TakesTurn stop.OutOfMemory Is old new = (new ≡ old) ⊎ Is
+-- a turn of so many callers was gone through: its text is written and handed on, and then its orders are started
+pub record IsGone (callers : ℕ) (c : Course) (t : Turn) (next : Stage) (old new : Outside) : Type 0 where
+  pub log : TurnLog
+  pub is : IsNextLog callers c [] [] t log
+  pub at : IsAt [] (text_of c log) (started_of log.orders) (calls_with (started_of log.orders)) old new
+  pub through : new.kept_back ≡ 0
+  pub after : next ≡ (behind_over c (t ∷ []) (log ∷ [])).stage
+
+-- or the run stops in it: before anything happened, where there was no memory, or in the text or the orders of such a turn
+abbrev pub StopsTurn : ℕ → Course → Turn → Stop → Outside → Outside → Type 0
+StopsTurn callers c t why old new =
+    ((why ≡ stop.OutOfMemory) × (new ≡ old)) ⊎ ((l : TurnLog) × IsNextLog callers c [] [] t l × StopsIn why (text_of c l) (started_of l.orders) old new)
 
 -- Within a run, behind turns with these logs.
 
@@ -140,13 +147,18 @@ pub record Ends (s : Status) (callers : ℕ) (c : Course) (limit : ℕ) (stands 
 abbrev pub Came : Option (List Turn) → List Turn → Type 0
 Came told came = IfSome told (λ ts. came ≡ ts)
 
+-- what was written, by the status, where this is the text of as many of the turns that came as may be taken: all of it, or after a fault a
+-- prefix
+abbrev pub WritesText : Status → ℕ → List Turn → List ℕ → Option (List ℕ) → Option (List ℕ) → Type 0
+WritesText status.Done limit came text old new = (length came ≤ limit) × Adds text old new
+WritesText status.TurnsSpent limit came text old new = (limit < length came) × Adds text old new
+WritesText s limit came text old new = AddsPart text old new
+
 -- Of one caller.
 
--- what was written of so many of the turns that came, by the status: all, or after a fault a prefix
+-- so, where that is its text
 abbrev pub WritesOf : Status → Course → ℕ → List Turn → Option (List ℕ) → Option (List ℕ) → Type 0
-WritesOf status.Done c limit came old new = (length came ≤ limit) × Adds (text c (take limit came)) old new
-WritesOf status.TurnsSpent c limit came old new = (limit < length came) × Adds (text c (take limit came)) old new
-WritesOf s c limit came old new = AddsPart (text c (take limit came)) old new
+WritesOf s c limit came old new = WritesText s limit came (text c (take limit came)) old new
 
 -- so, and of their orders a prefix was started
 pub record TellsOf (s : Status) (c : Course) (limit : ℕ) (old new : Outside) : Type 0 where

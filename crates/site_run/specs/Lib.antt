@@ -3,5 +3,6 @@ pub mod Stops
 pub mod Feeds
 pub mod Starts
 pub mod Courses
+pub mod Callers
 pub mod Ends
 pub mod Logs

@@ -1,17 +1,17 @@
 // One turn of the engine, with its feed.
-ghost use Rattle.std.specs.Prelude.{◌≡◌, ◌<◌, ◌∷◌, ◌++◌, ◌^◌, [], List, max, false, IfOk, OnOk};
+ghost use Rattle.std.specs.Prelude.{◌≡◌, ◌<◌, ◌++◌, ◌^◌, List, false, IfOk, OnOk};
 ghost use Rattle.site_model.specs.PlainSite.{site_view};
 ghost use Rattle.site_model.specs.Sound.{IsSound};
 ghost use Rattle.run_meaning.specs.Runs.{begun_by};
 ghost use Rattle.run_meaning.specs.Turns.{Begun};
-ghost use Rattle.run_text.specs.LogText.{turn_lines as lines_of_turn};
 ghost use Rattle.turn_engine.specs.Stages.{stage_of};
-ghost use Rattle.site_run.specs.Courses.{IsNextLog, behind, course_of, log_of};
+ghost use Rattle.site_run.specs.Callers.{AreCallers, IsTaken};
+ghost use Rattle.site_run.specs.Courses.{course_of};
 ghost use Rattle.site_run.specs.Feeds.{feed_after};
-ghost use Rattle.site_run.specs.Starts.{started_of as started_with};
 
 use crate::feed::Feed;
 use crate::starting::started_of;
+use crate::workers::Workers;
 use engine_log::turn_lines;
 use run_text::Style;
 use site_base::{Blob, OutOfMemory, Row, Texts};
@@ -29,25 +29,21 @@ pub(crate) struct Taken {
 }
 
 /// Takes a turn, with the lines of the feed before its own.
-pub(crate) fn take<F: Feed>(
+pub(crate) fn take<F: Feed, C: Workers>(
     alloc: Global,
     engine: &mut Engine,
     feed: &mut F,
+    workers: &C,
     style: Style,
     turn: Turn,
 ) -> Result<Taken, OutOfMemory>
+    requires callers { AreCallers (C.callers workers.now) }
     requires fresh { engine.old.spent ≡ false }
     requires few { engine.old.run.turns < 2 ^ 40 }
     requires sound { IsSound (site_view engine.old.run.site) }
     requires made { F.made_for feed.old (site_view engine.old.run.site) }
-    ensures lines { (begun : List Begun) (first : F) → feed.old ≡ feed_after F.after first begun →
-        IfOk result (λ taken. taken.lines ≡ lines_of_turn style (site_view engine.old.run.site) (log_of (course_of engine.old.run begun style F.gives F.after first) turn)) }
-    ensures orders { (begun : List Begun) (first : F) → feed.old ≡ feed_after F.after first begun →
-        IfOk result (λ taken. taken.orders.items ≡ started_with (log_of (course_of engine.old.run begun style F.gives F.after first) turn).orders) }
-    ensures turn { (begun : List Begun) (first : F) → feed.old ≡ feed_after F.after first begun →
-        OnOk result (IsNextLog 1 (course_of engine.old.run begun style F.gives F.after first) [] [] turn (log_of (course_of engine.old.run begun style F.gives F.after first) turn)) }
-    ensures stage { (begun : List Begun) (first : F) → feed.old ≡ feed_after F.after first begun →
-        OnOk result (stage_of engine.new.run (begun_by (stage_of engine.old.run begun) engine.new.run.moment) ≡ (behind (course_of engine.old.run begun style F.gives F.after first) (turn ∷ [])).stage) }
+    ensures taken { (begun : List Begun) (first : F) → feed.old ≡ feed_after F.after first begun →
+        IfOk result (λ taken. IsTaken (C.callers workers.now) (course_of engine.old.run begun style F.gives F.after first) turn taken.lines taken.orders.items (stage_of engine.new.run (begun_by (stage_of engine.old.run begun) engine.new.run.moment))) }
     ensures feed { OnOk result (feed.new ≡ F.after feed.old engine.old.run.histories engine.new.run.moment) }
     ensures made { OnOk result (F.made_for feed.new (site_view engine.old.run.site)) }
     ensures site { OnOk result (engine.new.run.site ≡ engine.old.run.site) }
@@ -57,7 +53,7 @@ pub(crate) fn take<F: Feed>(
     let moment = later_of(engine.moment(), turn.moment);
     let fed = feed.lines(engine.books(), moment)?;
     let turn = with_lines(fed, turn)?;
-    let out = engine.turn_one(&turn)?;
+    let out = workers.turn(engine, &turn)?;
     let lines = turn_lines(alloc, style, engine.site(), &out)?;
     let orders = started_of(alloc, out.orders)?;
     Ok(Taken { lines, orders })

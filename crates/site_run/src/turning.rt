@@ -7,47 +7,41 @@ ghost use Rattle.site_model.specs.Sound.{IsSound};
 ghost use Rattle.run_meaning.specs.Runs.{begun_by};
 ghost use Rattle.run_meaning.specs.Turns.{Begun};
 ghost use Rattle.turn_engine.specs.Stages.{stage_of};
-ghost use Rattle.site_run.specs.Courses.{IsNextLog, behind, course_of, log_of, text_of};
-ghost use Rattle.site_run.specs.Ends.{IsAt, StopsIn, TakesTurn, outside};
+ghost use Rattle.site_run.specs.Callers.{AreCallers};
+ghost use Rattle.site_run.specs.Courses.{course_of};
+ghost use Rattle.site_run.specs.Ends.{IsGone, StopsTurn, outside};
 ghost use Rattle.site_run.specs.Feeds.{feed_after};
-ghost use Rattle.site_run.specs.Starts.{calls_with, started_of};
+ghost use Rattle.site_run.specs.Starts.{calls_with};
 
 use crate::feed::Feed;
 use crate::stop::Stop;
 use crate::taking::take;
+use crate::workers::Workers;
 use run_text::{Style, write_lines};
 use site_edge::{Order, Sink, Turn, World};
 use std::alloc::Global;
 use turn_engine::Engine;
 
 /// Takes a turn, writes its lines and hands them on, and then starts its orders.
-pub(crate) fn drive_turn<W: World, S: Sink, F: Feed>(
+pub(crate) fn drive_turn<W: World, S: Sink, F: Feed, C: Workers>(
     alloc: Global,
     engine: &mut Engine,
     world: &mut W,
     out: &mut S,
     feed: &mut F,
+    workers: &C,
     style: Style,
     turn: Turn,
 ) -> Result<(), Stop>
+    requires callers { AreCallers (C.callers workers.now) }
     requires fresh { engine.old.spent ≡ false }
     requires few { engine.old.run.turns < 2 ^ 40 }
     requires sound { IsSound (site_view engine.old.run.site) }
     requires made { F.made_for feed.old (site_view engine.old.run.site) }
     ensures goes { (begun : List Begun) (first : F) → feed.old ≡ feed_after F.after first begun →
-        let c = course_of engine.old.run begun style F.gives F.after first in
-        OnOk result (IsAt [] (text_of c (log_of c turn)) (started_of (log_of c turn).orders) (calls_with (started_of (log_of c turn).orders)) (outside (W.turns world.old) (W.started world.old) (W.calls world.old) (S.written out.old) (S.kept_back out.old)) (outside (W.turns world.new) (W.started world.new) (W.calls world.new) (S.written out.new) (S.kept_back out.new))) }
-    ensures through { OnOk result (S.kept_back out.new ≡ 0) }
+        OnOk result (IsGone (C.callers workers.now) (course_of engine.old.run begun style F.gives F.after first) turn (stage_of engine.new.run (begun_by (stage_of engine.old.run begun) engine.new.run.moment)) (outside (W.turns world.old) (W.started world.old) (W.calls world.old) (S.written out.old) (S.kept_back out.old)) (outside (W.turns world.new) (W.started world.new) (W.calls world.new) (S.written out.new) (S.kept_back out.new))) }
     ensures stops { (begun : List Begun) (first : F) → feed.old ≡ feed_after F.after first begun →
-        let c = course_of engine.old.run begun style F.gives F.after first in
-        IfErr result (λ stop. StopsIn stop (text_of c (log_of c turn)) (started_of (log_of c turn).orders) (outside (W.turns world.old) (W.started world.old) (W.calls world.old) (S.written out.old) (S.kept_back out.old)) (outside (W.turns world.new) (W.started world.new) (W.calls world.new) (S.written out.new) (S.kept_back out.new))) }
-    ensures turn { (begun : List Begun) (first : F) → feed.old ≡ feed_after F.after first begun →
-        OnOk result (IsNextLog 1 (course_of engine.old.run begun style F.gives F.after first) [] [] turn (log_of (course_of engine.old.run begun style F.gives F.after first) turn)) }
-    ensures taken { (begun : List Begun) (first : F) → feed.old ≡ feed_after F.after first begun →
-        let c = course_of engine.old.run begun style F.gives F.after first in
-        IfErr result (λ stop. TakesTurn stop (IsNextLog 1 c [] [] turn (log_of c turn)) (outside (W.turns world.old) (W.started world.old) (W.calls world.old) (S.written out.old) (S.kept_back out.old)) (outside (W.turns world.new) (W.started world.new) (W.calls world.new) (S.written out.new) (S.kept_back out.new))) }
-    ensures stage { (begun : List Begun) (first : F) → feed.old ≡ feed_after F.after first begun →
-        OnOk result (stage_of engine.new.run (begun_by (stage_of engine.old.run begun) engine.new.run.moment) ≡ (behind (course_of engine.old.run begun style F.gives F.after first) (turn ∷ [])).stage) }
+        IfErr result (λ stop. StopsTurn (C.callers workers.now) (course_of engine.old.run begun style F.gives F.after first) turn stop (outside (W.turns world.old) (W.started world.old) (W.calls world.old) (S.written out.old) (S.kept_back out.old)) (outside (W.turns world.new) (W.started world.new) (W.calls world.new) (S.written out.new) (S.kept_back out.new))) }
     ensures feed { OnOk result (feed.new ≡ F.after feed.old engine.old.run.histories engine.new.run.moment) }
     ensures made { OnOk result (F.made_for feed.new (site_view engine.old.run.site)) }
     ensures site { OnOk result (engine.new.run.site ≡ engine.old.run.site) }
@@ -62,7 +56,7 @@ pub(crate) fn drive_turn<W: World, S: Sink, F: Feed>(
     ensures world_calm { W.calm world.old → W.calm world.new }
     ensures world_unfailing { W.calm world.old → result ≢ Err Stop.World }
 {
-    let taken = take(alloc, engine, feed, style, turn)?;
+    let taken = take(alloc, engine, feed, workers, style, turn)?;
     write_lines(out, taken.lines.as_slice())?;
     start(world, taken.orders.as_slice())
 }

@@ -5,7 +5,7 @@ use Rattle.site_edge.specs.Lists.{TakesFirst}
 use Rattle.site_edge.specs.declared.turn.Turn.{Turn}
 use Rattle.site_model.specs.PlainSite.{site_view}
 use Rattle.site_model.specs.declared.site.Site.{Site}
-use Rattle.site_run.specs.Courses.{behind, course_of}
+use Rattle.site_run.specs.Courses.{behind_over, course_of}
 use Rattle.site_run.specs.Ends.{Stands, outside}
 use Rattle.site_run.proofs.Adding.{at_none}
 use Rattle.site_run.proofs.Ending.{IsStill, goes_on, stops}
@@ -19,6 +19,7 @@ loop-init g c =
     record {
       way = record {
         done = [];
+        logs = [];
         many = refl;
         are = refl;
         stands = record { fresh = c.requires.fresh; stage = refl; feed = refl };
@@ -40,7 +41,8 @@ returns-in_err-drive_turn-clause-ends g c =
     let v = l.invariant in
     let first = c.args.feed.now in
     let course = course_of c.args.engine.now.run [] c.args.style g.F.Feed.gives g.F.Feed.after first in
-    let begun = (behind course v.way.done).stage.begun in
+    let callers = g.C.Workers.callers c.args.workers.now in
+    let begun = (behind_over course v.way.done v.way.logs).stage.begun in
     let old = outside (g.W.World.turns c.args.world.now) (g.W.World.started c.args.world.now) (g.W.World.calls c.args.world.now) (g.S.Sink.written c.args.out.now) (g.S.Sink.kept_back c.args.out.now) in
     let now = outside (g.W.World.turns l.world) (g.W.World.started l.world) (g.W.World.calls l.world) (g.S.Sink.written l.out) (g.S.Sink.kept_back l.out) in
     let taken = outside (g.W.World.turns c.next.new.self) (g.W.World.started c.next.new.self) (g.W.World.calls c.next.new.self) (g.S.Sink.written l.out) (g.S.Sink.kept_back l.out) in
@@ -49,9 +51,9 @@ returns-in_err-drive_turn-clause-ends g c =
     let one = subst (TakesFirst now.turns taken.turns) c.in-Some.is c.in_ok-turn.ensures.ok in
     let still : IsStill now taken = record { started = c.next.ensures.same; calls = c.next.ensures.uncalled; written = refl; kept_back = refl } in
     let stands : List Turn → List TurnLog → Type 0 = λ done logs. Stands course g.F.Feed.after first done logs c.drive_turn.new.engine c.drive_turn.new.feed in
-    ended_by c.from_residual-in_err-drive_turn.result c.in_err-drive_turn.field-0.0 1 course c.args.limit stands old new c.from_residual-in_err-drive_turn.ensures.1
-    (stops c.args.engine.now.run c.args.style g.F.Feed.gives g.F.Feed.after first l.counter c.args.limit l.engine l.feed old now (omega (arith, more)) v.way c.in-Some.turn taken v.site v.zone more one still
-    c.in_err-drive_turn.field-0.0 stands new (c.in_err-drive_turn.ensures.stops begun first v.way.stands.feed) (c.in_err-drive_turn.ensures.taken begun first v.way.stands.feed))
+    ended_by c.from_residual-in_err-drive_turn.result c.in_err-drive_turn.field-0.0 callers course c.args.limit stands old new c.from_residual-in_err-drive_turn.ensures.1
+    (stops callers c.args.engine.now.run c.args.style g.F.Feed.gives g.F.Feed.after first l.counter c.args.limit l.engine l.feed old now (omega (arith, more)) v.way c.in-Some.turn taken v.site v.zone more one still
+    c.in_err-drive_turn.field-0.0 stands new (c.in_err-drive_turn.ensures.stops begun first v.way.stands.feed))
 
 pub loop-preserved : goal.loop-preserved
 loop-preserved g c =
@@ -59,7 +61,8 @@ loop-preserved g c =
     let v = l.invariant in
     let first = c.args.feed.now in
     let course = course_of c.args.engine.now.run [] c.args.style g.F.Feed.gives g.F.Feed.after first in
-    let begun = (behind course v.way.done).stage.begun in
+    let callers = g.C.Workers.callers c.args.workers.now in
+    let begun = (behind_over course v.way.done v.way.logs).stage.begun in
     let old = outside (g.W.World.turns c.args.world.now) (g.W.World.started c.args.world.now) (g.W.World.calls c.args.world.now) (g.S.Sink.written c.args.out.now) (g.S.Sink.kept_back c.args.out.now) in
     let now = outside (g.W.World.turns l.world) (g.W.World.started l.world) (g.W.World.calls l.world) (g.S.Sink.written l.out) (g.S.Sink.kept_back l.out) in
     let taken = outside (g.W.World.turns c.next.new.self) (g.W.World.started c.next.new.self) (g.W.World.calls c.next.new.self) (g.S.Sink.written l.out) (g.S.Sink.kept_back l.out) in
@@ -68,8 +71,8 @@ loop-preserved g c =
     let one = subst (TakesFirst now.turns taken.turns) c.in-Some.is c.in_ok-turn.ensures.ok in
     let still : IsStill now taken = record { started = c.next.ensures.same; calls = c.next.ensures.uncalled; written = refl; kept_back = refl } in
     let e = c.in_ok-drive_turn.ensures in
-    let stage = e.stage begun first v.way.stands.feed in
-    let one_turn : c.drive_turn.new.engine.run.turns ≡ l.engine.run.turns + 1 = ap (λ (st : Stage). st.turns) stage in
+    let gone = e.goes begun first v.way.stands.feed in
+    let one_turn : c.drive_turn.new.engine.run.turns ≡ l.engine.run.turns + 1 = ap (λ (st : Stage). st.turns) gone.after ∙ gone.is.number in
     let turns = v.turns in
     let out_before = v.sink_counts in
     let out_after = c.drive_turn.ensures.sink_counts in
@@ -78,8 +81,8 @@ loop-preserved g c =
     let world_after = c.drive_turn.ensures.world_counts in
     record {
       way =
-          goes_on c.args.engine.now.run c.args.style g.F.Feed.gives g.F.Feed.after first l.counter c.args.limit l.engine l.feed old now (omega (arith, more)) v.way c.in-Some.turn taken v.site v.zone more one still
-          new c.drive_turn.new.engine c.drive_turn.new.feed (e.goes begun first v.way.stands.feed) e.through (e.turn begun first v.way.stands.feed) e.fresh stage e.feed;
+          goes_on callers c.args.engine.now.run c.args.style g.F.Feed.gives g.F.Feed.after first l.counter c.args.limit l.engine l.feed old now (omega (arith, more)) v.way c.in-Some.turn taken v.site v.zone more one still
+          new c.drive_turn.new.engine c.drive_turn.new.feed gone e.fresh e.feed;
       turns = omega (arith, one_turn, turns);
       site = e.site ∙ v.site;
       zone = e.zone ∙ v.zone;

@@ -10,7 +10,7 @@ abbrev pub invariant-loop : goal.invariant-loop
 invariant-loop g l =
     let r = l.initial.engine.run in
     record {
-      way : IsOnWay (course_of r [] l.style g.F.Feed.gives g.F.Feed.after l.initial.feed) g.F.Feed.after l.initial.feed l.counter l.engine l.feed
+      way : IsOnWay (g.C.Workers.callers l.workers) (course_of r [] l.style g.F.Feed.gives g.F.Feed.after l.initial.feed) g.F.Feed.after l.initial.feed l.counter l.engine l.feed
           (outside (g.W.World.turns l.initial.world) (g.W.World.started l.initial.world) (g.W.World.calls l.initial.world) (g.S.Sink.written l.initial.out) (g.S.Sink.kept_back l.initial.out)) (outside (g.W.World.turns l.world) (g.W.World.started l.world) (g.W.World.calls l.world) (g.S.Sink.written l.out) (g.S.Sink.kept_back l.out));
       turns : l.engine.run.turns ≡ r.turns + l.counter;
       site : l.engine.run.site ≡ r.site;

@@ -17,12 +17,12 @@ returns-in-Ok-begin_log-clause-went g c =
     let first = g.S.Sink.written c.begin_log.new.out in
     let kept = g.S.Sink.kept_back c.begin_log.new.out in
     let begun = outside turns started calls first kept in
-    let new = outside (g.W.World.turns c.drive_part_one.new.world) (g.W.World.started c.drive_part_one.new.world) (g.W.World.calls c.drive_part_one.new.world) (g.S.Sink.written c.drive_part_one.new.out) (g.S.Sink.kept_back c.drive_part_one.new.out) in
+    let new = outside (g.W.World.turns c.drive_part.new.world) (g.W.World.started c.drive_part.new.world) (g.W.World.calls c.drive_part.new.world) (g.S.Sink.written c.drive_part.new.out) (g.S.Sink.kept_back c.drive_part.new.out) in
     inr (inr
-    (over_turns c.drive_part_one.result c.args.style c.args.limit c.in-Ok.engine.run c.args.site turns started calls old first (g.S.Sink.kept_back c.args.out.now) kept new c.in-Ok.ensures.site c.in-Ok.ensures.zone c.in-Ok.ensures.start
+    (over_turns (g.C.Workers.callers c.args.workers.now) c.drive_part.result c.args.style c.args.limit c.in-Ok.engine.run c.args.site turns started calls old first (g.S.Sink.kept_back c.args.out.now) kept new c.in-Ok.ensures.site c.in-Ok.ensures.zone c.in-Ok.ensures.start
     c.in-Ok-begin_log.ensures.ok c.in-Ok-begin_log.ensures.through
-    (subst (λ d. Ends c.drive_part_one.result 1 d c.args.limit (λ _ _. Unit {0}) begun new) (course_is_alone c.in-Ok.engine.run [] c.args.style (λ feed _ _. feed) c.new-feed.result)
-    (less_asked c.drive_part_one.result 1 _ c.args.limit _ (λ _ _. Unit {0}) begun new (λ done ls h. tt) c.drive_part_one.ensures.ends))))
+    (subst (λ d. Ends c.drive_part.result (g.C.Workers.callers c.args.workers.now) d c.args.limit (λ _ _. Unit {0}) begun new) (course_is_alone c.in-Ok.engine.run [] c.args.style (λ feed _ _. feed) c.new-feed.result)
+    (less_asked c.drive_part.result (g.C.Workers.callers c.args.workers.now) _ c.args.limit _ (λ _ _. Unit {0}) begun new (λ done ls h. tt) c.drive_part.ensures.ends))))
 
 pub returns-in-Ok-begin_log-clause-written : goal.returns-in-Ok-begin_log-clause-written
 returns-in-Ok-begin_log-clause-written g c =
@@ -34,16 +34,16 @@ returns-in-Ok-begin_log-clause-written g c =
     let before = g.S.Sink.kept_back c.args.out.now in
     let kept = g.S.Sink.kept_back c.begin_log.new.out in
     let begun = outside turns started calls first kept in
-    let new = outside (g.W.World.turns c.drive_part_one.new.world) (g.W.World.started c.drive_part_one.new.world) (g.W.World.calls c.drive_part_one.new.world) (g.S.Sink.written c.drive_part_one.new.out) (g.S.Sink.kept_back c.drive_part_one.new.out) in
-    over_written c.args.style c.args.limit (site_view c.args.site) c.requires.sound.names c.drive_part_one.result (outside turns started calls old before) new
-    (over_turns c.drive_part_one.result c.args.style c.args.limit c.in-Ok.engine.run c.args.site turns started calls old first before kept new c.in-Ok.ensures.site c.in-Ok.ensures.zone c.in-Ok.ensures.start
+    let new = outside (g.W.World.turns c.drive_part.new.world) (g.W.World.started c.drive_part.new.world) (g.W.World.calls c.drive_part.new.world) (g.S.Sink.written c.drive_part.new.out) (g.S.Sink.kept_back c.drive_part.new.out) in
+    over_written (g.C.Workers.callers c.args.workers.now) c.requires.callers.0 c.args.style c.args.limit (site_view c.args.site) c.requires.sound.names c.drive_part.result (outside turns started calls old before) new
+    (over_turns (g.C.Workers.callers c.args.workers.now) c.drive_part.result c.args.style c.args.limit c.in-Ok.engine.run c.args.site turns started calls old first before kept new c.in-Ok.ensures.site c.in-Ok.ensures.zone c.in-Ok.ensures.start
     c.in-Ok-begin_log.ensures.ok c.in-Ok-begin_log.ensures.through
-    (subst (λ d. Ends c.drive_part_one.result 1 d c.args.limit (λ _ _. Unit {0}) begun new) (course_is_alone c.in-Ok.engine.run [] c.args.style (λ feed _ _. feed) c.new-feed.result)
-    (less_asked c.drive_part_one.result 1 _ c.args.limit _ (λ _ _. Unit {0}) begun new (λ done ls h. tt) c.drive_part_one.ensures.ends)))
+    (subst (λ d. Ends c.drive_part.result (g.C.Workers.callers c.args.workers.now) d c.args.limit (λ _ _. Unit {0}) begun new) (course_is_alone c.in-Ok.engine.run [] c.args.style (λ feed _ _. feed) c.new-feed.result)
+    (less_asked c.drive_part.result (g.C.Workers.callers c.args.workers.now) _ c.args.limit _ (λ _ _. Unit {0}) begun new (λ done ls h. tt) c.drive_part.ensures.ends)))
 
 pub returns-in-Ok-begin_log-clause-through : goal.returns-in-Ok-begin_log-clause-through
 returns-in-Ok-begin_log-clause-through g c =
-    hands_on c.drive_part_one.result 1 _ c.args.limit _ _ _ c.drive_part_one.ensures.ends c.in-Ok-begin_log.ensures.through
+    hands_on c.drive_part.result (g.C.Workers.callers c.args.workers.now) _ c.args.limit _ _ _ c.drive_part.ensures.ends c.in-Ok-begin_log.ensures.through
 
 pub returns-in-Err-Failed-clause-went : goal.returns-in-Err-Failed-clause-went
 returns-in-Err-Failed-clause-went g c =
@@ -60,7 +60,7 @@ returns-in-Err-Failed-clause-written g c =
     let new = g.S.Sink.written c.begin_log.new.out in
     let before = g.S.Sink.kept_back c.args.out.now in
     let kept = g.S.Sink.kept_back c.begin_log.new.out in
-    first_written c.args.style c.args.limit (site_view c.args.site) c.requires.sound.names c.in-Ok.engine.run.zone c.in-Ok.ensures.zone WriteFault (outside turns started calls old before) (outside turns started calls new kept)
+    first_written (g.C.Workers.callers c.args.workers.now) c.requires.callers.0 c.args.style c.args.limit (site_view c.args.site) c.requires.sound.names c.in-Ok.engine.run.zone c.in-Ok.ensures.zone WriteFault (outside turns started calls old before) (outside turns started calls new kept)
     (at_first WriteFault c.args.style turns started calls old new before kept (inl refl) c.in-Err-Failed.ensures.err)
 
 pub returns-clause-went : goal.returns-clause-went
@@ -78,5 +78,5 @@ returns-clause-written g c =
     let new = g.S.Sink.written c.begin_log.new.out in
     let before = g.S.Sink.kept_back c.args.out.now in
     let kept = g.S.Sink.kept_back c.begin_log.new.out in
-    first_written c.args.style c.args.limit (site_view c.args.site) c.requires.sound.names c.in-Ok.engine.run.zone c.in-Ok.ensures.zone OutOfMemory (outside turns started calls old before) (outside turns started calls new kept)
+    first_written (g.C.Workers.callers c.args.workers.now) c.requires.callers.0 c.args.style c.args.limit (site_view c.args.site) c.requires.sound.names c.in-Ok.engine.run.zone c.in-Ok.ensures.zone OutOfMemory (outside turns started calls old before) (outside turns started calls new kept)
     (at_first OutOfMemory c.args.style turns started calls old new before kept (inr refl) c.in-Err-OutOfMemory.ensures.err)

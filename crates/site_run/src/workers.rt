@@ -1,0 +1,45 @@
+// Who takes the events of a turn.
+ghost use Rattle.std.specs.Prelude.{◌≡◌, ◌<◌, ◌^◌, ℕ, List, false, IfOk, OnOk};
+ghost use Rattle.run_meaning.specs.Runs.{begun_by};
+ghost use Rattle.run_meaning.specs.Turns.{Begun};
+ghost use Rattle.run_text.specs.TurnReading.{turn_read};
+ghost use Rattle.site_model.specs.PlainSite.{site_view};
+ghost use Rattle.turn_engine.specs.Stages.{basis_of_site, stage_of};
+ghost use Rattle.site_run.specs.Callers.{AreCallers, Takes};
+
+use site_base::OutOfMemory;
+use site_edge::Turn;
+use turn_engine::{Engine, TurnOut};
+
+/// Who takes the events of a turn: so many callers at once, to which they are dealt.
+pub trait Workers {
+    /// How many callers they are.
+    ghost callers: { Self → ℕ };
+
+    /// Takes a turn of an engine. They are 1 to 64 callers, the engine isn't spent, and fewer than 2^40 turns were taken of it.
+    ///
+    /// # Errors
+    ///
+    /// `OutOfMemory` where there is none for what the turn gives. The engine may be spent then.
+    fn turn(&self, engine: &mut Engine, turn: &Turn) -> Result<TurnOut, OutOfMemory>
+        requires callers { AreCallers (callers self.now) }
+        requires fresh { engine.old.spent ≡ false }
+        requires few { engine.old.run.turns < 2 ^ 40 }
+        ensures turn { (begun : List Begun) →
+            IfOk result (λ out. Takes (basis_of_site (site_view engine.old.run.site) engine.old.run.zone) (callers self.now) (stage_of engine.old.run begun) (turn_read (site_view engine.old.run.site) turn.now) out (stage_of engine.new.run (begun_by (stage_of engine.old.run begun) engine.new.run.moment))) }
+        ensures site { OnOk result (engine.new.run.site ≡ engine.old.run.site) }
+        ensures zone { OnOk result (engine.new.run.zone ≡ engine.old.run.zone) }
+        ensures fresh { OnOk result (engine.new.spent ≡ false) };
+}
+
+/// One caller, that of the run itself: no thread is started.
+#[derive(Clone, Copy)]
+pub struct OneWorker;
+
+impl Workers for OneWorker {
+    ghost callers = { λ _. 1 };
+
+    fn turn(&self, engine: &mut Engine, turn: &Turn) -> Result<TurnOut, OutOfMemory> {
+        engine.turn_one(turn)
+    }
+}
