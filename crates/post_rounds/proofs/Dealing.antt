@@ -1,5 +1,5 @@
 -- Callers and their passes, while posts are made.
-use Rattle.std.proofs.Common.{◌≡◌, ℕ, ◌+◌, ◌<◌, ◌≤◌, List, [], ◌∷◌, ◌++◌, length, set, slice_get, Some, refl, sym, ap, ◌∙◌, subst, arith, length-append, length-set}
+use Rattle.std.proofs.Common.{◌≡◌, ℕ, ◌+◌, List, [], ◌∷◌, ◌++◌, length, set, slice_get, Some, refl, sym, ap, ◌∙◌, subst, arith, length-append, length-set}
 use Rattle.std.specs.Prelude.{Vec}
 use Rattle.std.specs.declared.alloc.Global.{Global}
 use Rattle.std.proofs.lemmas.Option.{same_Some, slice_get_within, get_or_from_slice_get}
@@ -47,22 +47,22 @@ module _ {M S V E G W : Type 0} where
   -- one caller more has got its pass
   pub dealt_more : (n : ℕ) (old mid : List (Caller M W S V E G)) (passes : List (Pass M S V E G)) (b : Pass M S V E G) (c d : Caller M W S V E G) → DealtTo n old passes mid → slice_get passes n ≡ Some b → slice_get mid n ≡ Some c → GotPass c b d → DealtTo (n + 1) old passes (set mid n d)
   dealt_more n old mid passes b c d so at_b at_c got = record {
-      whole = length-set mid n d ∙ so.whole;
-      first = λ i x y z l at_x at_y at_z. by_place n i
+    whole = length-set mid n d ∙ so.whole;
+    first = λ i x y z l at_x at_y at_z. by_place n i
         (λ same.
-            let bx : b ≡ x = same_Some b x (sym at_b ∙ ap (slice_get passes) same ∙ at_x) in
-            let cy : c ≡ y = same_Some c y (sym at_c ∙ so.others n (omega arith) ∙ ap (slice_get old) same ∙ at_y) in
-            let dz : d ≡ z = same_Some d z (sym (get_set_same mid n d (slice_get_within mid n c at_c)) ∙ ap (slice_get (set mid n d)) same ∙ at_z) in
-            subst (GotPass y x) dz (subst (λ p. GotPass y p d) bx (subst (λ p. GotPass p b d) cy got)))
+        let bx : b ≡ x = same_Some b x (sym at_b ∙ ap (slice_get passes) same ∙ at_x) in
+        let cy : c ≡ y = same_Some c y (sym at_c ∙ so.others n (omega arith) ∙ ap (slice_get old) same ∙ at_y) in
+        let dz : d ≡ z = same_Some d z (sym (get_set_same mid n d (slice_get_within mid n c at_c)) ∙ ap (slice_get (set mid n d)) same ∙ at_z) in
+        subst (GotPass y x) dz (subst (λ p. GotPass y p d) bx (subst (λ p. GotPass p b d) cy got)))
         (λ other. so.first i x y z (omega (arith, l, other)) at_x at_y (sym (get_set_other mid n i d other) ∙ at_z));
-      others = λ i l. get_set_other mid n i d (λ e. omega (arith, e, l)) ∙ so.others i (omega (arith, l));
-    }
+    others = λ i l. get_set_other mid n i d (λ e. omega (arith, e, l)) ∙ so.others i (omega (arith, l));
+  }
 
   pub dealt_none : (old : List (Caller M W S V E G)) (passes : List (Pass M S V E G)) → DealtTo 0 old passes old
   dealt_none old passes = record { whole = refl; first = λ i b c d l at_b at_c at_d. absurd (omega (arith, l)); others = λ i l. refl }
 
   pub dealt_all : (n : ℕ) (old new : List (Caller M W S V E G)) (passes : List (Pass M S V E G)) → DealtTo n old passes new → n ≡ length passes → Dealt old passes new
   dealt_all n old new passes so e = record {
-      whole = so.whole;
-      each = λ i b c d at_b at_c at_d. let l = slice_get_within passes i b at_b in so.first i b c d (omega (arith, l, e)) at_b at_c at_d;
-    }
+    whole = so.whole;
+    each = λ i b c d at_b at_c at_d. let l = slice_get_within passes i b at_b in so.first i b c d (omega (arith, l, e)) at_b at_c at_d;
+  }

@@ -1,12 +1,12 @@
 -- How posts end one after another, from the last on.
-use Rattle.std.proofs.Common.{◌≡◌, ℕ, zero, suc, ◌+◌, ◌-◌, ◌<◌, ◌≤◌, ◌⊎◌, List, [], ◌∷◌, ◌++◌, length, map, set, take, get_or, slice_get, reverse, Some, refl, sym, ap, ◌∙◌, subst, arith, ⊎_elim, length-append, length-set}
+use Rattle.std.proofs.Common.{◌≡◌, ℕ, zero, suc, ◌+◌, ◌-◌, ◌<◌, ◌≤◌, List, [], ◌∷◌, ◌++◌, length, set, take, slice_get, reverse, Some, refl, sym, ap, ◌∙◌, subst, arith, ⊎_elim, length-append, length-set}
 use Rattle.std.specs.Prelude.{All, Vec, option_map}
 use Rattle.std.specs.declared.alloc.Global.{Global}
-use Rattle.std.proofs.lemmas.List.{length-map, length-reverse, length-take-le, take_all, take-append-le}
-use Rattle.std.proofs.lemmas.Option.{same_Some, slice_get_within, slice_get-get_or, get_or_from_slice_get, slice_get-map}
+use Rattle.std.proofs.lemmas.List.{length-map, length-reverse, length-take-le, take_all}
+use Rattle.std.proofs.lemmas.Option.{same_Some, slice_get_within, get_or_from_slice_get, slice_get-map}
 use Rattle.post_turn.specs.declared.post.Post.{Post}
 use Rattle.post_turn.specs.declared.pass.Pass.{Pass}
-use Rattle.post_turn.specs.History.{IsFront, entries_of, replay}
+use Rattle.post_turn.specs.History.{IsFront, entries_of}
 use Rattle.post_turn.specs.Passes.{callers_of, seen_of, mine_of, IsPassOf, KnowsOwn}
 use Rattle.post_turn.proofs.Lists.{front_refl}
 use Rattle.post_rounds.specs.declared.ended.Ended.{Ended}
@@ -32,20 +32,20 @@ module _ {M S V E G : Type 0} where
   -- one hand more has given its last pass
   pub last_more : (n : ℕ) (old mid : List (Vec (Pass M S V E G) Global)) (passes : List (Pass M S V E G)) (g h : Vec (Pass M S V E G) Global) (b : Pass M S V E G) → AreLastTo n old passes mid → slice_get mid n ≡ Some g → g.items ≡ h.items ++ b ∷ [] → AreLastTo (n + 1) old (passes ++ b ∷ []) (set mid n h)
   last_more n old mid passes g h b so at_g is = record {
-      count = length-append passes (b ∷ []) ∙ ap (λ m. m + 1) so.count;
-      same = length-set mid n h ∙ so.same;
-      first = λ j x y z at_x at_z at_y. ⊎_elim
+    count = length-append passes (b ∷ []) ∙ ap (λ m. m + 1) so.count;
+    same = length-set mid n h ∙ so.same;
+    first = λ j x y z at_x at_z at_y. ⊎_elim
         (λ was.
-          let l = slice_get_within passes j z was in let m = so.count in
-          so.first j x y z at_x was (sym (get_set_other mid n j h (λ e. omega (arith, e, l, m))) ∙ at_y))
+        let l = slice_get_within passes j z was in let m = so.count in
+        so.first j x y z at_x was (sym (get_set_other mid n j h (λ e. omega (arith, e, l, m))) ∙ at_y))
         (λ now.
-          let here : n ≡ j = sym so.count ∙ sym now.0 in
-          let gx : g ≡ x = same_Some g x (sym at_g ∙ so.others n (omega arith) ∙ ap (slice_get old) here ∙ at_x) in
-          let hy : h ≡ y = same_Some h y (sym (get_set_same mid n h (slice_get_within mid n g at_g)) ∙ ap (slice_get (set mid n h)) here ∙ at_y) in
-          (λ i. (sym gx i).items) ∙ is ∙ (λ i. (hy i).items ++ now.1 i ∷ []))
+        let here : n ≡ j = sym so.count ∙ sym now.0 in
+        let gx : g ≡ x = same_Some g x (sym at_g ∙ so.others n (omega arith) ∙ ap (slice_get old) here ∙ at_x) in
+        let hy : h ≡ y = same_Some h y (sym (get_set_same mid n h (slice_get_within mid n g at_g)) ∙ ap (slice_get (set mid n h)) here ∙ at_y) in
+        (λ i. (sym gx i).items) ∙ is ∙ (λ i. (hy i).items ++ now.1 i ∷ []))
         (snoc_get passes b z j at_z);
-      others = λ j l. get_set_other mid n j h (λ e. omega (arith, e, l)) ∙ so.others j (omega (arith, l));
-    }
+    others = λ j l. get_set_other mid n j h (λ e. omega (arith, e, l)) ∙ so.others j (omega (arith, l));
+  }
 
   pub last_none : (old : List (Vec (Pass M S V E G) Global)) → AreLastTo 0 old [] old
   last_none old = record { count = refl; same = refl; first = λ j g h b at_g at_b at_h. absurd cc; others = λ j l. refl }
@@ -78,7 +78,7 @@ module _ {M S V E G : Type 0} (fit : M → S → Type 0) (after : M → S → E 
     pub none_ended : Ending posts hands []
     none_ended = record {
       first = sym (take_all (length posts) posts (omega arith));
-      count = refl;
+      count = omega arith;
       whole = refl;
       passes = λ j g h at_g at_h. ap (λ (v : Vec (Pass M S V E G) Global). v.items) (same_Some h g (sym at_h ∙ at_g)) ∙ sym (take_all (length posts) g.items (let n = hand_long j g at_g in omega (arith, n)));
       ends = λ j p e at is. absurd cc;
@@ -91,7 +91,7 @@ module _ {M S V E G : Type 0} (fit : M → S → Type 0) (after : M → S → E 
       within : length left < length posts
       within = let n = so.count in let m = count_is in omega (arith, n, m)
 
-      last_is : (left ≡ take (length left) posts) × (slice_get posts (length left) ≡ Some post)
+      pub last_is : (left ≡ take (length left) posts) × (slice_get posts (length left) ≡ Some post)
       last_is = take_snoc (length left) posts left post within (sym (so.first ∙ ap (λ n. take n posts) count_is))
 
       -- each hand has a pass of the last post
@@ -108,7 +108,7 @@ module _ {M S V E G : Type 0} (fit : M → S → Type 0) (after : M → S → E 
             let w = slice_get_within passes j b at_b in
             let f = get_within held j (let n = last.whole in omega (arith, w, n)) in
             take_snoc (length left) g.items h.items b (let n = hand_long j g at_g in let m = within in omega (arith, n, m))
-            (sym (so.passes j g f.0 at_g f.1 ∙ ap (λ n. take n g.items) count_is) ∙ last.each j f.0 b h f.1 at_b at_h)
+            (sym (so.passes j g f.0 at_g f.1 ∙ ap (λ n. take n g.items) count_is) ∙ last.each j f.0 h b f.1 at_b at_h)
 
         found : (j : ℕ) (b : Pass M S V E G) → slice_get passes j ≡ Some b → (g : Vec (Pass M S V E G) Global) × (slice_get hands j ≡ Some g) × (slice_get g.items (length left) ≡ Some b)
         found j b at_b =
@@ -154,6 +154,10 @@ module _ {M S V E G : Type 0} (fit : M → S → Type 0) (after : M → S → E 
               (snoc_get ended e d j at);
         }
 
+  pub emptied : (left : List (Post M S V E G)) (held : List (Vec (Pass M S V E G) Global)) (ended : List (Ended S E)) → Ending left held ended → length left ≡ 0 → Ending [] held ended
+  emptied [] held ended so none = so
+  emptied (x ∷ xs) held ended so none = absurd (omega (arith, none))
+
   -- where all have ended
   module _ (held : List (Vec (Pass M S V E G) Global)) (ended : List (Ended S E)) (so : Ending [] held ended) where
     ended_at : (p : ℕ) (e : Ended S E) → slice_get (reverse ended) p ≡ Some e → EndsAt p e
@@ -184,7 +188,7 @@ module _ {M S V E G : Type 0} (fit : M → S → Type 0) (after : M → S → E 
           (is.each p a.0 b.0 a.1 b.1).1,
         ) in
         let none : (p : ℕ) → length posts ≤ p → (at_post (seen_by hand.items) p ≡ []) × (at_post (histories_of (reverse ended)) p ≡ []) = λ p l.
-        let n = is.whole in let c = count_all in let x = length-map hand.items (seen_of {M} {S} {V} {E} {G}) in let y = length-map (reverse ended) (λ (d : Ended S E). d.history) in
+        let n = is.whole in let c = count_all in let x = length-map hand.items (λ (b : Pass M S V E G). seen_of b) in let y = length-map (reverse ended) (λ (d : Ended S E). d.history) in
         (past (seen_by hand.items) p (omega (arith, n, l, x)), past (histories_of (reverse ended)) p (omega (arith, c, l, y))) in
         record {
           longer = λ p. by_order p (length posts)

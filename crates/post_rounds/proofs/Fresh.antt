@@ -1,10 +1,10 @@
 -- Passes that have seen nothing.
-use Rattle.std.proofs.Common.{◌≡◌, ℕ, zero, suc, ◌<◌, List, [], ◌∷◌, length, map, slice_get, Some, refl, sym, ap, ◌∙◌, arith}
+use Rattle.std.proofs.Common.{◌≡◌, ℕ, zero, suc, List, [], ◌∷◌, map, slice_get, Some, refl, sym, ap, ◌∙◌, arith}
 use Rattle.std.proofs.lemmas.Option.{slice_get_within}
 use Rattle.post_turn.specs.declared.post.Post.{Post}
 use Rattle.post_turn.specs.declared.pass.Pass.{Pass}
 use Rattle.post_turn.specs.History.{entries_of}
-use Rattle.post_turn.specs.Passes.{seen_of, mine_of, IsFresh, KnowsOwn}
+use Rattle.post_turn.specs.Passes.{seen_of, mine_of, KnowsOwn}
 use Rattle.post_rounds.specs.Rounds.{Sense, IsCourse, at_post}
 use Rattle.post_rounds.specs.Hands.{AreHeld, AreFresh, seen_by}
 use Rattle.post_rounds.proofs.Courses.{course_none}

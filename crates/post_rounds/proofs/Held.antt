@@ -2,12 +2,11 @@
 use Rattle.std.proofs.Common.{◌≡◌, ◌≢◌, ℕ, zero, suc, ◌<◌, List, [], ◌∷◌, ◌++◌, length, map, set, get_or, slice_get, Some, refl, sym, ap, ◌∙◌, subst, arith, length-set}
 use Rattle.std.specs.Prelude.{option_map}
 use Rattle.std.proofs.lemmas.List.{get_or-set_same, get_or-map, map-set, length-map}
-use Rattle.std.proofs.lemmas.Option.{same_Some, slice_get_within, slice_get-get_or, slice_get_read, slice_get-map}
+use Rattle.std.proofs.lemmas.Option.{same_Some, slice_get-get_or, slice_get_read, slice_get-map}
 use Rattle.post_turn.specs.declared.post.Post.{Post}
 use Rattle.post_turn.specs.declared.pass.Pass.{Pass}
 use Rattle.post_turn.specs.History.{IsFront, entries_of, replay}
 use Rattle.post_turn.specs.Passes.{start_of, seen_of, mine_of, IsPassOf, KnowsOwn, Acts}
-use Rattle.post_rounds.specs.declared.base.Base.{Base}
 use Rattle.post_rounds.specs.declared.sight.Sight.{Sight}
 use Rattle.post_rounds.specs.declared.job.Job.{Job}
 use Rattle.post_rounds.specs.Rounds.{Sense, Done, IsCourse, at_post}

@@ -6,4 +6,4 @@ pub mod Held
 pub mod Fresh
 pub mod Dealing
 pub mod Endings
-pub mod Whole
+pub mod Joined

@@ -1,12 +1,11 @@
 -- What looks tell.
-use Rattle.std.proofs.Common.{◌≡◌, ◌≢◌, ◌⊎◌, ℕ, zero, suc, ◌+◌, ◌<◌, ◌≤◌, List, [], ◌∷◌, ◌++◌, length, map, take, set, get_or, slice_get, Some, None, refl, sym, ap, ◌∙◌, subst, inl, inr, ⊎_elim, arith, length-append}
+use Rattle.std.proofs.Common.{◌≡◌, ℕ, ◌<◌, List, [], ◌∷◌, ◌++◌, length, set, slice_get, Some, refl, sym, ap, ◌∙◌, subst, ⊎_elim}
 use Rattle.std.proofs.lemmas.List.{map_push}
-use Rattle.std.proofs.lemmas.Option.{same_Some}
 use Rattle.post_turn.specs.History.{IsFront, entries_of, replay}
 use Rattle.post_turn.proofs.Lists.{front_refl, front_trans}
 use Rattle.post_rounds.specs.declared.base.Base.{Base}
 use Rattle.post_rounds.specs.declared.sight.Sight.{Sight}
-use Rattle.post_rounds.specs.Rounds.{Sense, Done, IsSight, AreSights, IsCourse, at_post}
+use Rattle.post_rounds.specs.Rounds.{Sense, Done, IsSight, IsCourse, at_post}
 use Rattle.post_rounds.specs.Hands.{Saw}
 use Rattle.post_rounds.proofs.Lists.{Longer, snoc_get, at_set, set_longer, set_same}
 use Rattle.post_rounds.proofs.Courses.{sight_grows, course_grows, sees}

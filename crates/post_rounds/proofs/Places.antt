@@ -1,5 +1,5 @@
 -- Lists read by place.
-use Rattle.std.proofs.Common.{rules, ◌≡◌, ℕ, zero, suc, ◌+◌, ◌-◌, ◌<◌, ◌≤◌, List, [], ◌∷◌, ◌++◌, length, map, take, drop, get_or, slice_get, reverse, Some, refl, sym, ap, ◌∙◌, subst, arith, length-append}
+use Rattle.std.proofs.Common.{rules, ◌≡◌, ℕ, zero, suc, ◌+◌, ◌-◌, ◌<◌, List, [], ◌∷◌, ◌++◌, length, map, take, drop, get_or, slice_get, reverse, Some, refl, sym, ap, ◌∙◌, subst, arith, append-nil, length-append}
 use Rattle.std.specs.Prelude.{All}
 use Rattle.std.specs.List.{AllZip}
 use Rattle.std.proofs.lemmas.List.{get_or-reverse, take_more}
@@ -86,3 +86,8 @@ get_map f (x ∷ xs) (suc n) y e = get_map f xs n y e
 pub get_seam : {A : Type 0} (xs ys : List A) (y : A) → slice_get (xs ++ y ∷ ys) (length xs) ≡ Some y
 get_seam [] ys y = refl
 get_seam (x ∷ xs) ys y = get_seam xs ys y
+
+-- where nothing is left, all was yielded
+pub none_left : {A : Type 0} (xs ys zs : List A) → xs ++ ys ≡ zs → length ys ≡ 0 → xs ≡ zs
+none_left xs [] zs e none = sym (append-nil xs) ∙ e
+none_left xs (y ∷ ys) zs e none = absurd (omega (arith, none))

@@ -1,9 +1,9 @@
 -- How posts end.
-use Rattle.std.specs.Prelude.{◌≡◌, ℕ, ◌≤◌, List, [], length, map, slice_get, Some, All}
+use Rattle.std.specs.Prelude.{◌≡◌, ℕ, List, length, slice_get, Some, All}
 use Rattle.post_turn.specs.declared.post.Post.{Post}
 use Rattle.post_turn.specs.declared.pass.Pass.{Pass}
-use Rattle.post_turn.specs.History.{IsFront, entries_of, replay}
-use Rattle.post_turn.specs.Passes.{start_of, callers_of, seen_of, mine_of, KnowsOwn}
+use Rattle.post_turn.specs.History.{IsFront, entries_of}
+use Rattle.post_turn.specs.Passes.{callers_of, seen_of, mine_of, KnowsOwn}
 use Rattle.post_rounds.specs.declared.ended.Ended.{Ended}
 use Rattle.post_rounds.specs.Rounds.{IsEnd, at_post}
 use Rattle.post_rounds.specs.Hands.{base_of}

@@ -3,7 +3,7 @@ use Rattle.std.specs.Prelude.{◌≡◌, ℕ, ◌<◌, ◌≤◌, List, [], ◌�
 use Rattle.post_turn.specs.declared.post.Post.{Post}
 use Rattle.post_turn.specs.declared.pass.Pass.{Pass}
 use Rattle.post_turn.specs.History.{IsFront, entries_of}
-use Rattle.post_turn.specs.Passes.{start_of, seen_of, mine_of, IsPassOf, IsFresh, KnowsOwn}
+use Rattle.post_turn.specs.Passes.{start_of, seen_of, IsPassOf, IsFresh, KnowsOwn}
 use Rattle.std.specs.declared.alloc.Global.{Global}
 use Rattle.post_rounds.specs.declared.base.Base.{Base}
 use Rattle.post_rounds.specs.declared.caller.Caller.{Caller}

@@ -1,5 +1,5 @@
 -- A round of callers that do their jobs at posts.
-use Rattle.std.specs.Prelude.{◌≡◌, ◌==◌, ℕ, ◌<◌, ◌≤◌, List, [], ◌∷◌, ◌++◌, length, map, filter, take, slice_get, slice_index_or, Some}
+use Rattle.std.specs.Prelude.{◌≡◌, ◌==◌, ℕ, ◌≤◌, List, [], ◌∷◌, ◌++◌, length, map, filter, take, slice_get, slice_index_or, Some}
 use Rattle.post_turn.specs.History.{IsFront, entries_of, replay}
 use Rattle.post_rounds.specs.declared.base.Base.{Base}
 use Rattle.post_rounds.specs.declared.ended.Ended.{Ended}

@@ -1,6 +1,5 @@
 -- The posts behind those that are left have ended.
-use Rattle.std.proofs.Common.{◌≡◌, ◌<◌, ℕ, length}
-use Rattle.post_rounds.specs.Ends.{AreEnds}
+use Rattle.std.proofs.Common.{length}
 use Rattle.post_rounds.proofs.Endings.{Ending}
 use Rattle.post_rounds.proofs.closing.close_all.Given as goal
 

@@ -1,5 +1,4 @@
 -- The first hands have given their last passes, and the others are as before.
-use Rattle.std.proofs.Common.{◌≡◌, length}
 use Rattle.post_rounds.specs.Hands.{AreLastTo}
 use Rattle.post_rounds.proofs.closing.last_of_each.Given as goal
 

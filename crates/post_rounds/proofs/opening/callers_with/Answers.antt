@@ -1,5 +1,5 @@
 -- One list more has its caller.
-use Rattle.std.proofs.Common.{rules, ◌≡◌, ◌++◌, [], ◌∷◌, length, refl, sym, ap, ◌∙◌, subst, append_assoc}
+use Rattle.std.proofs.Common.{rules, ◌++◌, [], ◌∷◌, refl, sym, ap, ◌∙◌, subst, append_assoc}
 use Rattle.std.specs.Vec.Iter.{into_iter_items}
 use Rattle.post_rounds.specs.Hands.{AreCallers}
 use Rattle.post_rounds.proofs.Dealing.{callers_more}

@@ -16,9 +16,9 @@ loop-pass-preserved g c =
       whole = append_assoc c.loop-pass.yielded (c.in-Some.pass ∷ []) rest ∙ all;
       at = ap (λ n. n + 1) before.at ∙ sym (length-append c.loop-pass.yielded (c.in-Some.pass ∷ []));
       dealt = dealt_more c.loop-pass.at c.args.callers.now.items c.loop-pass.callers.items c.args.passes c.in-Some.pass c.index_mut.result.now _ before.dealt
-        (ap (λ ps. slice_get ps c.loop-pass.at) (sym all) ∙ ap (slice_get (c.loop-pass.yielded ++ c.in-Some.pass ∷ rest)) before.at ∙ get_seam c.loop-pass.yielded rest c.in-Some.pass)
-        (slice_get-get_or c.loop-pass.callers.items c.loop-pass.at c.index_mut.result.now within ∙ ap Some (sym c.index_mut.ensures.value))
-        (record { number = refl; jobs = refl; hand = c.in_ok-push.ensures.items });
+          (ap (λ ps. slice_get ps c.loop-pass.at) (sym all) ∙ ap (slice_get (c.loop-pass.yielded ++ c.in-Some.pass ∷ rest)) before.at ∙ get_seam c.loop-pass.yielded rest c.in-Some.pass)
+          (slice_get-get_or c.loop-pass.callers.items c.loop-pass.at c.index_mut.result.now within ∙ ap Some (sym c.index_mut.ensures.value))
+          (record { number = refl; jobs = refl; hand = c.in_ok-push.ensures.items });
     }
 
 pub returns : goal.returns

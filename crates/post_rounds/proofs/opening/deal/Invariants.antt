@@ -1,5 +1,5 @@
 -- The first callers have got their passes, and the others are as before.
-use Rattle.std.proofs.Common.{◌≡◌, ◌++◌, ◌≤◌, ℕ, length, slice_get, Some}
+use Rattle.std.proofs.Common.{◌≡◌, ◌++◌, length}
 use Rattle.std.specs.Vec.Iter.{into_iter_items}
 use Rattle.post_rounds.specs.Hands.{DealtTo}
 use Rattle.post_rounds.proofs.opening.deal.Given as goal

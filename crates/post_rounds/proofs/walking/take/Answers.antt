@@ -1,7 +1,6 @@
 -- One act, behind the looks.
-use Rattle.std.proofs.Common.{◌≡◌, ◌<◌, length, map, refl, sym, ap, ◌∙◌, subst, arith}
+use Rattle.std.proofs.Common.{◌<◌, length, map, refl, sym, ◌∙◌, subst, arith}
 use Rattle.std.proofs.lemmas.List.{length-map}
-use Rattle.post_rounds.specs.declared.sight.Sight.{Sight}
 use Rattle.post_turn.specs.History.{replay}
 use Rattle.post_turn.specs.Passes.{Acts, start_of}
 use Rattle.post_rounds.specs.Rounds.{sense}
