@@ -32,7 +32,7 @@ fn acts<R: Wait, G: Gate>(
 }
 
 /// The end of a post at which each caller acts so often, in a thread of its own.
-fn raced<R: Wait + Threads + Sync, G: Gate>(
+fn raced<R: Wait + Threads + Sync, G: Gate + Sync>(
     rt: &R,
     alloc: Global,
     callers: u32,
@@ -53,7 +53,7 @@ fn raced<R: Wait + Threads + Sync, G: Gate>(
 }
 
 /// Each caller's calls stand once and in order in the history that all make together.
-pub fn check<R: Wait + Threads + Abort + Sync, G: Gate>(
+pub fn check<R: Wait + Threads + Abort + Sync, G: Gate + Sync>(
     rt: &R,
     alloc: Global,
     callers: u32,
