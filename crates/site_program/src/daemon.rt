@@ -13,7 +13,7 @@ use site_edge::{Files, Sink, World};
 use site_load::config_answer;
 use site_phases::Answer;
 use site_replies::diagnoses;
-use site_run::{Status, write_log};
+use site_run::{OneWorker, Status, write_log};
 use std::alloc::Global;
 
 /// Writes the log of the world's turns over the site that the files from the root on make, or why there is none. No turn is taken and
@@ -40,7 +40,7 @@ pub fn watch<F: Files, W: World, S: Sink>(
     ensures calm_world { W.calm world.old → result ≢ Status.WorldFault }
 {
     match config_answer(alloc, files, root) {
-        Ok(Answer::Site(site)) => write_log(alloc, style, site, world, out, MOST_TURNS),
+        Ok(Answer::Site(site)) => write_log(alloc, &OneWorker, style, site, world, out, MOST_TURNS),
         Ok(Answer::Diags { files, list }) => {
             write_made(diagnoses(alloc, &files, list.as_slice()), out)
         }

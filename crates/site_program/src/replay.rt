@@ -18,7 +18,7 @@ use site_load::config_answer;
 use site_model::Site;
 use site_phases::Answer;
 use site_replies::{bad_script, diagnoses, no_script};
-use site_run::{ScriptWorld, Status, write_log};
+use site_run::{OneWorker, ScriptWorld, Status, write_log};
 use site_text::{ScriptError, read_script};
 use std::alloc::Global;
 
@@ -103,6 +103,7 @@ fn replay_bytes<S: Sink>(
     match turns_of(alloc, bytes) {
         Ok(turns) => write_log(
             alloc,
+            &OneWorker,
             style,
             site,
             &mut ScriptWorld::new(turns),
