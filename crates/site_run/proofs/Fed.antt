@@ -16,7 +16,7 @@ use Rattle.site_model.specs.PlainSite.{PlainSite, site_view}
 use Rattle.turn_engine.specs.Orders.{command_of}
 use Rattle.turn_engine.specs.Stages.{Running, Tells, basis_of_site, stage_of}
 use Rattle.turn_engine.specs.declared.turn_out.TurnOut.{TurnOut}
-use Rattle.site_run.specs.Callers.{Takes}
+use Rattle.turn_engine.specs.Stages.{TellsTurn}
 use Rattle.site_run.specs.Courses.{course_alone, course_of}
 use Rattle.site_run.specs.Feeds.{Changing, Giving, basis_fed, feed_after, feed_of, lines_fed}
 
@@ -85,7 +85,7 @@ module _ {F : Type 0} (s : PlainSite) (zone : Option Tzif) (gives : Giving F) (a
 
 -- A turn of one caller is one of so many.
 
-pub takes_alone : {E : Type 0} (r : Result TurnOut E) (b : Basis) (st : Stage) (t : ReadTurn) (l : TurnLog) (next : Stage) → IfOk r (λ out. Tells out l) → OnOk r (IsTurn b 1 st t l) → OnOk r (next ≡ stage_after b st t l) → IfOk r (λ out. Takes b 1 st t out next)
+pub takes_alone : {E : Type 0} (r : Result TurnOut E) (b : Basis) (st : Stage) (t : ReadTurn) (l : TurnLog) (next : Stage) → IfOk r (λ out. Tells out l) → OnOk r (IsTurn b 1 st t l) → OnOk r (next ≡ stage_after b st t l) → IfOk r (λ out. TellsTurn b 1 st t out next)
 takes_alone (Ok out) b st t l next tells is after = record { log = l; tells = tells; is = is; after = after }
 takes_alone (Err e) b st t l next tells is after = tt
 

@@ -1,25 +1,15 @@
 -- So many callers take the events of a turn.
 use Rattle.std.specs.Prelude.{◌≡◌, ◌≤◌, ℕ, List, [], ◌∷◌}
-use Rattle.run_meaning.specs.Runs.{Basis, IsTurn, Stage, TurnLog, stage_after}
-use Rattle.run_meaning.specs.Turns.{ReadTurn}
+use Rattle.run_meaning.specs.Runs.{Stage, TurnLog}
 use Rattle.run_text.specs.LogText.{turn_lines}
 use Rattle.site_edge.specs.declared.order.Order.{Order}
 use Rattle.site_edge.specs.declared.turn.Turn.{Turn}
-use Rattle.turn_engine.specs.Stages.{Tells}
-use Rattle.turn_engine.specs.declared.turn_out.TurnOut.{TurnOut}
 use Rattle.site_run.specs.Courses.{Course, IsNextLog, behind_over}
 use Rattle.site_run.specs.Starts.{started_of}
 
 -- at least one, and no more than 64
 abbrev pub AreCallers : ℕ → Type 0
 AreCallers callers = (1 ≤ callers) × (callers ≤ 64)
-
--- a turn of so many callers as it is told, and the stage behind it
-pub record Takes (b : Basis) (callers : ℕ) (st : Stage) (t : ReadTurn) (out : TurnOut) (next : Stage) : Type 0 where
-  pub log : TurnLog
-  pub tells : Tells out log
-  pub is : IsTurn b callers st t log
-  pub after : next ≡ stage_after b st t log
 
 -- the next turn of a run with so many callers, by its lines, the orders that are started of it, and the stage behind it
 pub record IsTaken (callers : ℕ) (c : Course) (t : Turn) (lines : List (List ℕ)) (orders : List Order) (next : Stage) : Type 0 where

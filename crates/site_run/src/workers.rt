@@ -4,8 +4,8 @@ ghost use Rattle.run_meaning.specs.Runs.{begun_by};
 ghost use Rattle.run_meaning.specs.Turns.{Begun};
 ghost use Rattle.run_text.specs.TurnReading.{turn_read};
 ghost use Rattle.site_model.specs.PlainSite.{site_view};
-ghost use Rattle.turn_engine.specs.Stages.{basis_of_site, stage_of};
-ghost use Rattle.site_run.specs.Callers.{AreCallers, Takes};
+ghost use Rattle.turn_engine.specs.Stages.{TellsTurn, basis_of_site, stage_of};
+ghost use Rattle.site_run.specs.Callers.{AreCallers};
 
 use site_base::OutOfMemory;
 use site_edge::Turn;
@@ -26,7 +26,7 @@ pub trait Workers {
         requires fresh { engine.old.spent ≡ false }
         requires few { engine.old.run.turns < 2 ^ 40 }
         ensures turn { (begun : List Begun) →
-            IfOk result (λ out. Takes (basis_of_site (site_view engine.old.run.site) engine.old.run.zone) (callers self.now) (stage_of engine.old.run begun) (turn_read (site_view engine.old.run.site) turn.now) out (stage_of engine.new.run (begun_by (stage_of engine.old.run begun) engine.new.run.moment))) }
+            IfOk result (λ out. TellsTurn (basis_of_site (site_view engine.old.run.site) engine.old.run.zone) (callers self.now) (stage_of engine.old.run begun) (turn_read (site_view engine.old.run.site) turn.now) out (stage_of engine.new.run (begun_by (stage_of engine.old.run begun) engine.new.run.moment))) }
         ensures site { OnOk result (engine.new.run.site ≡ engine.old.run.site) }
         ensures zone { OnOk result (engine.new.run.zone ≡ engine.old.run.zone) }
         ensures fresh { OnOk result (engine.new.spent ≡ false) };

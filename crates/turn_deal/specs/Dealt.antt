@@ -1,13 +1,11 @@
 -- The plain values of what is dealt.
-use Rattle.std.specs.Prelude.{ℕ, List, Vec, map}
-use Rattle.std.specs.declared.alloc.Global.{Global}
+use Rattle.std.specs.Prelude.{ℕ, List}
 use Rattle.check_plan.specs.Plans.{Plan}
 use Rattle.event_text.specs.Faults.{fault_name}
 use Rattle.run_meaning.specs.Dealing as dealing
 use Rattle.run_meaning.specs.Turns.{Asked, Outstanding}
 use Rattle.site_model.specs.declared.event.Event.TheVariants as event
 use Rattle.site_posts.specs.Made.{asked_of}
-use Rattle.site_posts.specs.declared.act.Act.{Act}
 use Rattle.turn_deal.specs.declared.dealt.ReportAct.{ReportAct}
 use Rattle.turn_deal.specs.declared.refusal.Refusal.{Refusal}
 use Rattle.turn_deal.specs.declared.refusal.Refusal.TheVariants as refusal
@@ -18,10 +16,6 @@ refusal_of (refusal.Report order) = dealing.refused_report order
 
 abbrev pub taken_of : ReportAct → dealing.Taken
 taken_of r = record { order = r.order; asked = asked_of r.act }
-
--- what a caller takes by its list
-abbrev pub asked_in : Vec Act Global → List Asked
-asked_in acts = map asked_of acts.items
 
 abbrev pub tick_of : ℕ → Asked
 tick_of k = record { checkable = k; event = event.Tick }

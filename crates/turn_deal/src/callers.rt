@@ -3,7 +3,8 @@ ghost use Rattle.std.specs.Prelude.{◌≡◌, ◌<◌, ◌≤◌, ◌++◌, ◌
 ghost use Rattle.run_meaning.specs.Dealing.{dealt, goes_to, lines_to};
 ghost use Rattle.run_meaning.specs.Turns.{from_on, of_index};
 ghost use Rattle.site_posts.specs.Made.{asked_of};
-ghost use Rattle.turn_deal.specs.Dealt.{asked_in, taken_of};
+ghost use Rattle.site_posts.specs.Many.{asked_in};
+ghost use Rattle.turn_deal.specs.Dealt.{taken_of};
 
 use crate::dealt::{Acts, ReportAct};
 use site_base::OutOfMemory;

@@ -22,10 +22,10 @@ use Rattle.run_text.specs.TurnReading.{lines_read, report_read}
 use Rattle.turn_deal.specs.Dealt.{refusal_of, taken_of, tick_of, with_outstanding}
 use Rattle.turn_deal.specs.declared.dealt.Dealt.{Dealt}
 use Rattle.turn_deal.proofs.ByCaller.{many_numbers}
-use Rattle.turn_engine.specs.Many.{IsRoundOf}
+use Rattle.site_posts.specs.Many.{IsRoundOf}
 use Rattle.turn_engine.specs.Midst.{Deals, IsOpen, IsRounded, basis_at, read_at, stage_at, told_at}
 use Rattle.turn_engine.specs.Ready.{IsReady, running}
-use Rattle.turn_engine.specs.Stages.{Takes, stage_of}
+use Rattle.turn_engine.specs.Stages.{TellsTurn, stage_of}
 use Rattle.turn_engine.specs.declared.turn_out.TurnOut.{TurnOut}
 use Rattle.turn_engine.specs.declared.works.Works.{Works}
 use Rattle.turn_engine.proofs.OnSite.{both_on_site, dealt_on_site, lines_on_site, reports_on_site, ticks_on_site}
@@ -156,7 +156,7 @@ module _ {old : Works} {turn : Turn} {m : ℕ} {d : Dealt} {w : Works} (h : IsOp
 
   -- what it tells of what it began with
   pub taken_so : {E : Type 0} (r : Result TurnOut E) (callers : ℕ) (begun : List Begun) (new : Works)
-      → IfOk r (λ out. Takes (basis_at began) callers (stage_of (running began) begun) (read_at began turn) out (stage_of (running new) (begun_by (stage_of (running began) begun) new.moment)))
-      → IfOk r (λ out. Takes (basis_at old) callers (stage_of (running old) begun) (read_at old turn) out (stage_of (running new) (begun_by (stage_of (running old) begun) new.moment)))
+      → IfOk r (λ out. TellsTurn (basis_at began) callers (stage_of (running began) begun) (read_at began turn) out (stage_of (running new) (begun_by (stage_of (running began) begun) new.moment)))
+      → IfOk r (λ out. TellsTurn (basis_at old) callers (stage_of (running old) begun) (read_at old turn) out (stage_of (running new) (begun_by (stage_of (running old) begun) new.moment)))
   taken_so r callers begun new is =
-      subst (λ v. IfOk r (λ out. Takes (basis_at v) callers (stage_of (running v) begun) (read_at v turn) out (stage_of (running new) (begun_by (stage_of (running v) begun) new.moment)))) h.others is
+      subst (λ v. IfOk r (λ out. TellsTurn (basis_at v) callers (stage_of (running v) begun) (read_at v turn) out (stage_of (running new) (begun_by (stage_of (running v) begun) new.moment)))) h.others is

@@ -25,7 +25,7 @@ use Rattle.turn_deal.specs.declared.refusal.Refusal.{Refusal}
 use Rattle.turn_engine.specs.Midst.{CanSettle, IsRounded, basis_at, begun_with, read_at, stage_at, told_at}
 use Rattle.turn_engine.specs.Orders.{command_of, order_as}
 use Rattle.turn_engine.specs.Ready.{running}
-use Rattle.turn_engine.specs.Stages.{Takes, stage_of}
+use Rattle.turn_engine.specs.Stages.{TellsTurn, stage_of}
 use Rattle.turn_engine.specs.declared.turn_out.TurnOut.{TurnOut}
 use Rattle.turn_engine.specs.declared.works.Works.{Works}
 
@@ -149,7 +149,7 @@ module _ {old : Works} {callers : ℕ} {turn : Turn} {m : ℕ} {refusals : List 
     pub takes : (begun : List Begun) (out : TurnOut) (due : List Reported)
         → out.number ≡ old.turns + 1 → out.moment ≡ m → out.refusals.items ≡ refusals → out.segments ≡ segments
         → map order_as out.orders.items ≡ map (ordered_as (command_of s)) ordered → due ≡ due_of (map (ordered_as (command_of s)) ordered)
-        → Takes b callers (stage_of (running old) begun) t out (stage_with (histories_of books) after due (begun_by (stage_of (running old) begun) m))
+        → TellsTurn b callers (stage_of (running old) begun) t out (stage_with (histories_of books) after due (begun_by (stage_of (running old) begun) m))
     takes begun out due number moment refused told_so orders late = record {
       log = log;
       tells = record {

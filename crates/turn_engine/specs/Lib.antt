@@ -2,5 +2,4 @@ pub mod Checkables
 pub mod Orders
 pub mod Stages
 pub mod Ready
-pub mod Many
 pub mod Midst

@@ -16,7 +16,7 @@ use Rattle.run_text.specs.TurnReading.{lines_read, turn_read}
 use Rattle.turn_deal.specs.Dealt.{refusal_of, taken_of, with_outstanding}
 use Rattle.turn_deal.specs.declared.dealt.Dealt.{Dealt}
 use Rattle.turn_deal.specs.declared.refusal.Refusal.{Refusal}
-use Rattle.turn_engine.specs.Many.{IsRoundOf}
+use Rattle.site_posts.specs.Many.{IsRoundOf}
 use Rattle.turn_engine.specs.Ready.{IsReady, running}
 use Rattle.turn_engine.specs.Stages.{basis_of_site, stage_of}
 use Rattle.turn_engine.specs.declared.works.Works.{Works}

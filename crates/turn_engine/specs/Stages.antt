@@ -41,7 +41,7 @@ pub record Tells (out : TurnOut) (l : TurnLog) : Type 0 where
   pub ordered : map order_as out.orders.items ≡ l.orders
 
 -- a turn of so many callers as it is told, and the stage behind it
-pub record Takes (b : Basis) (callers : ℕ) (st : Stage) (t : ReadTurn) (out : TurnOut) (next : Stage) : Type 0 where
+pub record TellsTurn (b : Basis) (callers : ℕ) (st : Stage) (t : ReadTurn) (out : TurnOut) (next : Stage) : Type 0 where
   pub log : TurnLog
   pub tells : Tells out log
   pub is : IsTurn b callers st t log

@@ -8,7 +8,7 @@ ghost use Rattle.run_meaning.specs.Turns.{Begun};
 ghost use Rattle.site_edge.specs.declared.turn.Turn.{Turn};
 ghost use Rattle.turn_engine.specs.Midst.{CanSettle, IsRounded, basis_at, begun_with, read_at};
 ghost use Rattle.turn_engine.specs.Ready.{IsReady, running};
-ghost use Rattle.turn_engine.specs.Stages.{Takes, stage_of};
+ghost use Rattle.turn_engine.specs.Stages.{TellsTurn, stage_of};
 
 use crate::starting::start;
 use crate::turn_out::TurnOut;
@@ -27,7 +27,7 @@ pub(crate) fn settle(
 ) -> Result<TurnOut, OutOfMemory>
     requires { CanSettle moment segments works.old }
     ensures takes { (plan : Plan) (books : Vec Contents Global) (callers : ℕ) (turn : Turn) (begun : List Begun) → IsRounded (begun_with plan books works.old) callers turn moment refusals.items segments works.old.plan works.old.books.items →
-        IfOk result (λ out. Takes (basis_at works.old) callers (stage_of (running (begun_with plan books works.old)) begun) (read_at works.old turn) out (stage_of (running works.new) (begun_by (stage_of (running (begun_with plan books works.old)) begun) works.new.moment))) }
+        IfOk result (λ out. TellsTurn (basis_at works.old) callers (stage_of (running (begun_with plan books works.old)) begun) (read_at works.old turn) out (stage_of (running works.new) (begun_by (stage_of (running (begun_with plan books works.old)) begun) works.new.moment))) }
     ensures ready { (plan : Plan) (books : Vec Contents Global) (callers : ℕ) (turn : Turn) → IsRounded (begun_with plan books works.old) callers turn moment refusals.items segments works.old.plan works.old.books.items →
         OnOk result (IsReady works.new) }
     ensures site { OnOk result (works.new.site ≡ works.old.site) }

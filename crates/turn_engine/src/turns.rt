@@ -4,7 +4,7 @@ ghost use Rattle.run_meaning.specs.Runs.{begun_by};
 ghost use Rattle.run_meaning.specs.Turns.{Begun};
 ghost use Rattle.turn_engine.specs.Midst.{IsOpen, basis_at, read_at};
 ghost use Rattle.turn_engine.specs.Ready.{IsReady, running};
-ghost use Rattle.turn_engine.specs.Stages.{Takes, stage_of};
+ghost use Rattle.turn_engine.specs.Stages.{TellsTurn, stage_of};
 
 use crate::moments::later_of;
 use crate::settling::settle;
@@ -20,7 +20,7 @@ pub(crate) fn take_alone(works: &mut Works, turn: &Turn) -> Result<TurnOut, OutO
     requires ready { IsReady works.old }
     requires few { works.old.turns < 2 ^ 40 }
     ensures takes { (begun : List Begun) →
-        IfOk result (λ out. Takes (basis_at works.old) 1 (stage_of (running works.old) begun) (read_at works.old turn.now) out (stage_of (running works.new) (begun_by (stage_of (running works.old) begun) works.new.moment))) }
+        IfOk result (λ out. TellsTurn (basis_at works.old) 1 (stage_of (running works.old) begun) (read_at works.old turn.now) out (stage_of (running works.new) (begun_by (stage_of (running works.old) begun) works.new.moment))) }
     ensures ready { OnOk result (IsReady works.new) }
     ensures site { OnOk result (works.new.site ≡ works.old.site) }
     ensures zone { OnOk result (works.new.zone ≡ works.old.zone) }

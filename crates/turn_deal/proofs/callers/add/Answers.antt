@@ -2,7 +2,7 @@
 use Rattle.std.proofs.Common.{[], ◌∷◌, map, ap, ◌∙◌}
 use Rattle.std.proofs.lemmas.List.{map-append}
 use Rattle.site_posts.specs.Made.{asked_of}
-use Rattle.turn_deal.specs.Dealt.{asked_in}
+use Rattle.site_posts.specs.Many.{asked_in}
 use Rattle.turn_deal.proofs.ByCaller.{act_added}
 use Rattle.turn_deal.proofs.callers.add.Goals as goal
 

@@ -2,7 +2,8 @@
 use Rattle.std.proofs.Common.{◌≡◌, ◌<◌, ◌%◌, ◌∷◌, ◌++◌, [], length, map, set, sym, ap, subst, arith}
 use Rattle.std.proofs.lemmas.Nat.{mod_below}
 use Rattle.run_meaning.specs.Turns.{of_index}
-use Rattle.turn_deal.specs.Dealt.{asked_in, taken_of}
+use Rattle.site_posts.specs.Many.{asked_in}
+use Rattle.turn_deal.specs.Dealt.{taken_of}
 use Rattle.turn_deal.proofs.ByCaller.{one_given}
 use Rattle.turn_deal.proofs.callers.deal_reports.Goals as goal
 

@@ -1,7 +1,8 @@
 -- The lists, with what each caller takes of the reports that are left, come to what they have to.
 use Rattle.std.proofs.Common.{length, map}
 use Rattle.std.specs.Vec.Iter.{into_iter_items}
-use Rattle.turn_deal.specs.Dealt.{asked_in, taken_of}
+use Rattle.site_posts.specs.Many.{asked_in}
+use Rattle.turn_deal.specs.Dealt.{taken_of}
 use Rattle.turn_deal.proofs.ByCaller.{AreGiven}
 use Rattle.turn_deal.proofs.callers.deal_reports.Given as goal
 

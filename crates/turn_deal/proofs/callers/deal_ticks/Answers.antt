@@ -3,7 +3,7 @@ use Rattle.std.proofs.Common.{◌≡◌, ◌<◌, ◌%◌, ◌∷◌, ◌++◌, 
 use Rattle.std.proofs.lemmas.Nat.{mod_below}
 use Rattle.run_meaning.specs.Turns.{of_index}
 use Rattle.site_posts.specs.Made.{asked_of}
-use Rattle.turn_deal.specs.Dealt.{asked_in}
+use Rattle.site_posts.specs.Many.{asked_in}
 use Rattle.turn_deal.proofs.ByCaller.{one_given}
 use Rattle.turn_deal.proofs.callers.deal_ticks.Goals as goal
 

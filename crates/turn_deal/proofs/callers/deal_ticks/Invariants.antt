@@ -2,7 +2,7 @@
 use Rattle.std.proofs.Common.{length, map}
 use Rattle.std.specs.Vec.Iter.{into_iter_items}
 use Rattle.site_posts.specs.Made.{asked_of}
-use Rattle.turn_deal.specs.Dealt.{asked_in}
+use Rattle.site_posts.specs.Many.{asked_in}
 use Rattle.turn_deal.proofs.ByCaller.{AreGiven}
 use Rattle.turn_deal.proofs.callers.deal_ticks.Given as goal
 

@@ -3,7 +3,7 @@ use Rattle.std.proofs.Common.{◌≡◌, map}
 use Rattle.run_meaning.specs.Dealing.{lines_to}
 use Rattle.run_meaning.specs.Turns.{from_on}
 use Rattle.site_posts.specs.Made.{asked_of}
-use Rattle.turn_deal.specs.Dealt.{asked_in}
+use Rattle.site_posts.specs.Many.{asked_in}
 use Rattle.turn_deal.proofs.callers.lists_with.Given as goal
 
 abbrev pub invariant-loop-caller : goal.invariant-loop-caller

@@ -4,7 +4,8 @@ use Rattle.run_meaning.proofs.Lists.{length_map}
 use Rattle.run_meaning.specs.Dealing.{goes_to, lines_to}
 use Rattle.run_meaning.specs.Turns.{from_on, of_index}
 use Rattle.site_posts.specs.Made.{asked_of}
-use Rattle.turn_deal.specs.Dealt.{asked_in, taken_of}
+use Rattle.site_posts.specs.Many.{asked_in}
+use Rattle.turn_deal.specs.Dealt.{taken_of}
 use Rattle.turn_deal.proofs.ByCaller.{all_dealt, many_numbers}
 use Rattle.turn_deal.proofs.dealt.Acts.for_many.Goals as goal
 
