@@ -4,7 +4,7 @@ ghost use Rattle.object_types.specs.Names.{attribute_name};
 
 /// An attribute that some type of objects has, whatever the type. Each is written as its name in small letters, with
 /// `_` between its parts: `CheckCommand` is `check_command`.
-#[derive(Clone, Copy, Debug, PartialEq, Eq)]
+#[derive(Clone, Copy, PartialEq, Eq)]
 pub enum Attribute {
     ActionUrl,
     Address,

@@ -3,7 +3,7 @@ ghost use Rattle.std.specs.Prelude.{◌≡◌, Some, IfSome};
 ghost use Rattle.object_types.specs.Names.{type_name, type_among, type_named, is_inert, wave_of};
 
 /// A type of objects, by its name in the configuration (Icinga 2 documentation, chapter "Object Types").
-#[derive(Clone, Copy, Debug, PartialEq, Eq)]
+#[derive(Clone, Copy, PartialEq, Eq)]
 pub enum ObjectType {
     Host,
     Service,

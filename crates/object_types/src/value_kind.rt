@@ -2,7 +2,7 @@
 use crate::{Attribute, ObjectType};
 
 /// What a value has to be. Null is no value, whatever the attribute.
-#[derive(Clone, Copy, Debug, PartialEq, Eq)]
+#[derive(Clone, Copy, PartialEq, Eq)]
 pub enum ValueKind {
     /// A string.
     Text,
@@ -34,7 +34,7 @@ pub enum ValueKind {
 }
 
 /// What holds where an attribute isn't set.
-#[derive(Clone, Copy, Debug, PartialEq, Eq)]
+#[derive(Clone, Copy, PartialEq, Eq)]
 pub enum Unset {
     /// The object is refused.
     Missing,

@@ -8,7 +8,7 @@ use crate::{OutOfMemory, Text};
 use std::marker::Model;
 
 /// A number, kept as a whole number of thousandths. Clauses see it as that whole number.
-#[derive(Clone, Copy, Debug, PartialEq, Eq, PartialOrd, Ord)]
+#[derive(Clone, Copy, PartialEq, Eq, PartialOrd, Ord)]
 pub struct Num {
     thousandths: i64,
 }

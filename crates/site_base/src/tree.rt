@@ -6,7 +6,6 @@ use crate::{Num, Text};
 use std::mem;
 
 /// A value of an object's attribute, and an object's attributes as a whole.
-#[derive(Debug)]
 pub enum Tree {
     Null,
     Bool(bool),
