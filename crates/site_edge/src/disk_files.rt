@@ -2,6 +2,7 @@
 ghost use Rattle.std.specs.Prelude.{◌≡◌, ◌≤◌, None, OnOk, OnErr};
 ghost use Rattle.site_edge.specs.Told.{Rose};
 
+use crate::disk_fault::{DiskFault, Unread};
 use crate::folder::folder_prefix;
 use crate::{FileFault, Files};
 use site_base::{Blob, Row, Text, Texts};
@@ -30,6 +31,7 @@ const MAX_LEVELS: u32 = 100;
 pub struct DiskFiles<R: std::rt::Files + AllocGlobal + Clone + Drop> {
     rt: R,
     faults: u64,
+    unread: Option<Unread>,
 }
 
 /// A folder that is still to be listed.
@@ -43,20 +45,36 @@ impl<R: std::rt::Files + AllocGlobal + Clone + Drop> DiskFiles<R> {
     pub fn new(rt: R) -> DiskFiles<R>
         ensures { ⟦<DiskFiles<R> as Files>⟧.faults result ≡ 0 }
     {
-        DiskFiles { rt, faults: 0 }
+        DiskFiles {
+            rt,
+            faults: 0,
+            unread: None,
+        }
     }
 
-    /// Counts an error.
-    fn counted<T>(&mut self, answer: Result<T, FileFault>) -> Result<T, FileFault>
-        ensures same { result ≡ answer }
-        ensures rises { OnErr answer (Rose self.old.faults self.new.faults) }
+    /// What could not be read or listed last, and why; `None` if all could, or if there was no memory for it.
+    pub fn unread(&self) -> Option<&Unread> {
+        self.unread.as_ref()
+    }
+
+    /// Counts an error, and keeps why it came.
+    fn counted<T>(&mut self, name: &str, answer: Result<T, DiskFault>) -> Result<T, FileFault>
+        ensures rises { OnErr result (Rose self.old.faults self.new.faults) }
         ensures counts { self.old.faults ≤ self.new.faults }
-        ensures quiet { OnOk answer (self.new.faults ≡ self.old.faults) }
+        ensures quiet { OnOk result (self.new.faults ≡ self.old.faults) }
     {
-        if answer.is_err() {
-            self.faults = self.faults.saturating_add(1);
+        match answer {
+            Ok(value) => Ok(value),
+            Err(DiskFault::OutOfMemory) => {
+                self.faults = self.faults.saturating_add(1);
+                Err(FileFault::OutOfMemory)
+            }
+            Err(fault) => {
+                self.faults = self.faults.saturating_add(1);
+                self.unread = fault.of(self.rt.alloc(), name);
+                Err(FileFault::Failed)
+            }
         }
-        answer
     }
 }
 
@@ -71,12 +89,12 @@ impl<R: std::rt::Files + AllocGlobal + Clone + Drop> Files for DiskFiles<R> {
 
     fn read(&mut self, name: &str) -> Result<Option<Blob>, FileFault> {
         let answer = read_whole(&self.rt, name);
-        self.counted(answer)
+        self.counted(name, answer)
     }
 
     fn names(&mut self, dir: &str) -> Result<Texts, FileFault> {
         let answer = list_files(&self.rt, dir);
-        self.counted(answer)
+        self.counted(dir, answer)
     }
 }
 
@@ -96,16 +114,16 @@ fn is_missing(kind: ErrorKind) -> bool {
 fn read_whole<R: std::rt::Files + AllocGlobal>(
     rt: &R,
     name: &str,
-) -> Result<Option<Blob>, FileFault> {
+) -> Result<Option<Blob>, DiskFault> {
     let file = match fs::open(rt, name) {
         Ok(file) => file,
         Err(error) if is_missing(error.kind()) => return Ok(None),
-        Err(error) => return Err(FileFault::from(error)),
+        Err(error) => return Err(DiskFault::from(error)),
     };
     let mut bytes = Vec::new(rt.alloc());
     let _ = file.take(MAX_BYTES + 1).read_to_end(&mut bytes)?;
     if bytes.len() as u64 > MAX_BYTES {
-        return Err(FileFault::Failed);
+        return Err(DiskFault::too_much("it has more than 1 GiB"));
     }
     Ok(Some(Blob::from(bytes)))
 }
@@ -114,7 +132,7 @@ fn read_whole<R: std::rt::Files + AllocGlobal>(
 fn list_files<R: std::rt::Files + AllocGlobal + Clone + Drop>(
     rt: &R,
     dir: &str,
-) -> Result<Texts, FileFault> {
+) -> Result<Texts, DiskFault> {
     let alloc = rt.alloc();
     let mut names = Vec::new(alloc);
     let mut folders = Vec::new(alloc);
@@ -138,7 +156,7 @@ fn list_folder<R: std::rt::Files + AllocGlobal + Clone + Drop>(
     folder: &Folder,
     names: &mut Vec<Text>,
     folders: &mut Vec<Folder>,
-) -> Result<(), FileFault> {
+) -> Result<(), DiskFault> {
     let prefix = folder_prefix(rt.alloc(), folder.path.as_str())?;
     let path = if prefix.is_empty() {
         "."
@@ -148,7 +166,7 @@ fn list_folder<R: std::rt::Files + AllocGlobal + Clone + Drop>(
     let entries = match fs::read_dir(rt, path) {
         Ok(entries) => entries,
         Err(error) if is_missing(error.kind()) => return Ok(()),
-        Err(error) => return Err(FileFault::from(error)),
+        Err(error) => return Err(DiskFault::from(error)),
     };
     for entry in entries {
         let mut path = prefix.clone()?;
@@ -165,11 +183,11 @@ fn list_entry<R: std::rt::Files>(
     level: u32,
     names: &mut Vec<Text>,
     folders: &mut Vec<Folder>,
-) -> Result<(), FileFault> {
+) -> Result<(), DiskFault> {
     let is_file = match fs::metadata(rt, path.as_str()) {
         Ok(metadata) if metadata.is_dir() => {
             if level >= MAX_LEVELS {
-                return Err(FileFault::Failed);
+                return Err(DiskFault::too_much("it has more than 100 levels of folders"));
             }
             folders.push(Folder {
                 path,
@@ -179,11 +197,11 @@ fn list_entry<R: std::rt::Files>(
         }
         Ok(metadata) => metadata.is_file(),
         Err(error) if is_missing(error.kind()) => true,
-        Err(error) => return Err(FileFault::from(error)),
+        Err(error) => return Err(DiskFault::from(error)),
     };
     if is_file {
         if names.len() >= MAX_FILES {
-            return Err(FileFault::Failed);
+            return Err(DiskFault::too_much("it has more than 1,000,000 files"));
         }
         names.push(path)?;
     }

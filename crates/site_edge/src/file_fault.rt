@@ -1,8 +1,6 @@
 // Why files were not read.
 use site_base::OutOfMemory;
 use std::alloc::{AllocError, AllocFailed};
-use std::io;
-use std::io::ErrorKind;
 use thiserror::Error;
 
 /// Why a file was not read, or a folder not listed.
@@ -45,14 +43,5 @@ impl<T: Drop> From<AllocFailed<T>> for FileFault {
 
     fn from(_: AllocFailed<T>) -> Self {
         FileFault::OutOfMemory
-    }
-}
-
-impl From<io::Error> for FileFault {
-    fn from(error: io::Error) -> Self {
-        match error.kind() {
-            ErrorKind::OutOfMemory => FileFault::OutOfMemory,
-            _ => FileFault::Failed,
-        }
     }
 }

@@ -3,6 +3,7 @@
 //! and to its count of faults, with one implementation in memory and one over the real thing.
 #![tactic(auto)]
 
+mod disk_fault;
 mod disk_files;
 mod file_fault;
 mod files;
@@ -20,6 +21,7 @@ mod turn;
 mod world;
 mod world_error;
 
+pub use disk_fault::Unread;
 pub use disk_files::DiskFiles;
 pub use file_fault::FileFault;
 pub use files::Files;
