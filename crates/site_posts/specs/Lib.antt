@@ -2,4 +2,6 @@ pub mod Books
 pub mod Sights
 pub mod Segments
 pub mod Made
+pub mod Outlooks
+pub mod Lent
 pub mod Many
