@@ -69,6 +69,7 @@ pub fn drive_part<W: World, S: Sink, F: Feed, C: Workers>(
     limit: u64,
 ) -> Status
     requires callers { AreCallers (C.callers workers.now) }
+    requires apt { C.apt workers.now }
     requires fresh { engine.old.spent ≡ false }
     requires few { engine.old.run.turns + limit ≤ 2 ^ 40 }
     requires sound { IsSound (site_view engine.old.run.site) }
@@ -105,6 +106,7 @@ fn drive_turns<W: World, S: Sink, F: Feed, C: Workers>(
     limit: u64,
 ) -> Result<Status, Stop>
     requires callers { AreCallers (C.callers workers.now) }
+    requires apt { C.apt workers.now }
     requires fresh { engine.old.spent ≡ false }
     requires few { engine.old.run.turns + limit ≤ 2 ^ 40 }
     requires sound { IsSound (site_view engine.old.run.site) }

@@ -1,6 +1,6 @@
 //! The loop of a run: turn after turn its lines are written and its orders started.
 //!
-//! In reading order: with what a run ends (`status`), what stands before a turn's own lines (`feed`), who takes its events (`workers`), and
+//! In reading order: with what a run ends (`status`), what stands before a turn's own lines (`feed`), who takes its events (`workers`; `many`), and
 //! the world of a script (`script_world`); why a run stops within a turn (`stop`), which orders are started (`starting`), a turn of the
 //! engine (`taking`) and of the whole run (`turning`), and all turns (`driving`); what is known of that (`laws`), and the whole log of a
 //! site (`logs`).
@@ -10,6 +10,7 @@ mod driving;
 mod feed;
 mod laws;
 mod logs;
+mod many;
 mod script_world;
 mod starting;
 mod status;
@@ -25,6 +26,7 @@ pub use laws::{
     runs_write_their_text,
 };
 pub use logs::write_log;
+pub use many::ManyWorkers;
 pub use script_world::ScriptWorld;
 pub use status::Status;
 pub use workers::{OneWorker, Workers};

@@ -39,6 +39,7 @@ pub fn write_log<W: World, S: Sink, C: Workers>(
     limit: u64,
 ) -> Status
     requires callers { AreCallers (C.callers workers.now) }
+    requires apt { C.apt workers.now }
     requires sound { IsSound (site_view site) }
     requires few { length (site_view site).checkables < 2 ^ 32 - 1 }
     requires free { All (λ d. IsOnCycle (site_view site) d → ⊥) (site_view site).depends }

@@ -38,6 +38,7 @@ pub(crate) fn take<F: Feed, C: Workers>(
     turn: Turn,
 ) -> Result<Taken, OutOfMemory>
     requires callers { AreCallers (C.callers workers.now) }
+    requires apt { C.apt workers.now }
     requires fresh { engine.old.spent ≡ false }
     requires few { engine.old.run.turns < 2 ^ 40 }
     requires sound { IsSound (site_view engine.old.run.site) }

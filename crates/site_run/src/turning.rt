@@ -34,6 +34,7 @@ pub(crate) fn drive_turn<W: World, S: Sink, F: Feed, C: Workers>(
     turn: Turn,
 ) -> Result<(), Stop>
     requires callers { AreCallers (C.callers workers.now) }
+    requires apt { C.apt workers.now }
     requires fresh { engine.old.spent ≡ false }
     requires few { engine.old.run.turns < 2 ^ 40 }
     requires sound { IsSound (site_view engine.old.run.site) }

@@ -16,6 +16,9 @@ pub trait Workers {
     /// How many callers they are.
     ghost callers: { Self → ℕ };
 
+    /// What has to hold so that they take turns as `turn` says.
+    ghost apt: { Self → Type 0 };
+
     /// Takes a turn of an engine. They are 1 to 64 callers, the engine isn't spent, and fewer than 2^40 turns were taken of it.
     ///
     /// # Errors
@@ -23,6 +26,7 @@ pub trait Workers {
     /// `OutOfMemory` where there is none for what the turn gives. The engine may be spent then.
     fn turn(&self, engine: &mut Engine, turn: &Turn) -> Result<TurnOut, OutOfMemory>
         requires callers { AreCallers (callers self.now) }
+        requires apt { apt self.now }
         requires fresh { engine.old.spent ≡ false }
         requires few { engine.old.run.turns < 2 ^ 40 }
         ensures turn { (begun : List Begun) →
@@ -32,12 +36,14 @@ pub trait Workers {
         ensures fresh { OnOk result (engine.new.spent ≡ false) };
 }
 
-/// One caller, that of the run itself: no thread is started.
+/// One caller, that of the run itself: no thread is made.
 #[derive(Clone, Copy)]
 pub struct OneWorker;
 
 impl Workers for OneWorker {
     ghost callers = { λ _. 1 };
+
+    ghost apt = { λ _. Unit {0} };
 
     fn turn(&self, engine: &mut Engine, turn: &Turn) -> Result<TurnOut, OutOfMemory> {
         engine.turn_one(turn)

@@ -9,27 +9,30 @@ ghost use Rattle.run_meaning.specs.Turns.{Begun};
 ghost use Rattle.time_range.specs.Zone.{IsBadFile, IsTableOf};
 ghost use Rattle.site_posts.specs.Books.{AreBooks, histories_of};
 ghost use Rattle.run_text.specs.TurnReading.{turn_read};
-ghost use Rattle.turn_engine.specs.Stages.{Tells, basis_of_site, stage_of};
+ghost use Rattle.turn_engine.specs.Stages.{Tells, TellsTurn, basis_of_site, stage_of};
 ghost use Rattle.turn_engine.specs.Checkables.{AreOf};
 ghost use Rattle.turn_engine.specs.Ready.{IsZoneOf};
 
 use crate::books::books_of;
 use crate::moments::greatest_moment_of;
 use crate::turn_out::TurnOut;
-use crate::turns::take_alone;
+use crate::turns::{take_alone, take_by_many};
 use crate::works::Works;
 use check_plan::CheckPlan;
 use checkable_core::Checkable;
 use depend_graph::Graph;
 use lasting_problems::Problems;
+use post_turn::Gate;
 use site_base::{Moment, OutOfMemory};
 use site_edge::Turn;
 use site_model::Site;
 use std::alloc::Global;
 use std::marker::Model;
+use std::sync::Wait;
+use std::thread::Threads;
 use time_range::Zone;
 
-/// The engine of a run with one worker. Clauses see its site with its zone, and how far the run has come, and whether the engine is spent:
+/// The engine of a run. Clauses see its site with its zone, and how far the run has come, and whether the engine is spent:
 /// want of memory may leave a turn half taken.
 #[derive(Drop)]
 pub struct Engine {
@@ -154,6 +157,40 @@ impl Engine {
     {
         self.spent = true;
         let out = take_alone(&mut self.works, turn)?;
+        self.spent = false;
+        Ok(out)
+    }
+
+    /// Takes a turn by so many workers, from 1 to 64, and gives what `turn_one` gives of it. The first worker takes the lines; reports and the
+    /// ticks of problems go round. All workers take theirs at the same time, and each enters the gate inside and outside of each event that it
+    /// takes. With one worker no thread is made, and nobody enters the gate.
+    ///
+    /// # Errors
+    ///
+    /// `OutOfMemory` where there is none for what the turn gives. The engine is spent then.
+    pub fn turn<R: Wait + Threads + Sync, G: Gate + Sync>(
+        &mut self,
+        rt: &R,
+        turn: &Turn,
+        workers: u32,
+        gate: &G,
+    ) -> Result<TurnOut, OutOfMemory>
+        requires fresh { self.old.spent ≡ false }
+        requires few { self.old.run.turns < 2 ^ 40 }
+        requires workers { (1 ≤ workers) × (workers ≤ 64) }
+        ensures turn { (begun : List Begun) →
+            IfOk result (λ out. TellsTurn (basis_of_site (site_view self.old.run.site) self.old.run.zone) workers (stage_of self.old.run begun) (turn_read (site_view self.old.run.site) turn.now) out
+            (stage_of self.new.run (begun_by (stage_of self.old.run begun) self.new.run.moment))) }
+        ensures site { OnOk result (self.new.run.site ≡ self.old.run.site) }
+        ensures zone { OnOk result (self.new.run.zone ≡ self.old.run.zone) }
+        ensures fresh { OnOk result (self.new.spent ≡ false) }
+        ensures spent { OnErr result (self.new.spent ≡ true) }
+    {
+        if workers == 1 {
+            return self.turn_one(turn);
+        }
+        self.spent = true;
+        let out = take_by_many(rt, &mut self.works, turn, workers, gate)?;
         self.spent = false;
         Ok(out)
     }

@@ -1,5 +1,5 @@
-//! The engine of a run with one worker: turn after turn it takes what the world hands in, and tells what is refused, which entries
-//! checkables get, and which checks are ordered.
+//! The engine of a run: turn after turn it takes what the world hands in, by one worker or by many, and tells what is refused, which
+//! entries checkables get, and which checks are ordered.
 //!
 //! In reading order: an order with its words (`order_out`), what a turn gives (`turn_out`), how orders get their words (`starting`),
 //! the checkables without entries (`books`), the greatest moment of entries (`moments`), what the engine keeps (`works`), what follows

@@ -1,5 +1,5 @@
 // One turn of the engine.
-ghost use Rattle.std.specs.Prelude.{◌≡◌, ◌<◌, ◌^◌, List, IfOk, OnOk};
+ghost use Rattle.std.specs.Prelude.{◌≡◌, ◌<◌, ◌≤◌, ◌^◌, List, IfOk, OnOk};
 ghost use Rattle.run_meaning.specs.Runs.{begun_by};
 ghost use Rattle.run_meaning.specs.Turns.{Begun};
 ghost use Rattle.turn_engine.specs.Midst.{IsOpen, basis_at, read_at};
@@ -10,9 +10,12 @@ use crate::moments::later_of;
 use crate::settling::settle;
 use crate::turn_out::TurnOut;
 use crate::works::Works;
+use post_turn::Gate;
 use site_base::{Moment, OutOfMemory};
 use site_edge::Turn;
-use site_posts::round_one;
+use site_posts::{round_many, round_one};
+use std::sync::Wait;
+use std::thread::Threads;
 use turn_deal::{Dealt, deal};
 
 /// Takes a turn by one worker: its lines, the reports of its orders and the ticks of problems make a round, after which checks are ordered.
@@ -35,6 +38,39 @@ pub(crate) fn take_alone(works: &mut Works, turn: &Turn) -> Result<TurnOut, OutO
         &mut works.books,
         moment,
         acts,
+    )?;
+    settle(works, moment, dealt.refusals, segments)
+}
+
+/// Takes a turn by so many workers, each of which takes its share of it at the same time as the others.
+pub(crate) fn take_by_many<R: Wait + Threads + Sync, G: Gate + Sync>(
+    rt: &R,
+    works: &mut Works,
+    turn: &Turn,
+    workers: u32,
+    gate: &G,
+) -> Result<TurnOut, OutOfMemory>
+    requires ready { IsReady works.old }
+    requires few { works.old.turns < 2 ^ 40 }
+    requires workers { (1 ≤ workers) × (workers ≤ 64) }
+    ensures takes { (begun : List Begun) →
+        IfOk result (λ out. TellsTurn (basis_at works.old) workers (stage_of (running works.old) begun) (read_at works.old turn.now) out (stage_of (running works.new) (begun_by (stage_of (running works.old) begun) works.new.moment))) }
+    ensures ready { OnOk result (IsReady works.new) }
+    ensures site { OnOk result (works.new.site ≡ works.old.site) }
+    ensures zone { OnOk result (works.new.zone ≡ works.old.zone) }
+{
+    let (moment, dealt) = deal_turn(works, turn)?;
+    let lists = dealt.acts.for_many(works.alloc, workers)?;
+    let segments = round_many(
+        rt,
+        works.alloc,
+        &works.site,
+        &works.graph,
+        &works.zone,
+        &mut works.books,
+        moment,
+        lists,
+        gate,
     )?;
     settle(works, moment, dealt.refusals, segments)
 }

@@ -1,0 +1,34 @@
+// Several workers.
+ghost use Rattle.std.specs.Prelude.{◌≡◌, ◌<◌, ◌^◌, List, false, IfOk, OnOk};
+ghost use Rattle.run_meaning.specs.Runs.{begun_by};
+ghost use Rattle.run_meaning.specs.Turns.{Begun};
+ghost use Rattle.run_text.specs.TurnReading.{turn_read};
+ghost use Rattle.site_model.specs.PlainSite.{site_view};
+ghost use Rattle.turn_engine.specs.Stages.{TellsTurn, basis_of_site, stage_of};
+ghost use Rattle.site_run.specs.Callers.{AreCallers};
+
+use crate::workers::Workers;
+use site_base::OutOfMemory;
+use site_edge::Turn;
+use turn_engine::{Engine, TurnOut};
+
+/// So many callers at once, each in a thread of its own if several have something to do. A closure takes each turn for them: it has
+/// what threads are made and waited for by.
+#[derive(Drop)]
+pub struct ManyWorkers<T> {
+    pub count: u32,
+    pub take: T,
+}
+
+impl<T: Fn(&mut Engine, &Turn) -> Result<TurnOut, OutOfMemory>> Workers for ManyWorkers<T> {
+    ghost callers = { λ w. w.count };
+
+    ghost apt = { λ w. ((engine : _) (turn : _) → engine.now.spent ≡ false → engine.now.run.turns < 2 ^ 40 → T.pre w.take engine turn) ×
+        ((engine : _) (turn : _) (out : _) (left : _) → T.post w.take engine turn out left →
+        ((begun : List Begun) → IfOk out (λ o. TellsTurn (basis_of_site (site_view engine.now.run.site) engine.now.run.zone) w.count (stage_of engine.now.run begun) (turn_read (site_view engine.now.run.site) turn.now) o (stage_of left.now.run (begun_by (stage_of engine.now.run begun) left.now.run.moment)))) ×
+        OnOk out (left.now.run.site ≡ engine.now.run.site) × OnOk out (left.now.run.zone ≡ engine.now.run.zone) × OnOk out (left.now.spent ≡ false)) };
+
+    fn turn(&self, engine: &mut Engine, turn: &Turn) -> Result<TurnOut, OutOfMemory> {
+        (self.take)(engine, turn)
+    }
+}
