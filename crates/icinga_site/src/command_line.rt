@@ -1,10 +1,14 @@
 // The words of the command line, over the real files and standard output.
+use crate::complaint::{say_diagnosed, say_misuse, say_unread};
+use crate::counted::Counted;
 use live_world::LiveWorld;
+use post_turn::OpenGate;
 use site_base::{OutOfMemory, Text};
 use site_edge::{DiskFiles, OutSink};
-use site_program::{Status, run_one};
+use site_program::{self, Status};
 use std::env;
 use std::io::ErrorKind;
+use std::sync::Wait;
 use std::thread::Threads;
 
 /// What `--help` prints.
@@ -17,19 +21,25 @@ usage:
   icinga_site replay ROOT SCRIPT    writes the log of the turns of SCRIPT over the site of ROOT
   icinga_site daemon ROOT           runs the checks of that site, takes command lines from standard input, and writes the log
   icinga_site gen N                 runs a generated site of N hosts, from 1 to 10000, and writes five counts
-  icinga_site --help                prints this text
+  icinga_site --help                prints this text, as do -h and help
   icinga_site --version             prints the program's version
 
 --log 1 or --log 2, before or behind the words of replay and daemon, chooses the version of the log.
+--workers K, before or behind any words, has K workers, from 1 to 64, take the events of a turn at the same time.
 ";
 
 /// What `--version` prints.
 const VERSION: &str = "icinga_site 0.1.0\n";
 
-/// Does what the words of the command line ask for.
-pub(crate) fn run<T: Threads + Drop>(rt: &HostRuntime, threads: T) -> Status {
+/// Does what the words of the command line ask for. Workers wait for each other at `turns`, in which their threads are made too; `threads` are
+/// those of checks and of standard input.
+pub(crate) fn run<R: Wait + Threads + Sync, T: Threads + Drop>(
+    rt: &HostRuntime,
+    turns: &R,
+    threads: T,
+) -> Status {
     match words_of(rt) {
-        Ok(words) => run_words(rt, threads, &words),
+        Ok(words) => run_words(rt, turns, threads, &words),
         Err(status) => status,
     }
 }
@@ -54,23 +64,46 @@ fn words_of(rt: &HostRuntime) -> Result<Vec<Text>, Status> {
 }
 
 /// Does what the words ask for, over the real files and standard output.
-fn run_words<T: Threads + Drop>(rt: &HostRuntime, threads: T, words: &[Text]) -> Status {
+fn run_words<R: Wait + Threads + Sync, T: Threads + Drop>(
+    rt: &HostRuntime,
+    turns: &R,
+    threads: T,
+    words: &[Text],
+) -> Status {
     match words {
-        [word] if word.as_str() == "--help" => print_text(rt, HELP),
+        [word] if asks_for_help(word) => print_text(rt, HELP),
         [word] if word.as_str() == "--version" => print_text(rt, VERSION),
-        words => run_over(rt, threads, words),
+        words => run_over(rt, turns, threads, words),
     }
 }
 
+fn asks_for_help(word: &Text) -> bool {
+    matches!(word.as_str(), "--help" | "-h" | "help")
+}
+
 /// The same for words that ask for more than a text.
-fn run_over<T: Threads + Drop>(rt: &HostRuntime, threads: T, words: &[Text]) -> Status {
+fn run_over<R: Wait + Threads + Sync, T: Threads + Drop>(
+    rt: &HostRuntime,
+    turns: &R,
+    threads: T,
+    words: &[Text],
+) -> Status {
     let Ok(mut world) = world_of(rt, threads) else {
         return Status::OutOfMemory;
     };
     let alloc = rt.alloc();
     let mut files = DiskFiles::new(rt);
-    let mut out = OutSink::new(alloc, rt);
-    run_one(alloc, words, &mut files, &mut world, &mut out).unwrap()
+    let mut out = Counted::new(OutSink::new(alloc, rt));
+    let status = site_program::run(
+        turns, alloc, words, &mut files, &mut world, &mut out, &OpenGate,
+    );
+    match status {
+        Status::Diagnosed => say_diagnosed(rt, words, out.lines()),
+        Status::Usage => say_misuse(rt, words),
+        Status::ReadFault => say_unread(rt, files.unread()),
+        _ => {}
+    }
+    status
 }
 
 /// The clock, standard input and check programs, each of which a thread waits for.

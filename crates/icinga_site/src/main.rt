@@ -2,13 +2,15 @@
 #![tactic(auto)]
 
 mod command_line;
+mod complaint;
+mod counted;
 
 use site_program::Status;
 use std::process::ExitCode;
 
 fn main(rt: HostRuntime) -> ExitCode {
     let status = match rt.clone() {
-        Ok(threads) => command_line::run(&rt, threads),
+        Ok(threads) => command_line::run(&rt, &rt, threads),
         Err(_) => Status::OutOfMemory,
     };
     if status.number() > 1 {

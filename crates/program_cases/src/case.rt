@@ -1,4 +1,5 @@
 // Cases: command lines with files and a world in memory, and calls that fail.
+use crate::gated::{Held, Hold};
 use crate::named::{Named, push_bytes};
 use site_base::{Blob, OutOfMemory, Row, Text};
 use std::alloc::Global;
@@ -24,6 +25,10 @@ pub(crate) struct Case {
     pub(crate) turns: Row<u64>,
     /// The script of the turns that the world gives.
     pub(crate) world: Blob,
+    /// Which workers are held up, and until when.
+    pub(crate) held: Held,
+    /// Outputs of which one has to be written.
+    pub(crate) either: Row<Blob>,
 }
 
 impl Case {
@@ -35,6 +40,8 @@ impl Case {
             puts: Row::new(alloc),
             turns: Row::new(alloc),
             world: Blob::new(alloc),
+            held: Held::new(alloc),
+            either: Row::new(alloc),
         }
     }
 
@@ -109,16 +116,19 @@ impl Case {
         Ok(())
     }
 
-    /// Adds a file, or takes the script of the world.
+    /// Adds a file, takes the script of the world, or adds one of the outputs that may be written.
     fn add_text(&mut self, alloc: Global, name: &str, bytes: Blob) -> Result<(), OutOfMemory> {
         if name == "world" {
             self.world = bytes;
             return Ok(());
         }
+        if name == "either" {
+            return self.either.push(bytes);
+        }
         self.files.push((Text::copy_of(alloc, name)?, bytes))
     }
 
-    /// Adds a call that fails: `read 2 fails`, `put 2 fails` or `turn 2 fails`.
+    /// Adds a call that fails, `read 2 fails`, `put 2 fails` or `turn 2 fails`, or a worker that is held up.
     fn add_failing(&mut self, text: &str) -> Result<(), OutOfMemory> {
         let (call, rest) = text.split_once(' ').unwrap_or((text, ""));
         let (number, _) = rest.split_once(' ').unwrap_or((rest, ""));
@@ -127,6 +137,7 @@ impl Case {
             "read" => self.reads.push(number),
             "put" => self.puts.push(number),
             "turn" => self.turns.push(number),
+            "worker" => self.held.push(Hold::read(rest)),
             _ => Ok(()),
         }
     }

@@ -24,6 +24,8 @@ pub(crate) fn push_limited(alloc: Global, out: &mut Text, case: Case) -> Result<
         puts,
         turns,
         world,
+        held: _,
+        either: _,
     } = case;
     let [limit, root] = words.as_slice() else {
         return out.push_str("  →  no limit and root");

@@ -7,6 +7,7 @@
 #![tactic(auto)]
 
 mod case;
+mod gated;
 mod limited;
 mod named;
 mod outcome;

@@ -1,12 +1,15 @@
 // What the program gives.
 use crate::case::Case;
+use crate::gated::Held;
 use live_world::LiveWorld;
+use post_turn::OpenGate;
 use site_base::{Blob, OutOfMemory, Row, Text, quote};
 use site_edge::{MemFiles, MemSink, MemWorld, Order, World};
-use site_program::{Status, run_one};
+use site_program::{Status, run};
 use site_text::{ScriptError, read_script};
 use std::alloc::Global;
 use std::str;
+use std::sync::Wait;
 use std::thread::Threads;
 
 /// How the line of an object ends that isn't to be written with a short row.
@@ -14,31 +17,40 @@ const SILENT: &str = "\"vars\":{\"silent\":true}}";
 
 /// Runs the program as a case says, and adds the status and, each on a line of its own, the lines of the output and the orders that
 /// were started.
-pub(crate) fn push_outcome(alloc: Global, out: &mut Text, case: Case) -> Result<(), OutOfMemory> {
-    let Case {
-        words,
-        files,
-        reads,
-        puts,
-        turns,
-        world,
-    } = case;
-    let script = match read_script(alloc, world.as_slice()) {
+pub(crate) fn push_outcome<T: Wait + Threads + Sync>(
+    alloc: Global,
+    turns: &T,
+    out: &mut Text,
+    case: Case,
+) -> Result<(), OutOfMemory> {
+    let script = match read_script(alloc, case.world.as_slice()) {
         Ok(script) => script,
         Err(ScriptError::BadScript { .. }) => return out.push_str("  →  no such world"),
         Err(ScriptError::OutOfMemory) => return Err(OutOfMemory),
     };
-    let mut world = MemWorld::new(alloc, script, turns);
-    push_answer(alloc, out, &words, files, reads, puts, &mut world)?;
+    let mut world = MemWorld::new(alloc, script, case.turns.clone()?);
+    push_answer(alloc, turns, out, case, &mut world)?;
     push_started(alloc, out, world.started())
 }
 
 /// Runs the program as a case says, but over the clock, standard input and check programs, and adds the status and the lines.
-pub(crate) fn push_live<T: Threads + Clone + Drop>(
+pub(crate) fn push_live<T: Wait + Threads + Sync + Clone + Drop>(
     rt: &HostRuntime,
     threads: &T,
     out: &mut Text,
     case: Case,
+) -> Result<(), OutOfMemory> {
+    let mut world = LiveWorld::new(rt.clone()?, threads.clone()?)?;
+    push_answer(rt.alloc(), threads, out, case, &mut world)
+}
+
+/// Runs the program as a case says over files and a sink in memory, where these calls fail, and a world.
+fn push_answer<T: Wait + Threads + Sync, W: World>(
+    alloc: Global,
+    turns: &T,
+    out: &mut Text,
+    case: Case,
+    world: &mut W,
 ) -> Result<(), OutOfMemory> {
     let Case {
         words,
@@ -47,29 +59,32 @@ pub(crate) fn push_live<T: Threads + Clone + Drop>(
         puts,
         turns: _,
         world: _,
+        held,
+        either,
     } = case;
-    let mut world = LiveWorld::new(rt.clone()?, threads.clone()?)?;
-    push_answer(rt.alloc(), out, &words, files, reads, puts, &mut world)
-}
-
-/// Runs the program over files and a sink in memory, where these calls fail, and a world.
-fn push_answer<W: World>(
-    alloc: Global,
-    out: &mut Text,
-    words: &[Text],
-    files: Row<(Text, Blob)>,
-    reads: Row<u64>,
-    puts: Row<u64>,
-    world: &mut W,
-) -> Result<(), OutOfMemory> {
-    out.push_str("  →  ")?;
     let mut files = MemFiles::new(alloc, files, reads);
     let mut sink = MemSink::new(alloc, puts);
-    match run_one(alloc, words, &mut files, world, &mut sink) {
-        Some(status) => push_status(out, status)?,
-        None => out.push_str("nothing")?,
+    let status = run(turns, alloc, &words, &mut files, world, &mut sink, &held);
+    out.push_str("  →  ")?;
+    push_status(out, status)?;
+    push_late(out, &held)?;
+    push_written(out, sink.written(), either.as_slice())
+}
+
+/// Adds a line where a worker was held up for too long.
+fn push_late(out: &mut Text, held: &Held) -> Result<(), OutOfMemory> {
+    if held.is_late() {
+        out.push_str("\n  a worker was held up for too long")?;
     }
-    match str::from_utf8(sink.written()) {
+    Ok(())
+}
+
+/// Adds the lines that were written, or says that they are one of these outputs.
+fn push_written(out: &mut Text, written: &[u8], either: &[Blob]) -> Result<(), OutOfMemory> {
+    if either.iter().any(|text| text.as_slice() == written) {
+        return out.push_str("\n  either");
+    }
+    match str::from_utf8(written) {
         Ok(text) => push_lines(out, text),
         Err(_) => out.push_str("\n  no text"),
     }
@@ -77,22 +92,31 @@ fn push_answer<W: World>(
 
 /// Runs the program as a case says, and adds what it writes: one line behind the row, or more lines below it. The status stands
 /// before them where it is neither `Done` nor `Diagnosed`.
-pub(crate) fn push_short(alloc: Global, out: &mut Text, case: Case) -> Result<(), OutOfMemory> {
+pub(crate) fn push_short<T: Wait + Threads + Sync>(
+    alloc: Global,
+    turns: &T,
+    out: &mut Text,
+    case: Case,
+) -> Result<(), OutOfMemory> {
     let Case {
         words,
         files,
         reads,
         puts,
-        turns,
+        turns: failing,
         world: _,
+        held: _,
+        either: _,
     } = case;
-    let mut world = MemWorld::new(alloc, Row::new(alloc), turns);
+    let mut world = MemWorld::new(alloc, Row::new(alloc), failing);
     let mut files = MemFiles::new(alloc, files, reads);
     let mut sink = MemSink::new(alloc, puts);
     out.push_str("  →")?;
-    match run_one(alloc, &words, &mut files, &mut world, &mut sink) {
-        Some(Status::Done | Status::Diagnosed) | None => {}
-        Some(status) => {
+    match run(
+        turns, alloc, &words, &mut files, &mut world, &mut sink, &OpenGate,
+    ) {
+        Status::Done | Status::Diagnosed => {}
+        status => {
             out.push_str("  ")?;
             push_status(out, status)?;
         }

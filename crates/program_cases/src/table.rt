@@ -4,6 +4,7 @@ use crate::told::told;
 use site_base::{OutOfMemory, Text};
 use std::alloc::Global;
 use std::str;
+use std::sync::Wait;
 use std::thread::Threads;
 
 /// What was told of a table so far.
@@ -19,7 +20,7 @@ struct Told {
 }
 
 /// Runs the rows of a table, and writes those that have another answer, and how many rows there are.
-pub(crate) fn run_table<T: Threads + Clone + Drop>(
+pub(crate) fn run_table<T: Wait + Threads + Sync + Clone + Drop>(
     rt: &HostRuntime,
     threads: &T,
     name: &str,
@@ -62,7 +63,7 @@ impl Told {
     }
 
     /// Takes a line that begins with no blanks, and runs it if it is a row.
-    fn begin<T: Threads + Clone + Drop>(
+    fn begin<T: Wait + Threads + Sync + Clone + Drop>(
         &mut self,
         rt: &HostRuntime,
         threads: &T,

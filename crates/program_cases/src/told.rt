@@ -4,13 +4,14 @@ use crate::limited::push_limited;
 use crate::named::Named;
 use crate::outcome::{push_live, push_outcome, push_short, push_statuses};
 use site_base::{OutOfMemory, Text};
+use std::sync::Wait;
 use std::thread::Threads;
 
 /// What a row's answer begins with.
 const ANSWER: &str = "  →";
 
 /// The row of a line with what the program gives for it; `None` where the line is no row.
-pub(crate) fn told<T: Threads + Clone + Drop>(
+pub(crate) fn told<T: Wait + Threads + Sync + Clone + Drop>(
     rt: &HostRuntime,
     threads: &T,
     named: &mut Named,
@@ -34,7 +35,7 @@ pub(crate) fn told<T: Threads + Clone + Drop>(
 }
 
 /// Adds what the program gives for a row.
-fn push_told<T: Threads + Clone + Drop>(
+fn push_told<T: Wait + Threads + Sync + Clone + Drop>(
     rt: &HostRuntime,
     threads: &T,
     named: &Named,
@@ -44,14 +45,14 @@ fn push_told<T: Threads + Clone + Drop>(
     let alloc = rt.alloc();
     let (word, rest) = row.split_once(' ').unwrap_or((row, ""));
     match word {
-        "run" => push_outcome(alloc, out, Case::read(alloc, named, rest)?),
+        "run" => push_outcome(alloc, threads, out, Case::read(alloc, named, rest)?),
         "live" => push_live(rt, threads, out, Case::read(alloc, named, rest)?),
         "limit" => push_limited(alloc, out, Case::read(alloc, named, rest)?),
         "statuses" => push_statuses(out),
         "check" | "objects" | "replay" => {
-            push_short(alloc, out, Case::over(alloc, named, word, rest)?)
+            push_short(alloc, threads, out, Case::over(alloc, named, word, rest)?)
         }
-        "value" => push_short(alloc, out, Case::of_value(alloc, named, rest)?),
+        "value" => push_short(alloc, threads, out, Case::of_value(alloc, named, rest)?),
         _ => out.push_str("  →  no such row"),
     }
 }

@@ -90,9 +90,9 @@ pub as_found : (told : Option Files) (name : List ℕ) (found : Option (List ℕ
 as_found None name found P e p = tt
 as_found (Some files) name found P e p = subst P e p
 
-log_as : (style : Style) (s : PlainSite) (turns : List Turn) (w : Whole) → AnswersWorld 1 style most_turns (Some turns) s w → IsLog 1 style most_turns s turns w
-log_as style s turns w a = subst (λ ts. IsLog 1 style most_turns s ts w) a.told a.log
+log_as : (callers : ℕ) (style : Style) (s : PlainSite) (turns : List Turn) (w : Whole) → AnswersWorld callers style most_turns (Some turns) s w → IsLog callers style most_turns s turns w
+log_as callers style s turns w a = subst (λ ts. IsLog callers style most_turns s ts w) a.told a.log
 
 -- a world of told turns gives their log
-pub script_log : (style : Style) (s : PlainSite) (turns : List Turn) (told : Option (List Turn)) (w : Whole) → told ≡ Some turns → AnswersWorld 1 style most_turns told s w → IsLog 1 style most_turns s turns w
-script_log style s turns told w e a = log_as style s turns w (subst (λ t. AnswersWorld 1 style most_turns t s w) e a)
+pub script_log : (callers : ℕ) (style : Style) (s : PlainSite) (turns : List Turn) (told : Option (List Turn)) (w : Whole) → told ≡ Some turns → AnswersWorld callers style most_turns told s w → IsLog callers style most_turns s turns w
+script_log callers style s turns told w e a = log_as callers style s turns w (subst (λ t. AnswersWorld callers style most_turns t s w) e a)

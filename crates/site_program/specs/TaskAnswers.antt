@@ -1,5 +1,5 @@
 -- What a run writes for a task over files and the turns of the world.
-use Rattle.std.specs.Prelude.{ℕ, ◌≡◌, ◌⊎◌, Bool, true, false, List, [], ◌∷◌, codes, length, Option, Some, None, IfSome}
+use Rattle.std.specs.Prelude.{ℕ, ◌≡◌, ◌≤◌, ◌⊎◌, Bool, true, false, List, [], ◌∷◌, codes, length, Option, Some, None, IfSome}
 use Rattle.std.specs.Bool.{Decides}
 use Rattle.commit_meaning.specs.Commits as commits
 use Rattle.commit_meaning.specs.Commits.{Committed}
@@ -23,6 +23,7 @@ use Rattle.site_run.specs.Logs.{AnswersWorld, IsLog, Went, Whole}
 use Rattle.site_run.specs.declared.status.Status.{Status}
 use Rattle.site_run.specs.declared.status.Status.TheVariants as status
 use Rattle.site_text.specs.Scripts.{Answer, Has, told, bad_line}
+use Rattle.site_words.specs.Commands.{Command}
 use Rattle.site_words.specs.Tasks.{Task, check, daemon, generate, objects, replay}
 
 abbrev pub Files : Type 0
@@ -53,14 +54,14 @@ AnswersSite files root Is w = AnswersRoot files root (AnswersOver Is w)
 abbrev pub most_turns : ℕ
 most_turns = 100000000
 
--- the log of a script's turns, or that its first line that is none is this one
-abbrev pub AnswersScript : Style → List ℕ → PlainSite → Answer → Whole → Type 0
-AnswersScript style script s (told turns) w = IsLog 1 style most_turns s turns w
-AnswersScript style script s (bad_line n) w = w ≡ replied (bad_script script n)
+-- the log of a script's turns with so many callers, or that its first line that is none is this one
+abbrev pub AnswersScript : ℕ → Style → List ℕ → PlainSite → Answer → Whole → Type 0
+AnswersScript callers style script s (told turns) w = IsLog callers style most_turns s turns w
+AnswersScript callers style script s (bad_line n) w = w ≡ replied (bad_script script n)
 
-abbrev pub AnswersBytes : Style → List ℕ → PlainSite → Option (List ℕ) → Whole → Type 0
-AnswersBytes style script s None w = w ≡ replied (no_script script)
-AnswersBytes style script s (Some bytes) w = (a : Answer) × Has bytes a × AnswersScript style script s a w
+abbrev pub AnswersBytes : ℕ → Style → List ℕ → PlainSite → Option (List ℕ) → Whole → Type 0
+AnswersBytes callers style script s None w = w ≡ replied (no_script script)
+AnswersBytes callers style script s (Some bytes) w = (a : Answer) × Has bytes a × AnswersScript callers style script s a w
 
 -- Generated sites.
 
@@ -82,13 +83,14 @@ AnswersGenerated hosts w = AnswersSite (files_of hosts) root_name (IsCounted hos
 
 -- Tasks.
 
--- what answers to a task. Where it is over files and they aren't told, anything does.
-abbrev pub Answers : Task → Option Files → Option (List Turn) → Whole → Type 0
-Answers (check root) files turns w = IfSome files (λ all. AnswersShown all shown.Count root w)
-Answers (objects root) files turns w = IfSome files (λ all. AnswersShown all shown.Listing root w)
-Answers (replay style root script) files turns w = IfSome files (λ all. AnswersSite all root (λ s. AnswersBytes style script s (find_file script all)) w)
-Answers (daemon style root) files turns w = IfSome files (λ all. AnswersSite all root (AnswersWorld 1 style most_turns turns) w)
-Answers (generate hosts) files turns w = AnswersGenerated hosts w
+-- what answers to a task that so many workers do. Where it is over files and they aren't told, anything does. What is counted of a generated
+-- site is the same for each number, for all its events are dealt to the first.
+abbrev pub Answers : ℕ → Task → Option Files → Option (List Turn) → Whole → Type 0
+Answers callers (check root) files turns w = IfSome files (λ all. AnswersShown all shown.Count root w)
+Answers callers (objects root) files turns w = IfSome files (λ all. AnswersShown all shown.Listing root w)
+Answers callers (replay style root script) files turns w = IfSome files (λ all. AnswersSite all root (λ s. AnswersBytes callers style script s (find_file script all)) w)
+Answers callers (daemon style root) files turns w = IfSome files (λ all. AnswersSite all root (AnswersWorld callers style most_turns turns) w)
+Answers callers (generate hosts) files turns w = AnswersGenerated hosts w
 
 abbrev pub is_daemon : Task → Bool
 is_daemon (daemon style root) = true
@@ -118,15 +120,22 @@ pub record IsRefused (root : List ℕ) (files : Option Files) (old new : Outside
 abbrev pub IsSiteOf : Files → List ℕ → PlainSite → Type 0
 IsSiteOf files root s = AnswersRoot files root (λ names c. c ≡ commits.site s)
 
-pub record IsOverSite (end : Status) (style : Style) (root : List ℕ) (files : Option Files) (old new : Outside) : Type 0 where
+pub record IsOverSite (end : Status) (callers : ℕ) (style : Style) (root : List ℕ) (files : Option Files) (old new : Outside) : Type 0 where
   pub site : PlainSite
   pub is : IfSome files (λ all. IsSiteOf all root site)
-  pub went : Went end 1 style most_turns site old new
+  pub went : Went end callers style most_turns site old new
 
-abbrev pub CameFar : Status → Style → List ℕ → Option Files → Outside → Outside → Type 0
-CameFar end style root files old new = IsUnanswered end old new ⊎ (IsRefused root files old new ⊎ IsOverSite end style root files old new)
+abbrev pub CameFar : Status → ℕ → Style → List ℕ → Option Files → Outside → Outside → Type 0
+CameFar end callers style root files old new = IsUnanswered end old new ⊎ (IsRefused root files old new ⊎ IsOverSite end callers style root files old new)
 
--- of a daemon
-abbrev pub Came : Status → Task → Option Files → Outside → Outside → Type 0
-Came end (daemon style root) files old new = CameFar end style root files old new
-Came end task files old new = Unit {0}
+-- of a daemon with so many callers
+abbrev pub Came : Status → ℕ → Task → Option Files → Outside → Outside → Type 0
+Came end callers (daemon style root) files old new = CameFar end callers style root files old new
+Came end callers task files old new = Unit {0}
+
+-- Command lines.
+
+-- the words ask for two or more workers
+abbrev pub AskForMany : Option Command → Type 0
+AskForMany None = ⊥
+AskForMany (Some c) = 2 ≤ c.workers

@@ -1,6 +1,7 @@
 // The log of the world.
 ghost use Rattle.std.specs.Prelude.{◌≡◌, ◌≢◌, IfSome};
 ghost use Rattle.site_edge.specs.Told.{Rose};
+ghost use Rattle.site_run.specs.Callers.{AreCallers};
 ghost use Rattle.site_run.specs.Logs.{AnswersWorld, EndsRun};
 ghost use Rattle.site_run.specs.Ends.{HandsOn, outside};
 ghost use Rattle.site_program.specs.TaskAnswers.{AnswersSite, CameFar, most_turns};
@@ -13,24 +14,27 @@ use site_edge::{Files, Sink, World};
 use site_load::config_answer;
 use site_phases::Answer;
 use site_replies::diagnoses;
-use site_run::{OneWorker, Status, write_log};
+use site_run::{Status, Workers, write_log};
 use std::alloc::Global;
 
-/// Writes the log of the world's turns over the site that the files from the root on make, or why there is none. No turn is taken and
-/// no check started where there is none.
-pub fn watch<F: Files, W: World, S: Sink>(
+/// Writes the log of the world's turns, whose events these workers take, over the site that the files from the root on make, or why there
+/// is none. No turn is taken and no check started where there is none. The workers are 1 to 64.
+pub fn watch<F: Files, W: World, S: Sink, C: Workers>(
     alloc: Global,
+    workers: &C,
     style: Style,
     root: &str,
     files: &mut F,
     world: &mut W,
     out: &mut S,
 ) -> Status
+    requires callers { AreCallers (C.callers workers.now) }
+    requires apt { C.apt workers.now }
     ensures never_usage { result ≢ Status.Usage }
-    ensures written { EndsRun result (λ w. IfSome (F.told files.old) (λ all. AnswersSite all root.now (AnswersWorld 1 style most_turns (W.turns world.old)) w)) (S.written out.old) (S.written out.new) }
+    ensures written { EndsRun result (λ w. IfSome (F.told files.old) (λ all. AnswersSite all root.now (AnswersWorld (C.callers workers.now) style most_turns (W.turns world.old)) w)) (S.written out.old) (S.written out.new) }
     ensures through { HandsOn result (S.kept_back out.new) }
     // Which turns were taken, what was written of them, and by which calls their checks were started.
-    ensures came { CameFar result style root.now (F.told files.old) (outside (W.turns world.old) (W.started world.old) (W.calls world.old) (S.written out.old) (S.kept_back out.old)) (outside (W.turns world.new) (W.started world.new) (W.calls world.new) (S.written out.new) (S.kept_back out.new)) }
+    ensures came { CameFar result (C.callers workers.now) style root.now (F.told files.old) (outside (W.turns world.old) (W.started world.old) (W.calls world.old) (S.written out.old) (S.kept_back out.old)) (outside (W.turns world.new) (W.started world.new) (W.calls world.new) (S.written out.new) (S.kept_back out.new)) }
     ensures told { F.told files.new ≡ F.told files.old }
     ensures read_fault { result ≡ Status.ReadFault → Rose (F.faults files.old) (F.faults files.new) }
     ensures write_fault { result ≡ Status.WriteFault → Rose (S.faults out.old) (S.faults out.new) }
@@ -40,7 +44,7 @@ pub fn watch<F: Files, W: World, S: Sink>(
     ensures calm_world { W.calm world.old → result ≢ Status.WorldFault }
 {
     match config_answer(alloc, files, root) {
-        Ok(Answer::Site(site)) => write_log(alloc, &OneWorker, style, site, world, out, MOST_TURNS),
+        Ok(Answer::Site(site)) => write_log(alloc, workers, style, site, world, out, MOST_TURNS),
         Ok(Answer::Diags { files, list }) => {
             write_made(diagnoses(alloc, &files, list.as_slice()), out)
         }

@@ -1,10 +1,12 @@
 // The whole run, with one worker.
-ghost use Rattle.std.specs.Prelude.{◌≡◌, ◌≢◌, ◌↔◌, Bool, false, true, None, Some, IsSome, IfSome};
+ghost use Rattle.std.specs.Prelude.{◌≡◌, ◌≢◌, ◌↔◌, Bool, false, true, None, Some, IfSome};
 ghost use Rattle.site_edge.specs.Told.{Rose};
-ghost use Rattle.site_words.specs.Tasks.{task_of as task_in, task_view};
+ghost use Rattle.site_words.specs.Commands.{command_of as command_in};
+ghost use Rattle.site_words.specs.Tasks.{task_view};
+ghost use Rattle.site_run.specs.Callers.{AreCallers};
 ghost use Rattle.site_run.specs.Logs.{EndsRun};
 ghost use Rattle.site_run.specs.Ends.{HandsOn, outside};
-ghost use Rattle.site_program.specs.TaskAnswers.{Answers, Came, is_daemon, is_generate};
+ghost use Rattle.site_program.specs.TaskAnswers.{Answers, AskForMany, Came, is_daemon, is_generate};
 
 use crate::config::show_objects;
 use crate::daemon::watch;
@@ -13,14 +15,14 @@ use crate::replay::replay;
 use site_base::Text;
 use site_edge::{Files, Sink, World};
 use site_replies::Shown;
-use site_run::Status;
-use site_words::{Task, task_of};
+use site_run::{OneWorker, Status, Workers};
+use site_words::{Command, Task, command_of};
 use std::alloc::Global;
 
 /// Does what the words of a command line ask for, with one worker, and waits for nobody but the world.
 ///
-/// It answers `None` exactly for words that ask for several workers; no words do so yet. `world` is touched by `daemon` alone, `files` by
-/// all words but `gen`, and after `Usage` nothing is.
+/// It answers `None`, with nothing touched, exactly for words that ask for two or more workers. `world` is touched by `daemon` alone,
+/// `files` by all words but `gen`, and after `Usage` nothing is.
 pub fn run_one<F: Files, W: World, S: Sink>(
     alloc: Global,
     words: &[Text],
@@ -28,50 +30,57 @@ pub fn run_one<F: Files, W: World, S: Sink>(
     world: &mut W,
     out: &mut S,
 ) -> Option<Status>
-    ensures answered { IsSome result }
-    ensures usage { (result ≡ Some Status.Usage) ↔ (task_in words.now ≡ None) }
+    ensures answered { (result ≡ None) ↔ AskForMany (command_in words.now) }
+    ensures passed { result ≡ None → (files.new ≡ files.old) × (out.new ≡ out.old) × (world.new ≡ world.old) }
+    ensures usage { (result ≡ Some Status.Usage) ↔ (command_in words.now ≡ None) }
     ensures refused { result ≡ Some Status.Usage → (files.new ≡ files.old) × (out.new ≡ out.old) × (world.new ≡ world.old) }
 
     // What was written is what answers to the words over the files and the turns of the world, or after a fault a prefix of it.
-    ensures written { IfSome (task_in words.now) (λ task. IfSome result (λ status.
-        EndsRun status (Answers task (F.told files.old) (W.turns world.old)) (S.written out.old) (S.written out.new))) }
+    ensures written { IfSome (command_in words.now) (λ c. IfSome result (λ status.
+        EndsRun status (Answers c.workers c.task (F.told files.old) (W.turns world.old)) (S.written out.old) (S.written out.new))) }
 
     // Where it ends well, and where the world failed, nothing of that is kept back.
     ensures through { IfSome result (λ status. HandsOn status (S.kept_back out.new)) }
 
     // Of a daemon also which turns were taken, and by which calls their checks were started: none where it has no site.
-    ensures came { IfSome (task_in words.now) (λ task. IfSome result (λ status.
-        Came status task (F.told files.old) (outside (W.turns world.old) (W.started world.old) (W.calls world.old) (S.written out.old) (S.kept_back out.old)) (outside (W.turns world.new) (W.started world.new) (W.calls world.new) (S.written out.new) (S.kept_back out.new)))) }
+    ensures came { IfSome (command_in words.now) (λ c. IfSome result (λ status.
+        Came status c.workers c.task (F.told files.old) (outside (W.turns world.old) (W.started world.old) (W.calls world.old) (S.written out.old) (S.kept_back out.old)) (outside (W.turns world.new) (W.started world.new) (W.calls world.new) (S.written out.new) (S.kept_back out.new)))) }
 
     ensures told { F.told files.new ≡ F.told files.old }
-    ensures untouched { IfSome (task_in words.now) (λ task. is_daemon task ≡ false → world.new ≡ world.old) }
-    ensures unread { IfSome (task_in words.now) (λ task. is_generate task ≡ true → files.new ≡ files.old) }
+    ensures untouched { IfSome (command_in words.now) (λ c. is_daemon c.task ≡ false → world.new ≡ world.old) }
+    ensures unread { IfSome (command_in words.now) (λ c. is_generate c.task ≡ true → files.new ≡ files.old) }
     ensures read_fault { result ≡ Some Status.ReadFault → Rose (F.faults files.old) (F.faults files.new) }
     ensures write_fault { result ≡ Some Status.WriteFault → Rose (S.faults out.old) (S.faults out.new) }
     ensures world_fault { result ≡ Some Status.WorldFault → Rose (W.faults world.old) (W.faults world.new) }
     ensures calm_files { F.calm files.old → result ≢ Some Status.ReadFault }
     ensures calm_sink { S.calm out.old → result ≢ Some Status.WriteFault }
     ensures calm_world { W.calm world.old → result ≢ Some Status.WorldFault }
-    ensures no_world_fault { IfSome (task_in words.now) (λ task. is_daemon task ≡ false → result ≢ Some Status.WorldFault) }
+    ensures no_world_fault { IfSome (command_in words.now) (λ c. is_daemon c.task ≡ false → result ≢ Some Status.WorldFault) }
 {
-    match task_of(words) {
-        Some(task) => Some(run_task(alloc, task, files, world, out)),
+    match command_of(words) {
+        Some(Command { task, workers: 1 }) => {
+            Some(run_task(alloc, &OneWorker, task, files, world, out))
+        }
+        Some(_) => None,
         None => Some(Status::Usage),
     }
 }
 
-/// Does what is asked for.
-fn run_task<F: Files, W: World, S: Sink>(
+/// Does what is asked for, with these workers, which are 1 to 64.
+pub(crate) fn run_task<F: Files, W: World, S: Sink, C: Workers>(
     alloc: Global,
+    workers: &C,
     task: Task<'_>,
     files: &mut F,
     world: &mut W,
     out: &mut S,
 ) -> Status
+    requires callers { AreCallers (C.callers workers.now) }
+    requires apt { C.apt workers.now }
     ensures never_usage { result ≢ Status.Usage }
-    ensures written { EndsRun result (Answers (task_view task.entry) (F.told files.old) (W.turns world.old)) (S.written out.old) (S.written out.new) }
+    ensures written { EndsRun result (Answers (C.callers workers.now) (task_view task.entry) (F.told files.old) (W.turns world.old)) (S.written out.old) (S.written out.new) }
     ensures through { HandsOn result (S.kept_back out.new) }
-    ensures came { Came result (task_view task.entry) (F.told files.old) (outside (W.turns world.old) (W.started world.old) (W.calls world.old) (S.written out.old) (S.kept_back out.old)) (outside (W.turns world.new) (W.started world.new) (W.calls world.new) (S.written out.new) (S.kept_back out.new)) }
+    ensures came { Came result (C.callers workers.now) (task_view task.entry) (F.told files.old) (outside (W.turns world.old) (W.started world.old) (W.calls world.old) (S.written out.old) (S.kept_back out.old)) (outside (W.turns world.new) (W.started world.new) (W.calls world.new) (S.written out.new) (S.kept_back out.new)) }
     ensures told { F.told files.new ≡ F.told files.old }
     ensures untouched { is_daemon (task_view task.entry) ≡ false → world.new ≡ world.old }
     ensures unread { is_generate (task_view task.entry) ≡ true → files.new ≡ files.old }
@@ -90,8 +99,8 @@ fn run_task<F: Files, W: World, S: Sink>(
             style,
             root,
             script,
-        } => replay(alloc, style, root, script, files, out),
-        Task::Daemon { style, root } => watch(alloc, style, root, files, world, out),
+        } => replay(alloc, workers, style, root, script, files, out),
+        Task::Daemon { style, root } => watch(alloc, workers, style, root, files, world, out),
         Task::Generate { hosts } => generate(alloc, hosts, out),
     }
 }

@@ -61,21 +61,11 @@ hosts_in w = few_hosts (whole_at w)
 abbrev pub generate_task : List ℕ → Option Task
 generate_task w = option_map generate (hosts_in w)
 
-abbrev pub is_log_option : List ℕ → Bool
-is_log_option w = bytes_eq w (codes "--log")
-
 -- words that ask for a log in this version
 abbrev pub logged_task : Style → List (List ℕ) → Option Task
 logged_task version (w ∷ root ∷ []) = daemon_task version w root
 logged_task version (w ∷ root ∷ script ∷ []) = replay_task version w root script
 logged_task version ws = None
-
--- the same by the word behind `--log`, which is `1` or `2`
-abbrev pub logged : List ℕ → List (List ℕ) → Option Task
-logged version ws =
-    if bytes_eq version (codes "1") then logged_task style.One ws
-    else if bytes_eq version (codes "2") then logged_task style.Two ws
-    else None
 
 abbrev pub two_words : List ℕ → List ℕ → Option Task
 two_words w x =
@@ -83,15 +73,13 @@ two_words w x =
     else if bytes_eq w (codes "gen") then generate_task x
     else plain_task w x
 
--- words that don't begin with an option; it may stand behind them
-abbrev pub command_task : List (List ℕ) → Option Task
-command_task (w ∷ x ∷ []) = two_words w x
-command_task (w ∷ x ∷ y ∷ []) = replay_task style.One w x y
-command_task (w ∷ x ∷ o ∷ v ∷ []) = if is_log_option o then logged v (w ∷ x ∷ []) else None
-command_task (w ∷ x ∷ y ∷ o ∷ v ∷ []) = if is_log_option o then logged v (w ∷ x ∷ y ∷ []) else None
-command_task ws = None
+-- words that ask for no version of the log
+abbrev pub plain_words : List (List ℕ) → Option Task
+plain_words (w ∷ x ∷ []) = two_words w x
+plain_words (w ∷ x ∷ y ∷ []) = replay_task style.One w x y
+plain_words ws = None
 
--- `--log V` may stand once, before or behind the words that ask for a log; no other words ask for anything
-abbrev pub task_of : List (List ℕ) → Option Task
-task_of (o ∷ v ∷ ws) = if is_log_option o then logged v ws else command_task (o ∷ v ∷ ws)
-task_of ws = None
+-- what a command's own words ask for, by the version that is asked for
+abbrev pub task_of : Option Style → List (List ℕ) → Option Task
+task_of None ws = plain_words ws
+task_of (Some version) ws = logged_task version ws

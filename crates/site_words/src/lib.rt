@@ -1,6 +1,12 @@
 //! What the words of a command line ask the program to do.
+//!
+//! In reading order: what a command's own words ask for (`words`), the options that stand before and behind them (`options`), and both
+//! (`command`).
 #![tactic(auto)]
 
+mod command;
+mod options;
 mod words;
 
-pub use words::{Task, task_of};
+pub use command::{Command, command_of};
+pub use words::Task;

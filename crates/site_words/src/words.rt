@@ -1,6 +1,6 @@
-// What the words of a command line ask for.
+// What a command's own words ask for.
 ghost use Rattle.std.specs.Prelude.{◌≡◌, ◌&&◌, option_map};
-ghost use Rattle.site_words.specs.Tasks.{command_task, daemon_task as task_of_daemon, generate_task as task_of_generate, hosts_in, is_file_word as names_file, is_log_option as is_option, logged as logged_by, logged_task as task_logged, plain_task as task_plain, replay_task as task_of_replay, task_of as task_in, task_view, two_words as task_of_two};
+ghost use Rattle.site_words.specs.Tasks.{daemon_task as task_of_daemon, generate_task as task_of_generate, hosts_in, is_file_word as names_file, logged_task as task_logged, plain_task as task_plain, plain_words as words_plain, replay_task as task_of_replay, task_of as task_in, task_view, two_words as task_of_two};
 
 use run_text::Style;
 use site_base::Text;
@@ -9,7 +9,7 @@ use site_text::read_whole;
 /// How many hosts a generated site has at most.
 const MOST_HOSTS: u64 = 10_000;
 
-/// What the words of a command line ask for. Each but `gen` names files: a root, and a script.
+/// What a command's own words ask for. Each but `gen` names files: a root, and a script.
 #[derive(Clone, Copy)]
 pub enum Task<'a> {
     /// `check ROOT`: how many objects the files from the root on make.
@@ -37,42 +37,29 @@ pub enum Task<'a> {
     },
 }
 
-/// What the words ask for; `None` for all words that ask for nothing that the program does. `--log V` may stand before or behind the
-/// words of `replay` and `daemon`, with V 1 or 2.
-pub fn task_of(words: &[Text]) -> Option<Task<'_>>
-    ensures { option_map task_view result ≡ task_in words.now }
+/// What a command's own words ask for, by the version of the log that is asked for, if one is; `None` for all words that ask for nothing
+/// that the program does. Of a log only `replay` and `daemon` can be asked.
+pub(crate) fn task_of(style: Option<Style>, words: &[Text]) -> Option<Task<'_>>
+    ensures { option_map task_view result ≡ task_in style words.now }
 {
-    match words {
-        [option, version, rest @ ..] if is_log_option(option) => logged(version, rest),
-        [_, _, ..] => command_of(words),
-        _ => None,
+    match style {
+        None => plain_words(words),
+        Some(style) => logged_task(style, words),
     }
 }
 
-/// What words without an option before them ask for.
-fn command_of(words: &[Text]) -> Option<Task<'_>>
-    ensures { option_map task_view result ≡ command_task words.now }
+/// What words ask for that ask for no version of the log.
+fn plain_words(words: &[Text]) -> Option<Task<'_>>
+    ensures { option_map task_view result ≡ words_plain words.now }
 {
     match words {
         [word, named] => two_words(word, named),
         [word, root, script] => replay_task(Style::One, word, root, script),
-        [_, _, option, version] if is_log_option(option) => logged(version, &words[..2]),
-        [_, _, _, option, version] if is_log_option(option) => logged(version, &words[..3]),
         _ => None,
     }
 }
 
 /// What words ask for that ask for a log in this version.
-fn logged<'a>(version: &'a Text, words: &'a [Text]) -> Option<Task<'a>>
-    ensures { option_map task_view result ≡ logged_by version.now words.now }
-{
-    match version.as_str() {
-        "1" => logged_task(Style::One, words),
-        "2" => logged_task(Style::Two, words),
-        _ => None,
-    }
-}
-
 fn logged_task(style: Style, words: &[Text]) -> Option<Task<'_>>
     ensures { option_map task_view result ≡ task_logged style words.now }
 {
@@ -150,12 +137,6 @@ fn replay_task<'a>(
     } else {
         None
     }
-}
-
-fn is_log_option(word: &Text) -> bool
-    ensures { result ≡ is_option word.now }
-{
-    word.as_str() == "--log"
 }
 
 /// Whether a word can name a file: it isn't empty and doesn't begin with `-`.

@@ -13,9 +13,9 @@ returns-in-Ok-Site-clause-written g c =
     let told = g.F.Files.told c.args.files.now in
     let turns = g.W.World.turns c.args.world.now in
     let a = c.in-Ok-Site in
-    ended_as c.write_log.result (AnswersWorld 1 c.args.style most_turns turns (site_view a.site))
-    (λ w. IfSome told (λ all. AnswersSite all c.args.root.now (AnswersWorld 1 c.args.style most_turns turns) w)) (g.S.Sink.written c.args.out.now) (g.S.Sink.written c.write_log.new.out)
-    (λ w is. site_answers (λ all. AnswersWorld 1 c.args.style most_turns turns) c.args.root.now told a.field-0 a.site a.field-0-is (λ files h. (a.ensures.files files h, λ bad decided. a.ensures.value files bad h decided)) w (always told _ is))
+    ended_as c.write_log.result (AnswersWorld (g.C.Workers.callers c.args.workers.now) c.args.style most_turns turns (site_view a.site))
+    (λ w. IfSome told (λ all. AnswersSite all c.args.root.now (AnswersWorld (g.C.Workers.callers c.args.workers.now) c.args.style most_turns turns) w)) (g.S.Sink.written c.args.out.now) (g.S.Sink.written c.write_log.new.out)
+    (λ w is. site_answers (λ all. AnswersWorld (g.C.Workers.callers c.args.workers.now) c.args.style most_turns turns) c.args.root.now told a.field-0 a.site a.field-0-is (λ files h. (a.ensures.files files h, λ bad decided. a.ensures.value files bad h decided)) w (always told _ is))
     c.write_log.ensures.written
 
 pub returns-in-Ok-Site-clause-came : goal.returns-in-Ok-Site-clause-came
@@ -35,9 +35,9 @@ returns-in-Ok-Diags-clause-written g c =
     let a = c.in-Ok-Diags in
     let reply = diagnoses a.files a.list in
     let made : IfOk c.diagnoses.result (λ x. reply_view x ≡ reply) = search rules in
-    ended c.write_made.result (λ w. IfSome told (λ all. AnswersSite all c.args.root.now (AnswersWorld 1 c.args.style most_turns turns) w)) (g.S.Sink.written c.args.out.now) (g.S.Sink.written c.write_made.new.out) (
+    ended c.write_made.result (λ w. IfSome told (λ all. AnswersSite all c.args.root.now (AnswersWorld (g.C.Workers.callers c.args.workers.now) c.args.style most_turns turns) w)) (g.S.Sink.written c.args.out.now) (g.S.Sink.written c.write_made.new.out) (
       replied reply,
-      diags_answer (λ all. AnswersWorld 1 c.args.style most_turns turns) c.args.root.now told a.field-0 a.files a.list a.field-0-is (λ files h. (a.ensures.files files h, λ bad decided. a.ensures.value files bad h decided)),
+      diags_answer (λ all. AnswersWorld (g.C.Workers.callers c.args.workers.now) c.args.style most_turns turns) c.args.root.now told a.field-0 a.files a.list a.field-0-is (λ files h. (a.ensures.files files h, λ bad decided. a.ensures.value files bad h decided)),
       c.write_made.ensures.written reply made,
     )
 

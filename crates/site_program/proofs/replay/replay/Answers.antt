@@ -13,10 +13,10 @@ returns-in-Ok-Site-clause-written g c =
     let told = g.F.Files.told c.args.files.now in
     let a = c.in-Ok-Site in
     let script = c.args.script.now in
-    ended_as c.replay_over.result (λ w. IfSome (g.F.Files.told c.config_answer.new.files) (λ all. AnswersBytes c.args.style script (site_view a.site) (find_file script all) w))
-    (λ w. IfSome told (λ all. AnswersSite all c.args.root.now (λ s. AnswersBytes c.args.style script s (find_file script all)) w)) (g.S.Sink.written c.args.out.now) (g.S.Sink.written c.replay_over.new.out)
-    (λ w is. site_answers (λ all s. AnswersBytes c.args.style script s (find_file script all)) c.args.root.now told a.field-0 a.site a.field-0-is (λ files h. (a.ensures.files files h, λ bad decided. a.ensures.value files bad h decided)) w
-    (subst (λ (t : Option Files). IfSome t (λ all. AnswersBytes c.args.style script (site_view a.site) (find_file script all) w)) c.config_answer.ensures.same is))
+    ended_as c.replay_over.result (λ w. IfSome (g.F.Files.told c.config_answer.new.files) (λ all. AnswersBytes (g.C.Workers.callers c.args.workers.now) c.args.style script (site_view a.site) (find_file script all) w))
+    (λ w. IfSome told (λ all. AnswersSite all c.args.root.now (λ s. AnswersBytes (g.C.Workers.callers c.args.workers.now) c.args.style script s (find_file script all)) w)) (g.S.Sink.written c.args.out.now) (g.S.Sink.written c.replay_over.new.out)
+    (λ w is. site_answers (λ all s. AnswersBytes (g.C.Workers.callers c.args.workers.now) c.args.style script s (find_file script all)) c.args.root.now told a.field-0 a.site a.field-0-is (λ files h. (a.ensures.files files h, λ bad decided. a.ensures.value files bad h decided)) w
+    (subst (λ (t : Option Files). IfSome t (λ all. AnswersBytes (g.C.Workers.callers c.args.workers.now) c.args.style script (site_view a.site) (find_file script all) w)) c.config_answer.ensures.same is))
     c.replay_over.ensures.written
 
 pub returns-in-Ok-Diags-clause-written : goal.returns-in-Ok-Diags-clause-written
@@ -26,9 +26,9 @@ returns-in-Ok-Diags-clause-written g c =
     let script = c.args.script.now in
     let reply = diagnoses a.files a.list in
     let made : IfOk c.diagnoses.result (λ x. reply_view x ≡ reply) = search rules in
-    ended c.write_made.result (λ w. IfSome told (λ all. AnswersSite all c.args.root.now (λ s. AnswersBytes c.args.style script s (find_file script all)) w)) (g.S.Sink.written c.args.out.now) (g.S.Sink.written c.write_made.new.out) (
+    ended c.write_made.result (λ w. IfSome told (λ all. AnswersSite all c.args.root.now (λ s. AnswersBytes (g.C.Workers.callers c.args.workers.now) c.args.style script s (find_file script all)) w)) (g.S.Sink.written c.args.out.now) (g.S.Sink.written c.write_made.new.out) (
       replied reply,
-      diags_answer (λ all s. AnswersBytes c.args.style script s (find_file script all)) c.args.root.now told a.field-0 a.files a.list a.field-0-is (λ files h. (a.ensures.files files h, λ bad decided. a.ensures.value files bad h decided)),
+      diags_answer (λ all s. AnswersBytes (g.C.Workers.callers c.args.workers.now) c.args.style script s (find_file script all)) c.args.root.now told a.field-0 a.files a.list a.field-0-is (λ files h. (a.ensures.files files h, λ bad decided. a.ensures.value files bad h decided)),
       c.write_made.ensures.written reply made,
     )
 

@@ -13,9 +13,9 @@ returns-in-Ok-Some-clause-written g c =
     let told = g.F.Files.told c.args.files.now in
     let script = c.args.script.now in
     let s = site_view c.args.site in
-    ended_as c.replay_bytes.result (AnswersBytes c.args.style script s (Some c.in-Ok-Some.bytes))
-    (λ w. IfSome told (λ all. AnswersBytes c.args.style script s (find_file script all) w)) (g.S.Sink.written c.args.out.now) (g.S.Sink.written c.replay_bytes.new.out)
-    (λ w is. as_found told script (Some c.in-Ok-Some.bytes) (λ o. AnswersBytes c.args.style script s o w) (subst (ReadsFile script told) c.in-Ok-Some.field-0-is c.in-Ok-Some.ensures.bytes) is)
+    ended_as c.replay_bytes.result (AnswersBytes (g.C.Workers.callers c.args.workers.now) c.args.style script s (Some c.in-Ok-Some.bytes))
+    (λ w. IfSome told (λ all. AnswersBytes (g.C.Workers.callers c.args.workers.now) c.args.style script s (find_file script all) w)) (g.S.Sink.written c.args.out.now) (g.S.Sink.written c.replay_bytes.new.out)
+    (λ w is. as_found told script (Some c.in-Ok-Some.bytes) (λ o. AnswersBytes (g.C.Workers.callers c.args.workers.now) c.args.style script s o w) (subst (ReadsFile script told) c.in-Ok-Some.field-0-is c.in-Ok-Some.ensures.bytes) is)
     c.replay_bytes.ensures.written
 
 pub returns-in-Ok-None-clause-written : goal.returns-in-Ok-None-clause-written
@@ -23,8 +23,8 @@ returns-in-Ok-None-clause-written g c =
     let told = g.F.Files.told c.args.files.now in
     let script = c.args.script.now in
     let s = site_view c.args.site in
-    ended c.write_made.result (λ w. IfSome told (λ all. AnswersBytes c.args.style script s (find_file script all) w)) (g.S.Sink.written c.args.out.now) (g.S.Sink.written c.write_made.new.out) (
+    ended c.write_made.result (λ w. IfSome told (λ all. AnswersBytes (g.C.Workers.callers c.args.workers.now) c.args.style script s (find_file script all) w)) (g.S.Sink.written c.args.out.now) (g.S.Sink.written c.write_made.new.out) (
       replied (no_script script),
-      as_found told script None (λ o. AnswersBytes c.args.style script s o (replied (no_script script))) (subst (ReadsFile script told) c.in-Ok-None.field-0-is c.in-Ok-None.ensures.bytes) refl,
+      as_found told script None (λ o. AnswersBytes (g.C.Workers.callers c.args.workers.now) c.args.style script s o (replied (no_script script))) (subst (ReadsFile script told) c.in-Ok-None.field-0-is c.in-Ok-None.ensures.bytes) refl,
       c.write_made.ensures.written (no_script script) c.no_script.ensures,
     )

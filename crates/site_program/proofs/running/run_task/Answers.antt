@@ -7,10 +7,10 @@ use Rattle.site_program.proofs.running.run_task.Goals as goal
 
 pub returns-in-Replay-clause-written : goal.returns-in-Replay-clause-written
 returns-in-Replay-clause-written g c =
-    subst (λ (t : Task). EndsRun c.replay.result (Answers t (g.F.Files.told c.args.files.now) (g.W.World.turns c.args.world.now)) (g.S.Sink.written c.args.out.now) (g.S.Sink.written c.replay.new.out))
+    subst (λ (t : Task). EndsRun c.replay.result (Answers (g.C.Workers.callers c.args.workers.now) t (g.F.Files.told c.args.files.now) (g.W.World.turns c.args.world.now)) (g.S.Sink.written c.args.out.now) (g.S.Sink.written c.replay.new.out))
     (sym (ap task_view c.in-Replay.is)) c.replay.ensures.written
 
 pub returns-in-Daemon-clause-written : goal.returns-in-Daemon-clause-written
 returns-in-Daemon-clause-written g c =
-    subst (λ (t : Task). EndsRun c.watch.result (Answers t (g.F.Files.told c.args.files.now) (g.W.World.turns c.args.world.now)) (g.S.Sink.written c.args.out.now) (g.S.Sink.written c.watch.new.out))
+    subst (λ (t : Task). EndsRun c.watch.result (Answers (g.C.Workers.callers c.args.workers.now) t (g.F.Files.told c.args.files.now) (g.W.World.turns c.args.world.now)) (g.S.Sink.written c.args.out.now) (g.S.Sink.written c.watch.new.out))
     (sym (ap task_view c.in-Daemon.is)) c.watch.ensures.written

@@ -1,0 +1,85 @@
+// The whole run, with as many workers as are asked for.
+ghost use Rattle.std.specs.Prelude.{◌≡◌, ◌≢◌, ◌↔◌, ◌<◌, ◌^◌, Bool, List, false, true, None, IfSome, IfOk, OnOk};
+ghost use Rattle.run_meaning.specs.Runs.{begun_by};
+ghost use Rattle.run_meaning.specs.Turns.{Begun};
+ghost use Rattle.run_text.specs.TurnReading.{turn_read};
+ghost use Rattle.site_model.specs.PlainSite.{site_view};
+ghost use Rattle.turn_engine.specs.Stages.{TellsTurn, basis_of_site, stage_of};
+ghost use Rattle.site_edge.specs.Told.{Rose};
+ghost use Rattle.site_words.specs.Commands.{command_of as command_in};
+ghost use Rattle.site_run.specs.Callers.{AreCallers};
+ghost use Rattle.site_run.specs.Logs.{EndsRun};
+ghost use Rattle.site_run.specs.Ends.{HandsOn, outside};
+ghost use Rattle.site_program.specs.TaskAnswers.{Answers, Came, is_daemon, is_generate};
+
+use crate::running::{run_one, run_task};
+use post_turn::Gate;
+use site_base::{OutOfMemory, Text};
+use site_edge::{Files, Sink, Turn, World};
+use site_run::{ManyWorkers, Status};
+use site_words::command_of;
+use std::alloc::Global;
+use std::sync::Wait;
+use std::thread::Threads;
+use turn_engine::{Engine, TurnOut};
+
+/// Does what the words of a command line ask for, with as many workers as they ask for. Those take the events of a turn at the same time,
+/// and enter the gate before and after each. Where it is one, [`run_one`] does it, and no thread is made.
+///
+/// `world` is touched by `daemon` alone, `files` by all words but `gen`, and after `Usage` nothing is.
+pub fn run<F: Files, W: World, S: Sink, R: Wait + Threads + Sync, G: Gate + Sync>(
+    rt: &R,
+    alloc: Global,
+    words: &[Text],
+    files: &mut F,
+    world: &mut W,
+    out: &mut S,
+    gate: &G,
+) -> Status
+    ensures usage { (result ≡ Status.Usage) ↔ (command_in words.now ≡ None) }
+    ensures refused { result ≡ Status.Usage → (files.new ≡ files.old) × (out.new ≡ out.old) × (world.new ≡ world.old) }
+
+    // What was written is what answers to the words over the files and the turns of the world, or after a fault a prefix of it.
+    ensures written { IfSome (command_in words.now) (λ c.
+        EndsRun result (Answers c.workers c.task (F.told files.old) (W.turns world.old)) (S.written out.old) (S.written out.new)) }
+
+    // Where it ends well, and where the world failed, nothing of that is kept back.
+    ensures through { HandsOn result (S.kept_back out.new) }
+
+    // Of a daemon also which turns were taken, and by which calls their checks were started: none where it has no site.
+    ensures came { IfSome (command_in words.now) (λ c.
+        Came result c.workers c.task (F.told files.old) (outside (W.turns world.old) (W.started world.old) (W.calls world.old) (S.written out.old) (S.kept_back out.old)) (outside (W.turns world.new) (W.started world.new) (W.calls world.new) (S.written out.new) (S.kept_back out.new))) }
+
+    ensures told { F.told files.new ≡ F.told files.old }
+    ensures untouched { IfSome (command_in words.now) (λ c. is_daemon c.task ≡ false → world.new ≡ world.old) }
+    ensures unread { IfSome (command_in words.now) (λ c. is_generate c.task ≡ true → files.new ≡ files.old) }
+    ensures read_fault { result ≡ Status.ReadFault → Rose (F.faults files.old) (F.faults files.new) }
+    ensures write_fault { result ≡ Status.WriteFault → Rose (S.faults out.old) (S.faults out.new) }
+    ensures world_fault { result ≡ Status.WorldFault → Rose (W.faults world.old) (W.faults world.new) }
+    ensures calm_files { F.calm files.old → result ≢ Status.ReadFault }
+    ensures calm_sink { S.calm out.old → result ≢ Status.WriteFault }
+    ensures calm_world { W.calm world.old → result ≢ Status.WorldFault }
+    ensures no_world_fault { IfSome (command_in words.now) (λ c. is_daemon c.task ≡ false → result ≢ Status.WorldFault) }
+{
+    if let Some(status) = run_one(alloc, words, files, world, out) {
+        return status;
+    }
+    let Some(command) = command_of(words) else {
+        return Status::Usage;
+    };
+    let count = command.workers;
+    let workers = ManyWorkers {
+        count,
+        take: |engine: &mut Engine, turn: &Turn| -> Result<TurnOut, OutOfMemory>
+            requires fresh { engine.old.spent ≡ false }
+            requires few { engine.old.run.turns < 2 ^ 40 }
+            requires workers { AreCallers count }
+            ensures turn { (begun : List Begun) →
+                IfOk result (λ out. TellsTurn (basis_of_site (site_view engine.old.run.site) engine.old.run.zone) count (stage_of engine.old.run begun) (turn_read (site_view engine.old.run.site) turn.now) out (stage_of engine.new.run (begun_by (stage_of engine.old.run begun) engine.new.run.moment))) }
+            ensures site { OnOk result (engine.new.run.site ≡ engine.old.run.site) }
+            ensures zone { OnOk result (engine.new.run.zone ≡ engine.old.run.zone) }
+            ensures fresh { OnOk result (engine.new.spent ≡ false) }
+        { engine.turn(rt, turn, count, gate) },
+    };
+    run_task(alloc, &workers, command.task, files, world, out)
+}

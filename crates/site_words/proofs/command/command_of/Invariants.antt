@@ -1,0 +1,13 @@
+-- What the rest asks for with the options so far is what all words ask for.
+use Rattle.std.proofs.Common.{◌≡◌, length}
+use Rattle.site_words.specs.Commands.{AreFew, command_from, no_options}
+use Rattle.site_words.proofs.command.command_of.Given as goal
+
+abbrev pub invariant-loop-rest : goal.invariant-loop-rest
+invariant-loop-rest l = record {
+  all : command_from l.options l.rest ≡ command_from no_options l.words;
+  few : AreFew l.options;
+}
+
+abbrev pub decreases-loop-rest : goal.decreases-loop-rest
+decreases-loop-rest l = length l.rest

@@ -1,0 +1,10 @@
+-- One option is read, and the rest is read behind it.
+use Rattle.std.proofs.Common.{◌∙◌, sym}
+use Rattle.site_words.proofs.Reading.{behind_one}
+use Rattle.site_words.proofs.command.with_behind.Goals as goal
+
+pub loop-rest-preserved : goal.loop-rest-preserved
+loop-rest-preserved c = record {
+  all = behind_one c.loop-rest.options c.args.own.now c.loop-rest.rest.now c.option-item.result c.value-item.result c.in_ok-options.options c.in-len2-up.len_at_least c.option-item.is c.value-item.is (sym c.with.ensures.value ∙ c.in_ok-options.was) ∙ c.loop-rest.invariant.all;
+  few = c.in_ok-options.ensures.few c.loop-rest.invariant.few;
+}
