@@ -12,7 +12,7 @@ use std::os::fd::AsRawFd;
 use std::os::unix::process::ExitStatusExt;
 use std::process::{Child, Command, ExitStatus, Stdio};
 use std::time::Duration;
-use std::{io, thread};
+use std::{io, mem, thread};
 
 /// So many seconds a program's output is waited for before it is looked whether the program itself has ended.
 const PATIENCE: u64 = 1;
@@ -107,8 +107,8 @@ fn ended(alloc: Global, program: Program, kept: &mut Kept) -> Result<u8, OutOfMe
             Ok(report_status(status))
         }
         Err(error) => {
-            let note = format!(in alloc; "its end can't be known: {error}")?;
-            kept.extend(note.as_bytes())?;
+            let note = format!(in alloc; "its end can't be known: {error}\n")?;
+            put_before(alloc, note.as_bytes(), kept)?;
             Ok(UNKNOWN)
         }
     }
@@ -155,6 +155,13 @@ fn read_some(output: &mut PipeReader, chunk: &mut [u8]) -> Option<usize>
         Err(error) if error.kind() == ErrorKind::Interrupted => Some(0),
         Err(_) => None,
     }
+}
+
+/// Puts a note before a program's output, whose first line it is then.
+fn put_before(alloc: Global, note: &[u8], kept: &mut Kept) -> Result<(), OutOfMemory> {
+    let written = mem::replace(kept, Kept::new(alloc)).into_blob();
+    kept.extend(note)?;
+    kept.extend(written.as_slice())
 }
 
 /// Adds to a program's output by which signal it was ended, if one did.
