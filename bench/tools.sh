@@ -137,8 +137,11 @@ same "completion, the first word" "check" "$(completed ch)"
 same "completion, a file" "README.md" "$(completed check READ)"
 same "completion, the version of the log" "1 2" "$(completed replay r s --log '')"
 same "completion, behind the version" "replay" "$(completed --log 2 r)"
-same "completion, --log behind the words" "--log" "$(completed daemon r --)"
-same "completion, --log once" "" "$(completed --log 2 daemon r --)"
+same "completion, options behind the words" "--log --workers" "$(completed daemon r --)"
+same "completion, --log once" "--workers" "$(completed --log 2 daemon r --)"
+same "completion, --workers once" "--log" "$(completed --workers 2 replay r s --)"
+same "completion, no log of a check" "--workers" "$(completed check r --)"
+same "completion, workers before the words" "check" "$(completed --workers 4 c)"
 
 echo "$tried tried, $failed not as they should be"
 [ "$failed" = 0 ]
