@@ -90,7 +90,7 @@ pub as_found : (told : Option Files) (name : List ℕ) (found : Option (List ℕ
 as_found None name found P e p = tt
 as_found (Some files) name found P e p = subst P e p
 
-log_as : (callers : ℕ) (style : Style) (s : PlainSite) (turns : List Turn) (w : Whole) → AnswersWorld callers style most_turns (Some turns) s w → IsLog callers style most_turns s turns w
+pub log_as : (callers : ℕ) (style : Style) (s : PlainSite) (turns : List Turn) (w : Whole) → AnswersWorld callers style most_turns (Some turns) s w → IsLog callers style most_turns s turns w
 log_as callers style s turns w a = subst (λ ts. IsLog callers style most_turns s ts w) a.told a.log
 
 -- a world of told turns gives their log

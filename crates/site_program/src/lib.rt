@@ -2,17 +2,19 @@
 //!
 //! In reading order: how replies are written (`output`), the objects of a configuration (`config`), the log of a script (`replay`)
 //! and of the world (`daemon`), and the counts of a generated site (`generate`). `running` does what is asked for with one worker, `many`
-//! with as many as are asked for, and both end with a `Status`.
+//! with as many as are asked for, and both end with a `Status`; `laws` says what is known of that.
 #![tactic(auto)]
 
 mod config;
 mod daemon;
 mod generate;
+mod laws;
 mod many;
 mod output;
 mod replay;
 mod running;
 
+pub use laws::{answers_are_one, calm_runs_write_their_answer};
 pub use many::run;
 pub use running::run_one;
 pub use site_run::Status;

@@ -1,0 +1,165 @@
+-- With one worker one answer is right.
+use Rattle.std.proofs.Common.{◌≡◌, ℕ, ◌⊎◌, inl, inr, List, [], ◌∷◌, ◌++◌, length, map, nat_eq, cond, Bool, true, false, Option, Some, None, refl, sym, ap, ◌∙◌, subst}
+use Rattle.std.specs.Bool.{Decides}
+use Rattle.std.specs.Str.{bytes_eq}
+use Rattle.std.proofs.lemmas.Slice.Eq.{bytes_eq-Decides}
+use Rattle.commit_meaning.specs.Commits as commits
+use Rattle.commit_meaning.specs.Commits.{Committed, commit, committed, first_told, unless_told, waves}
+use Rattle.commit_meaning.specs.Waves.{diags_of}
+use Rattle.commit_waves.specs.Globals.{globals_of}
+use Rattle.run_text.specs.declared.style.Style.{Style}
+use Rattle.site_base.specs.declared.diag.Diag.{Diag}
+use Rattle.site_edge.specs.Told.{find_file}
+use Rattle.site_edge.specs.declared.turn.Turn.{Turn}
+use Rattle.site_gen.specs.Counts.{counts_of}
+use Rattle.site_gen.specs.Lines.{count_lines}
+use Rattle.site_gen.specs.Turns.{all_turns}
+use Rattle.site_load.specs.Configs.{IsBadZone, config_outcome, names_of}
+use Rattle.site_load.specs.Loads.{LoadOutcome, load_outcome, loads, refuses}
+use Rattle.site_model.specs.PlainSite.{PlainObject, PlainSite}
+use Rattle.site_model.specs.Sound.{HasNames}
+use Rattle.site_phases.specs.Constants.{PlainGlobals, settings_of}
+use Rattle.site_phases.specs.Phases.{phases, site_made}
+use Rattle.site_program.specs.Runs.{replied}
+use Rattle.site_program.specs.TaskAnswers.{Answers, AnswersBytes, AnswersOver, AnswersScript, AnswersShown, AnswersSite, AnswersRoot, Files, IsCounted, files_of, most_turns, root_name}
+use Rattle.site_program.proofs.Answering.{log_as}
+use Rattle.site_replies.specs.Replies.{listed}
+use Rattle.site_replies.specs.declared.replies.Shown.{Shown}
+use Rattle.site_replies.specs.declared.replies.Shown.TheVariants as shown
+use Rattle.site_run.proofs.OneLog.{one_log, one_run}
+use Rattle.site_run.specs.Logs.{AnswersWorld, EndsRun, EndsWhole, Whole}
+use Rattle.site_run.specs.Statuses.{number_of}
+use Rattle.site_run.specs.declared.status.Status.{Status}
+use Rattle.site_run.specs.declared.status.Status.TheVariants as status
+use Rattle.site_text.specs.Scripts.{Answer, Has, bad_line, told}
+use Rattle.site_text.proofs.ScriptLaws.{has_read}
+use Rattle.site_words.specs.Tasks.{Task, check, daemon, generate, objects, replay}
+use Rattle.typed_site.proofs.SoundLaws.{has_names}
+
+-- What can't be otherwise is so: texts and statuses are told apart.
+
+-- a fact can't be undecided
+undecided : (P : Type 0) → ((b : Bool) → Decides b P → ⊥) → ⊥
+undecided P h =
+    let no : P → ⊥ = λ p. h true ((λ _. p), (λ _. refl)) in
+    h false ((λ e. absurd cc), (λ p. absurd (no p)))
+
+same_text : (xs ys : List ℕ) → ((xs ≡ ys → ⊥) → ⊥) → xs ≡ ys
+same_text xs ys h = by (bytes_eq xs ys) refl
+  where
+    by : (b : Bool) → bytes_eq xs ys ≡ b → xs ≡ ys
+    by true e = (bytes_eq-Decides xs ys).0 e
+    by false e = absurd (h (λ same. let yes : bytes_eq xs ys ≡ true = (bytes_eq-Decides xs ys).1 same in absurd cc))
+
+status_numbered : ℕ → Status
+status_numbered n =
+    cond (nat_eq n 0) status.Done
+    (cond (nat_eq n 1) status.Diagnosed
+    (cond (nat_eq n 2) status.Usage
+    (cond (nat_eq n 3) status.ReadFault
+    (cond (nat_eq n 4) status.WriteFault
+    (cond (nat_eq n 5) status.WorldFault
+    (cond (nat_eq n 6) status.OutOfMemory status.TurnsSpent))))))
+
+numbered : (s : Status) → status_numbered (number_of s) ≡ s
+unfolding status_numbered
+numbered status.Done = refl
+numbered status.Diagnosed = refl
+numbered status.Usage = refl
+numbered status.ReadFault = refl
+numbered status.WriteFault = refl
+numbered status.WorldFault = refl
+numbered status.OutOfMemory = refl
+numbered status.TurnsSpent = refl
+
+same_status : (s t : Status) → ((s ≡ t → ⊥) → ⊥) → s ≡ t
+same_status s t h =
+    let numbers = same_text (number_of s ∷ []) (number_of t ∷ []) (λ no. h (λ same. no (ap (λ x. number_of x ∷ []) same))) in
+    let number : number_of s ≡ number_of t = cc in
+    sym (numbered s) ∙ ap status_numbered number ∙ numbered t
+
+same_whole : (v w : Whole) → ((v ≡ w → ⊥) → ⊥) → v ≡ w
+same_whole v w h =
+    let text = same_text v.text w.text (λ no. h (λ same. no (ap (λ x. x.text) same))) in
+    let ends = same_status v.ends w.ends (λ no. h (λ same. no (ap (λ x. x.ends) same))) in
+    λ i. record { text = text i; ends = ends i }
+
+-- Sites of configurations have names of their own.
+
+site_named : (files : List (List ℕ)) (g : PlainGlobals) (os : List PlainObject) (ds : List Diag) (s : PlainSite) → unless_told (site_made files g os) ds ≡ commits.site s → HasNames s
+site_named files g os [] s e = let same : site_made files g os ≡ s = cc in subst HasNames same (has_names files (settings_of g) os)
+site_named files g os (d ∷ ds) s e = absurd cc
+
+configured : (bad : Bool) (o : LoadOutcome) (s : PlainSite) → config_outcome bad o ≡ commits.site s → HasNames s
+unfolding commit
+configured bad (loads names load file) s e =
+    let g = globals_of load.store.cells file in
+    site_named names g (committed load) (first_told (map (diags_of load) waves ++ phases names g (committed load) bad)) s e
+configured bad (refuses names list) s e = absurd cc
+
+-- Answers over a root.
+
+-- what is asked of a site has one answer
+abbrev IsOne : (PlainSite → Whole → Type 0) → Type 0
+IsOne Is = (s : PlainSite) → HasNames s → (v w : Whole) → Is s v → Is s w → v ≡ w
+
+over_one : (Is : PlainSite → Whole → Type 0) → IsOne Is → (names : List (List ℕ)) (c : Committed PlainSite) → ((s : PlainSite) → c ≡ commits.site s → HasNames s)
+    → (v w : Whole) → AnswersOver Is v names c → AnswersOver Is w names c → v ≡ w
+over_one Is one names (commits.site s) named v w p q = one s (named s refl) v w p q
+over_one Is one names (commits.refused list) named v w p q = p ∙ sym q
+
+site_one : (files : Files) (root : List ℕ) (Is : PlainSite → Whole → Type 0) → IsOne Is → (v w : Whole) → AnswersSite files root Is v → AnswersSite files root Is w → v ≡ w
+site_one files root Is one v w p q =
+    let load = load_outcome files root in
+    same_whole v w (λ no. undecided (IsBadZone load) (λ bad d. no (over_one Is one (names_of load) (config_outcome bad load) (configured bad load) v w (p bad d) (q bad d))))
+
+shown_one : (files : Files) (how : Shown) (root : List ℕ) (v w : Whole) → AnswersShown files how root v → AnswersShown files how root w → v ≡ w
+shown_one files how root v w p q =
+    same_whole v w (λ no. undecided (IsBadZone (load_outcome files root)) (λ bad d. no (p bad d ∙ sym (q bad d))))
+
+-- Logs.
+
+script_one : (style : Style) (script : List ℕ) (s : PlainSite) → HasNames s → (a : Answer) (v w : Whole) → AnswersScript 1 style script s a v → AnswersScript 1 style script s a w → v ≡ w
+script_one style script s names (told turns) v w p q = one_log style most_turns s turns v w names p q
+script_one style script s names (bad_line n) v w p q = p ∙ sym q
+
+bytes_one : (style : Style) (script : List ℕ) (found : Option (List ℕ)) → IsOne (λ s w. AnswersBytes 1 style script s found w)
+bytes_one style script None s names v w p q = p ∙ sym q
+bytes_one style script (Some bytes) s names v w p q =
+    let same = sym (has_read bytes q.0 q.1) ∙ has_read bytes p.0 p.1 in
+    script_one style script s names p.0 v w p.2 (subst (λ a. AnswersScript 1 style script s a w) same q.2)
+
+world_one : (style : Style) (turns : List Turn) → IsOne (AnswersWorld 1 style most_turns (Some turns))
+world_one style turns s names v w p q = one_log style most_turns s turns v w names (log_as 1 style s turns v p) (log_as 1 style s turns w q)
+
+counted_one : (hosts : ℕ) → IsOne (IsCounted hosts)
+counted_one hosts s names v w p q =
+    let counts = p.are.counts ∙ ap counts_of (one_run s (all_turns hosts) p.are.logs q.are.logs names p.are.are q.are.are) ∙ sym q.are.counts in
+    p.is ∙ ap (λ c. replied (record { lines = count_lines (length (listed s.objects)) c; diagnosed = false })) counts ∙ sym q.is
+
+-- what answers to a task over files and turns
+pub one_answer : (t : Task) (files : Files) (turns : List Turn) (v w : Whole) → Answers 1 t (Some files) (Some turns) v → Answers 1 t (Some files) (Some turns) w → v ≡ w
+one_answer (check root) files turns v w p q = shown_one files shown.Count root v w p q
+one_answer (objects root) files turns v w p q = shown_one files shown.Listing root v w p q
+one_answer (replay style root script) files turns v w p q = site_one files root (λ s. AnswersBytes 1 style script s (find_file script files)) (bytes_one style script (find_file script files)) v w p q
+one_answer (daemon style root) files turns v w p q = site_one files root (AnswersWorld 1 style most_turns (Some turns)) (world_one style turns) v w p q
+one_answer (generate hosts) files turns v w p q = site_one (files_of hosts) root_name (IsCounted hosts) (counted_one hosts) v w p q
+
+-- Calm runs.
+
+ended : (s : Status) (t : Task) (files : Files) (turns : List Turn) (old new : Option (List ℕ)) (w : Whole) → Answers 1 t (Some files) (Some turns) w
+    → (v : Whole) × Answers 1 t (Some files) (Some turns) v × EndsWhole s v old new → EndsWhole s w old new
+ended s t files turns old new w is e = subst (λ x. EndsWhole s x old new) (one_answer t files turns e.0 w e.1 is) e.2
+
+-- where no fault of files, world or output ended it, a run wrote the whole answer, or there was no memory for it
+pub calm_runs_end : (s : Status) (t : Task) (files : Files) (turns : List Turn) (old new : Option (List ℕ)) (w : Whole)
+    → EndsRun s (Answers 1 t (Some files) (Some turns)) old new → (s ≡ status.ReadFault → ⊥) → (s ≡ status.WriteFault → ⊥) → (s ≡ status.WorldFault → ⊥)
+    → Answers 1 t (Some files) (Some turns) w → (s ≡ status.OutOfMemory) ⊎ EndsWhole s w old new
+calm_runs_end status.Done t files turns old new w e read write world is = inr (ended status.Done t files turns old new w is e)
+calm_runs_end status.Diagnosed t files turns old new w e read write world is = inr (ended status.Diagnosed t files turns old new w is e)
+calm_runs_end status.Usage t files turns old new w e read write world is = inr (ended status.Usage t files turns old new w is e)
+calm_runs_end status.ReadFault t files turns old new w e read write world is = absurd (read refl)
+calm_runs_end status.WriteFault t files turns old new w e read write world is = absurd (write refl)
+calm_runs_end status.WorldFault t files turns old new w e read write world is = absurd (world refl)
+calm_runs_end status.OutOfMemory t files turns old new w e read write world is = inl refl
+calm_runs_end status.TurnsSpent t files turns old new w e read write world is = inr (ended status.TurnsSpent t files turns old new w is e)
