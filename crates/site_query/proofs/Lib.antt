@@ -1,0 +1,5 @@
+pub mod PartLaws
+pub mod NameLaws
+pub mod LineLaws
+pub mod QueryLaws
+pub mod LoopLaws

@@ -1,0 +1,24 @@
+//! Queries: which hosts or services are asked for, and what is told of them.
+//!
+//! In reading order: the columns that can be asked for (`column`) and how they are compared (`op`), what a query asks for (`filter`, `query`)
+//! and why a text is none (`query_error`); how a text is cut (`cutting`), its numbers (`numbers`) and its lines (`query_line`, `lines`), and
+//! how a query is read (`reading`).
+#![tactic(auto)]
+
+mod column;
+mod cutting;
+mod filter;
+mod lines;
+mod numbers;
+mod op;
+mod query;
+mod query_error;
+mod query_line;
+mod reading;
+
+pub use column::Column;
+pub use filter::{Filter, FilterValue};
+pub use op::Op;
+pub use query::Query;
+pub use query_error::QueryError;
+pub use reading::read_query;
