@@ -1,3 +1,5 @@
+pub mod Answers
 pub mod Lines
 pub mod Names
 pub mod Reading
+pub mod Shown
