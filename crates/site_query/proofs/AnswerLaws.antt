@@ -1,5 +1,6 @@
 -- Answers, one checkable after another.
-use Rattle.std.proofs.Common.{◌≡◌, ℕ, zero, suc, ◌+◌, ◌-◌, ◌<◌, ◌≤◌, ◌&&◌, nat_lt, not, Bool, true, false, cond, List, [], ◌∷◌, ◌++◌, length, map, filter, take, drop, get_or, slice_get, refl, sym, ap, ap₂, ◌∙◌, subst, append_assoc, append-nil, arith, Option, Some, None}
+use Rattle.std.proofs.Common.{◌≡◌, ℕ, zero, suc, ◌+◌, ◌-◌, ◌<◌, ◌≤◌, ◌&&◌, nat_lt, Bool, true, false, cond, List, [], ◌∷◌, ◌++◌, length, map, take, drop, get_or, slice_get, refl, sym, ap, ap₂, ◌∙◌, subst, append_assoc, append-nil, arith, Some}
+use Rattle.std.proofs.lemmas.Bool.Decides.{nat_tests}
 use Rattle.std.proofs.lemmas.List.{drop_all, length-map}
 use Rattle.std.proofs.lemmas.Option.{slice_get-get_or}
 use Rattle.std.specs.List.{flat_map}
@@ -11,7 +12,7 @@ use Rattle.site_model.specs.PlainSite.{PlainCheck, PlainSite, check_view, site_v
 use Rattle.site_model.specs.declared.check_spec.CheckSpec.{CheckSpec}
 use Rattle.site_model.specs.declared.site.Site.{Site}
 use Rattle.site_posts.specs.Books.{AreBooks, histories_of}
-use Rattle.site_query.specs.Answers.{is_asked, asked_of, first_of, row_text, all_shown}
+use Rattle.site_query.specs.Answers.{is_asked, is_told, asked_of, first_of, row_text, all_shown}
 use Rattle.site_query.specs.Shown.{PlainShown, shown}
 use Rattle.site_query.specs.declared.column.Column.{Column}
 use Rattle.site_query.specs.declared.query.Query.{Query}
@@ -40,26 +41,36 @@ module _ (q : Query) (cs : List Column) (all : List PlainShown) (whole : List �
       ∙ (ap (λ u. cond u (s ∷ asked_of q (drop (suc i) all)) (asked_of q (drop (suc i) all))) e
       ∙ ap (λ ss. cond t (s ∷ asked_of q ss) (asked_of q ss)) (sym behind))
 
-  pub told_more : (left less : ℕ) (out new : List ℕ) → 0 < left → is_asked q s ≡ true → new ≡ out ++ row_text cs s → less ≡ left - 1 → IsSoFar q cs all whole i left out → IsSoFar q cs all whole (i + 1) less new
-  told_more left less out new some asked is fewer e =
-      ap₂ (λ xs n. xs ++ rows_of cs n (asked_of q (drop (i + 1) all))) is fewer
-      ∙ (append_assoc out (row_text cs s) (rows_of cs (left - 1) (asked_of q (drop (i + 1) all)))
-      ∙ (ap (λ xs. out ++ xs) (sym (ap (rows_of cs left) (asked_now true asked) ∙ one_line cs left s (asked_of q (drop (i + 1) all)) some))
-      ∙ e))
+  told_more : (left : ℕ) (out : List ℕ) → 0 < left → is_asked q s ≡ true → IsSoFar q cs all whole i left out → IsSoFar q cs all whole (i + 1) (left - 1) (out ++ row_text cs s)
+  told_more left out some asked e =
+      append_assoc out (row_text cs s) (rows_of cs (left - 1) (asked_of q (drop (i + 1) all)))
+      ∙ (ap (λ xs. out ++ xs) (sym (ap (rows_of cs left) (asked_now true asked) ∙ one_line cs left s (asked_of q (drop (i + 1) all)) some)) ∙ e)
 
-  pub told_past : (left same : ℕ) (out new : List ℕ) → is_asked q s ≡ false → new ≡ out → same ≡ left → IsSoFar q cs all whole i left out → IsSoFar q cs all whole (i + 1) same new
-  told_past left same out new passed is equal e =
-      ap₂ (λ xs n. xs ++ rows_of cs n (asked_of q (drop (i + 1) all))) is equal
-      ∙ (ap (λ xs. out ++ xs) (ap (rows_of cs left) (sym (asked_now false passed))) ∙ e)
+  told_past : (left : ℕ) (out : List ℕ) → is_asked q s ≡ false → IsSoFar q cs all whole i left out → IsSoFar q cs all whole (i + 1) left out
+  told_past left out passed e = ap (λ xs. out ++ xs) (ap (rows_of cs left) (sym (asked_now false passed))) ∙ e
 
-  full : (n : ℕ) (xs ys : List PlainShown) → n ≤ 0 → rows_of cs n xs ≡ rows_of cs n ys
-  full zero xs ys h = refl
-  full (suc n) xs ys h = absurd (omega arith)
+  -- whether it is told of or not
+  told_next : (left : ℕ) (out : List ℕ) → IsSoFar q cs all whole i left out
+      → IsSoFar q cs all whole (i + 1) (cond (is_told q left s) (left - 1) left) (cond (is_told q left s) (out ++ row_text cs s) out)
+  told_next zero out e = e
+  told_next (suc n) out e = by (is_asked q s) refl
+    where
+      Next : Bool → Type 0
+      Next t = IsSoFar q cs all whole (i + 1) (cond t (suc n - 1) (suc n)) (cond t (out ++ row_text cs s) out)
 
-  pub told_full : (left same : ℕ) (out new : List ℕ) → left ≤ 0 → new ≡ out → same ≡ left → IsSoFar q cs all whole i left out → IsSoFar q cs all whole (i + 1) same new
-  told_full left same out new none is equal e =
-      ap₂ (λ xs n. xs ++ rows_of cs n (asked_of q (drop (i + 1) all))) is equal
-      ∙ (ap (λ xs. out ++ xs) (full left (asked_of q (drop (i + 1) all)) (asked_of q (drop i all)) none) ∙ e)
+      test : (t : Bool) → is_asked q s ≡ t → is_told q (suc n) s ≡ t
+      test t h = let some : nat_lt 0 (suc n) ≡ true = grind (arith, nat_tests) in ap (λ u. u && is_asked q s) some ∙ h
+
+      by : (t : Bool) → is_asked q s ≡ t → Next (is_told q (suc n) s)
+      by true h = subst Next (sym (test true h)) (told_more (suc n) out (omega arith) h e)
+      by false h = subst Next (sym (test false h)) (told_past (suc n) out h e)
+
+  -- by what a call made of it
+  pub told_so : (x : PlainShown) → x ≡ s → (left less : ℕ) (out new : List ℕ) → new ≡ cond (is_told q left x) (out ++ row_text cs x) out → less ≡ cond (is_told q left x) (left - 1) left
+      → IsSoFar q cs all whole i left out → IsSoFar q cs all whole (i + 1) less new
+  told_so x is left less out new made fewer e =
+      ap₂ (λ xs n. xs ++ rows_of cs n (asked_of q (drop (i + 1) all))) (made ∙ ap (λ y. cond (is_told q left y) (out ++ row_text cs y) out) is) (fewer ∙ ap (λ y. cond (is_told q left y) (left - 1) left) is)
+      ∙ told_next left out e
 
 -- What checkables show.
 pub all_at : (xs : List CheckSpec) (ks : List Contents) (i m : ℕ) (x : CheckSpec) (k : Contents) → i < length xs → i < length ks → x ≡ get_or xs i x → k ≡ get_or ks i k

@@ -1,5 +1,5 @@
 -- What a query is answered.
-use Rattle.std.specs.Prelude.{ℕ, Bool, true, false, not, ◌&&◌, List, [], ◌∷◌, ◌++◌, filter, map, take, Option, Some, None, if◌then◌else◌}
+use Rattle.std.specs.Prelude.{ℕ, Bool, false, not, nat_lt, ◌&&◌, List, [], ◌∷◌, ◌++◌, filter, map, take, Option, Some, None, if◌then◌else◌}
 use Rattle.std.specs.Cmp.Lexicographic.{slice_cmp}
 use Rattle.std.specs.Fmt.{decimal}
 use Rattle.std.specs.List.{flat_map, join_with_byte, list_all}
@@ -54,6 +54,10 @@ is_asked q s = is_kind q.hosts s && list_all (meets s) q.filters
 -- those that are asked for
 abbrev pub asked_of : Query → List PlainShown → List PlainShown
 asked_of q ss = filter (is_asked q) ss
+
+-- one that is told of, where so many may be told
+abbrev pub is_told : Query → ℕ → PlainShown → Bool
+is_told q left s = nat_lt 0 left && is_asked q s
 
 -- the first so many, or all
 abbrev pub first_of : Option ℕ → List PlainShown → List PlainShown

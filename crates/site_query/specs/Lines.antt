@@ -37,6 +37,18 @@ IsValue column.Name text (value.Count n) = ⊥
 IsValue c text (value.Words words) = ⊥
 IsValue c text (value.Count n) = IsNumber most_number text n
 
+-- so a filter compares with a text exactly what is the name
+abbrev pub is_name : Column → Bool
+is_name column.Name = true
+is_name c = false
+
+abbrev pub is_words : FilterValue → Bool
+is_words (value.Words words) = true
+is_words (value.Count n) = false
+
+abbrev pub IsApt : Filter → Type 0
+IsApt f = is_words f.value ≡ is_name f.column
+
 -- one blank stands between two parts of a filter
 abbrev pub filter_text : Filter → List ℕ → List ℕ
 filter_text f text = column_name f.column ++ 32 ∷ (op_text f.op ++ 32 ∷ text)

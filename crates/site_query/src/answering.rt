@@ -1,14 +1,14 @@
 // Answering queries.
-ghost use Rattle.std.specs.Prelude.{◌≡◌, ◌≤◌, List, IfOk, length, take};
+ghost use Rattle.std.specs.Prelude.{◌≡◌, ◌≤◌, ◌-◌, ◌++◌, List, IfOk, OnOk, length, take, if◌then◌else◌};
 ghost use Rattle.site_model.specs.PlainSite.{site_view};
 ghost use Rattle.site_posts.specs.Books.{AreBooks, histories_of};
-ghost use Rattle.site_query.specs.Answers.{answer_text, first_of};
-ghost use Rattle.site_query.specs.Shown.{PlainShown};
+ghost use Rattle.site_query.specs.Answers.{answer_text, first_of, is_told, row_text};
+ghost use Rattle.site_query.specs.Shown.{PlainShown, shown_view};
 
-use crate::Query;
 use crate::meeting::is_asked;
 use crate::rows::{columns_told, push_row};
 use crate::shown::Shown;
+use crate::{Column, Query};
 use checkable_core::Checkable;
 use site_base::{Moment, OutOfMemory, Text};
 use site_model::Site;
@@ -41,12 +41,28 @@ pub fn answer(
     let mut out = Line::new(alloc)?;
     for i in 0..books.len() {
         let shown = Shown::of(&specs[i], &books[i], moment);
-        if left > 0 && is_asked(query, &shown) {
-            push_row(&mut out, columns, &shown)?;
-            left -= 1;
-        }
+        tell(&mut out, &mut left, query, columns, &shown)?;
     }
     out.into_text()
+}
+
+/// Adds the line of a checkable, if it is asked for and so many lines are left that it is told.
+fn tell(
+    out: &mut Line,
+    left: &mut u64,
+    query: &Query,
+    columns: &[Column],
+    shown: &Shown<'_>,
+) -> Result<(), OutOfMemory>
+    ensures out { OnOk result (out.new ≡ (if is_told query.now left.old (shown_view shown.now) then out.old ++ row_text columns.now (shown_view shown.now) else out.old)) }
+    ensures left { OnOk result (left.new ≡ (if is_told query.now left.old (shown_view shown.now) then left.old - 1 else left.old)) }
+{
+    if *left == 0 || !is_asked(query, shown) {
+        return Ok(());
+    }
+    push_row(out, columns, shown)?;
+    *left -= 1;
+    Ok(())
 }
 
 /// How many lines are told at most over so many checkables.

@@ -3,7 +3,7 @@ use site_base::OutOfMemory;
 use thiserror::Error;
 
 /// Why [`read_query`](crate::read_query) gives no query.
-#[derive(Clone, Copy, Debug, PartialEq, Eq, Error)]
+#[derive(Clone, Copy, Debug, Error)]
 pub enum QueryError {
     /// The first line, counted from 1, that is no line of a query in its place, also where it is missing; the greatest number
     /// stands for all lines from it on. It is 1 where the bytes aren't UTF-8.

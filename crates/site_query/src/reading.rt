@@ -1,6 +1,7 @@
 // Reading queries.
 ghost use Rattle.std.specs.Prelude.{◌≡◌, Some, None, MatchBool, IfOk};
-ghost use Rattle.site_query.specs.Lines.{Answer, Has, with_line};
+ghost use Rattle.std.specs.List.{AllByRecursion};
+ghost use Rattle.site_query.specs.Lines.{Answer, Has, IsApt, with_line};
 ghost use Rattle.site_query.specs.Reading.{Gives, Tells, lines_of, lines_read, query_read, text_read, with_text};
 
 use crate::cutting::cut_line;
@@ -28,6 +29,7 @@ pub fn read_query(alloc: Global, bytes: &[u8]) -> Result<Query, QueryError>
     ensures value { Gives result (query_read bytes.now) }
     ensures told { Tells (Has bytes.now) result }
     ensures only { (a : Answer) → Has bytes.now a → Gives result a }
+    ensures apt { IfOk result (λ q. AllByRecursion IsApt q.filters) }
 {
     read_bytes(alloc, bytes)
 }
