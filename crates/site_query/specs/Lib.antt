@@ -1,4 +1,5 @@
 pub mod Answers
+pub mod Example
 pub mod Lines
 pub mod Names
 pub mod Reading
