@@ -1,5 +1,6 @@
 -- What hosts and services show, column by column.
-use Rattle.std.specs.Prelude.{ℕ, Bool, true, false, List, Option, Some, None}
+use Rattle.std.specs.Prelude.{ℕ, Bool, true, false, List}
+use Rattle.std.specs.Option.{is_none, unwrap_or}
 use Rattle.run_meaning.specs.Downtimes.{in_effect}
 use Rattle.run_meaning.specs.View.{is_on, view_of}
 use Rattle.site_model.specs.PlainSite.{PlainCheck}
@@ -22,22 +23,13 @@ pub record PlainShown : Type 0 where
   pub view : View
   pub downtime : ℕ
 
--- a service has a host
-abbrev pub is_host : Option ℕ → Bool
-is_host None = true
-is_host (Some host) = false
-
-abbrev pub number_or_none : Option ℕ → ℕ
-number_or_none None = 0
-number_or_none (Some n) = n
-
--- what a checkable with these entries shows at a moment
+-- what a checkable with these entries shows at a moment; a service has a host
 abbrev pub shown : PlainCheck → List Entry → ℕ → PlainShown
 shown check history moment = record {
-  host = is_host check.host;
+  host = is_none check.host;
   name = check.name;
   view = view_of check history;
-  downtime = number_or_none (in_effect check history moment);
+  downtime = unwrap_or (in_effect check history moment) 0;
 }
 
 -- a service's from 0 to 3, a host's 0 or 1
