@@ -24,11 +24,11 @@ rest_more g made n m xs i x done more all e h is step grown so_far =
     ∙ ap (λ ys. done ++ g n ys) (sym (next_of xs i x h is))
     ∙ so_far
 
-events_step : (l : Line) (ls : List Line) → line_events (l ∷ ls) ≡ line_events (l ∷ []) ++ line_events ls
+pub events_step : (l : Line) (ls : List Line) → line_events (l ∷ ls) ≡ line_events (l ∷ []) ++ line_events ls
 events_step (asking a) ls = refl
 events_step (faulty f) ls = refl
 
-refusals_step : (n : ℕ) (l : Line) (ls : List Line) → line_refusals n (l ∷ ls) ≡ line_refusals n (l ∷ []) ++ line_refusals (suc n) ls
+pub refusals_step : (n : ℕ) (l : Line) (ls : List Line) → line_refusals n (l ∷ ls) ≡ line_refusals n (l ∷ []) ++ line_refusals (suc n) ls
 refusals_step n (asking a) ls = let e : n + 1 ≡ suc n = omega arith in ap (λ k. line_refusals k ls) e
 refusals_step n (faulty f) ls = let e : n + 1 ≡ suc n = omega arith in ap (λ k. refused_line n f ∷ line_refusals k ls) e
 

@@ -1,11 +1,12 @@
 // What the lines of a turn give.
-ghost use Rattle.std.specs.Prelude.{◌≡◌, ◌++◌, ◌∷◌, [], map, OnOk};
+ghost use Rattle.std.specs.Prelude.{◌≡◌, ◌+◌, ◌<◌, ◌^◌, ◌++◌, ◌∷◌, [], length, map, IfOk, OnOk};
 ghost use Rattle.site_model.specs.PlainSite.{site_view};
 ghost use Rattle.event_text.specs.Reading.{line_read};
 ghost use Rattle.run_meaning.specs.Dealing.{line_events, line_refusals};
-ghost use Rattle.run_text.specs.TurnReading.{as_line, lines_read};
+ghost use Rattle.run_text.specs.TurnReading.{as_line};
 ghost use Rattle.site_posts.specs.Made.{asked_of};
 ghost use Rattle.turn_deal.specs.Dealt.{refusal_of};
+ghost use Rattle.turn_deal.specs.Parts.{Deal};
 
 use crate::refusal::Refusal;
 use event_text::{LineError, read_line};
@@ -14,21 +15,37 @@ use site_model::Site;
 use site_posts::Act;
 use std::alloc::Global;
 
-/// Adds what these lines give, which are numbered from 1.
+/// The acts that lines give, and what is refused of them.
+#[derive(Drop)]
+pub(crate) struct LinesDealt {
+    pub acts: Vec<Act>,
+    pub refusals: Vec<Refusal>,
+}
+
+/// What these lines of a turn give. So many stand before them.
 pub(crate) fn deal_lines(
     alloc: Global,
     site: &Site,
+    before: usize,
     lines: &[Blob],
-    acts: &mut Vec<Act>,
-    refusals: &mut Vec<Refusal>,
-) -> Result<(), OutOfMemory>
-    ensures events { OnOk result (map asked_of acts.new.items ≡ map asked_of acts.old.items ++ line_events (lines_read (site_view site.now) lines.now)) }
-    ensures refusals { OnOk result (map refusal_of refusals.new.items ≡ map refusal_of refusals.old.items ++ line_refusals 1 (lines_read (site_view site.now) lines.now)) }
+) -> Result<LinesDealt, OutOfMemory>
+    requires { before + length lines.now < 2 ^ 64 }
+    ensures { IfOk result (Deal (site_view site.now) before lines.now) }
 {
+    let mut acts = Vec::with_capacity(alloc, lines.len())?;
+    let mut refusals = Vec::new(alloc);
     for (i, line) in lines.iter().enumerate() {
-        deal_line(alloc, site, i as u64 + 1, line.as_slice(), acts, refusals)?;
+        let number = (before + i) as u64 + 1;
+        deal_line(
+            alloc,
+            site,
+            number,
+            line.as_slice(),
+            &mut acts,
+            &mut refusals,
+        )?;
     }
-    Ok(())
+    Ok(LinesDealt { acts, refusals })
 }
 
 /// Adds what the line of this number gives.

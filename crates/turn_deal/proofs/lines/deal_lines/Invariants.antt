@@ -11,6 +11,6 @@ abbrev pub invariant-loop-i : goal.invariant-loop-i
 invariant-loop-i l =
     let s = site_view l.site in
     record {
-      events : map asked_of l.acts.items ++ line_events (lines_read s (drop l.i l.lines)) ≡ map asked_of l.initial.acts.items ++ line_events (lines_read s l.fn.lines);
-      refusals : map refusal_of l.refusals.items ++ line_refusals (l.i + 1) (lines_read s (drop l.i l.lines)) ≡ map refusal_of l.initial.refusals.items ++ line_refusals 1 (lines_read s l.fn.lines);
+      events : map asked_of l.acts.items ++ line_events (lines_read s (drop l.i l.lines)) ≡ line_events (lines_read s l.fn.lines);
+      refusals : map refusal_of l.refusals.items ++ line_refusals (l.before + l.i + 1) (lines_read s (drop l.i l.lines)) ≡ line_refusals (l.before + 1) (lines_read s l.fn.lines);
     }
