@@ -16,7 +16,7 @@ use site_edge::Turn;
 use site_posts::{round_many, round_one};
 use std::sync::Wait;
 use std::thread::Threads;
-use turn_deal::{Dealt, deal};
+use turn_deal::{Dealt, deal, deal_by_many};
 
 /// Takes a turn by one worker: its lines, the reports of its orders and the ticks of problems make a round, after which checks are ordered.
 pub(crate) fn take_alone(works: &mut Works, turn: &Turn) -> Result<TurnOut, OutOfMemory>
@@ -59,7 +59,7 @@ pub(crate) fn take_by_many<R: Wait + Threads + Sync, G: Gate + Sync>(
     ensures site { OnOk result (works.new.site ≡ works.old.site) }
     ensures zone { OnOk result (works.new.zone ≡ works.old.zone) }
 {
-    let (moment, dealt) = deal_turn(works, turn)?;
+    let (moment, dealt) = deal_turn_by_many(rt, works, turn, workers)?;
     let lists = dealt.acts.for_many(works.alloc, workers)?;
     let segments = round_many(
         rt,
@@ -89,6 +89,32 @@ fn deal_turn(works: &mut Works, turn: &Turn) -> Result<(Moment, Dealt), OutOfMem
         works.not_started.as_slice(),
         turn,
         moment,
+    )?;
+    Ok((moment, dealt))
+}
+
+/// Deals a turn as [`deal_turn`] does. So many threads at most read its lines.
+fn deal_turn_by_many<R: Threads + Sync>(
+    rt: &R,
+    works: &mut Works,
+    turn: &Turn,
+    threads: u32,
+) -> Result<(Moment, Dealt), OutOfMemory>
+    requires ready { IsReady works.old }
+    requires threads { 1 ≤ threads }
+    ensures { IfOk result (λ r. IsOpen works.old turn.now r.0 r.1 works.new) }
+{
+    let moment = later_of(works.moment, turn.moment);
+    let dealt = deal_by_many(
+        rt,
+        works.alloc,
+        &works.site,
+        &mut works.plan,
+        &works.problems,
+        works.not_started.as_slice(),
+        turn,
+        moment,
+        threads,
     )?;
     Ok((moment, dealt))
 }

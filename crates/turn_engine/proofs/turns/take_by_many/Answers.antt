@@ -24,19 +24,19 @@ round_many-requires-clause-callers g c κs within =
 
 pub round_many-requires-clause-acts : goal.round_many-requires-clause-acts
 round_many-requires-clause-acts g c κs within =
-    subst (All (λ events. AreOnSite (site_view c.deal_turn.new.works.site) events)) (sym c.in_ok-lists.ensures) (given_to_on_site c.in_ok-moment.ensures c.args.workers)
+    subst (All (λ events. AreOnSite (site_view c.deal_turn_by_many.new.works.site) events)) (sym c.in_ok-lists.ensures) (given_to_on_site c.in_ok-moment.ensures c.args.workers)
 
 pub settle-requires : goal.settle-requires
 settle-requires g c =
     let dealt = c.in_ok-moment.ensures in
-    let w = c.deal_turn.new.works in
+    let w = c.deal_turn_by_many.new.works in
     let made = subst (λ es. IsRoundOf (site_view w.site) w.zone c.in_ok-moment.moment w.books.items c.round_many.new.books.items es c.in_ok-segments.segments) c.in_ok-lists.ensures c.in_ok-segments.ensures in
     can_settle {plan = c.args.works.now.plan} {books = w.books} (rounded dealt c.requires.workers.0 made) (still_few dealt c.requires.few)
 
 pub returns-clause-takes : goal.returns-clause-takes
 returns-clause-takes g c = λ begun.
     let dealt = c.in_ok-moment.ensures in
-    let w = c.deal_turn.new.works in
+    let w = c.deal_turn_by_many.new.works in
     let made = subst (λ es. IsRoundOf (site_view w.site) w.zone c.in_ok-moment.moment w.books.items c.round_many.new.books.items es c.in_ok-segments.segments) c.in_ok-lists.ensures c.in_ok-segments.ensures in
     taken_so dealt c.settle.result c.args.workers begun c.settle.new.works
     (c.settle.ensures.takes c.args.works.now.plan w.books c.args.workers c.args.turn.now begun (rounded dealt c.requires.workers.0 made))
@@ -44,7 +44,7 @@ returns-clause-takes g c = λ begun.
 pub returns-clause-ready : goal.returns-clause-ready
 returns-clause-ready g c =
     let dealt = c.in_ok-moment.ensures in
-    let w = c.deal_turn.new.works in
+    let w = c.deal_turn_by_many.new.works in
     let made = subst (λ es. IsRoundOf (site_view w.site) w.zone c.in_ok-moment.moment w.books.items c.round_many.new.books.items es c.in_ok-segments.segments) c.in_ok-lists.ensures c.in_ok-segments.ensures in
     c.settle.ensures.ready c.args.works.now.plan w.books c.args.workers c.args.turn.now (rounded dealt c.requires.workers.0 made)
 
