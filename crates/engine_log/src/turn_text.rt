@@ -1,24 +1,20 @@
 // The lines of a turn.
 ghost use Rattle.std.specs.Prelude.{◌≡◌, ◌<◌, ◌++◌, length, map, All, IfOk, OnOk};
-ghost use Rattle.std.specs.List.{flat_map};
 ghost use Rattle.site_model.specs.PlainSite.{site_view};
 ghost use Rattle.site_model.specs.Sound.{IsSound};
-ghost use Rattle.site_text.specs.Entries.{IsPrintable};
 ghost use Rattle.run_meaning.specs.Runs.{TurnLog};
-ghost use Rattle.run_text.specs.LogText.{ordered_line, refusal_line, styled_entry, turn_lines as lines_of_turn};
+ghost use Rattle.run_text.specs.LogText.{ordered_line, refusal_line, turn_lines as lines_of_turn};
 ghost use Rattle.turn_deal.specs.Dealt.{refusal_of};
 ghost use Rattle.turn_engine.specs.Orders.{order_as};
 ghost use Rattle.turn_engine.specs.Stages.{Tells};
-ghost use Rattle.engine_log.specs.TurnLines.{segment_lines};
 ghost use Rattle.engine_log.specs.OnSite.{IsTurnOf};
 
+use crate::entries::add_segments;
 use crate::refusals::print_refusal;
-use log_text::{print_entry_two, print_missing, print_order, print_order_two, print_turn};
+use log_text::{print_missing, print_order, print_order_two, print_turn};
 use run_text::Style;
 use site_base::{OutOfMemory, Row, Text, Texts};
-use site_model::{Entry, Site};
-use site_posts::Segment;
-use site_text::print_entry;
+use site_model::Site;
 use std::alloc::Global;
 use turn_deal::Refusal;
 use turn_engine::{OrderOut, TurnOut};
@@ -51,7 +47,11 @@ pub fn turn_lines(
 }
 
 /// Adds the lines of what is refused.
-fn add_refusals(alloc: Global, refusals: &[Refusal], lines: &mut Texts) -> Result<(), OutOfMemory>
+pub(crate) fn add_refusals(
+    alloc: Global,
+    refusals: &[Refusal],
+    lines: &mut Texts,
+) -> Result<(), OutOfMemory>
     ensures { OnOk result (lines.new ≡ lines.old ++ map refusal_line (map refusal_of refusals.now)) }
 {
     for refusal in refusals {
@@ -60,67 +60,8 @@ fn add_refusals(alloc: Global, refusals: &[Refusal], lines: &mut Texts) -> Resul
     Ok(())
 }
 
-/// Adds the lines of the entries, checkable after checkable.
-fn add_segments(
-    alloc: Global,
-    style: Style,
-    site: &Site,
-    segments: &[Segment],
-    lines: &mut Texts,
-) -> Result<(), OutOfMemory>
-    requires { All (λ x. All (IsPrintable (site_view site.now) x.checkable) x.entries) segments.now }
-    ensures { OnOk result (lines.new ≡ lines.old ++ flat_map (segment_lines style (site_view site.now)) segments.now) }
-{
-    for segment in segments {
-        add_entries(
-            alloc,
-            style,
-            site,
-            segment.checkable,
-            segment.entries.as_slice(),
-            lines,
-        )?;
-    }
-    Ok(())
-}
-
-/// Adds the lines of the entries of a checkable.
-fn add_entries(
-    alloc: Global,
-    style: Style,
-    site: &Site,
-    checkable: u32,
-    entries: &[Entry],
-    lines: &mut Texts,
-) -> Result<(), OutOfMemory>
-    requires { All (IsPrintable (site_view site.now) checkable) entries.now }
-    ensures { OnOk result (lines.new ≡ lines.old ++ map (styled_entry style (site_view site.now) checkable) entries.now) }
-{
-    for entry in entries {
-        lines.push(print_styled(alloc, style, entry, checkable, site)?)?;
-    }
-    Ok(())
-}
-
-/// The line of an entry in this version.
-fn print_styled(
-    alloc: Global,
-    style: Style,
-    entry: &Entry,
-    checkable: u32,
-    site: &Site,
-) -> Result<Text, OutOfMemory>
-    requires { IsPrintable (site_view site.now) checkable entry.now }
-    ensures { IfOk result (λ t. t ≡ styled_entry style (site_view site.now) checkable entry.now) }
-{
-    match style {
-        Style::One => print_entry(alloc, entry, checkable, site),
-        Style::Two => print_entry_two(alloc, entry, checkable, site),
-    }
-}
-
 /// Adds the lines of the orders.
-fn add_orders(
+pub(crate) fn add_orders(
     alloc: Global,
     style: Style,
     site: &Site,

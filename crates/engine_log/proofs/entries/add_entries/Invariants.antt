@@ -2,7 +2,7 @@
 use Rattle.std.proofs.Common.{◌≡◌, ◌++◌, map, drop}
 use Rattle.site_model.specs.PlainSite.{site_view}
 use Rattle.run_text.specs.LogText.{styled_entry}
-use Rattle.engine_log.proofs.turn_text.add_entries.Given as goal
+use Rattle.engine_log.proofs.entries.add_entries.Given as goal
 
 abbrev pub invariant-loop-entry : goal.invariant-loop-entry
 invariant-loop-entry l =

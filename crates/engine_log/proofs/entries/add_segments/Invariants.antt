@@ -3,7 +3,7 @@ use Rattle.std.proofs.Common.{◌≡◌, ◌++◌, drop}
 use Rattle.std.specs.List.{flat_map}
 use Rattle.site_model.specs.PlainSite.{site_view}
 use Rattle.engine_log.specs.TurnLines.{segment_lines}
-use Rattle.engine_log.proofs.turn_text.add_segments.Given as goal
+use Rattle.engine_log.proofs.entries.add_segments.Given as goal
 
 abbrev pub invariant-loop-segment : goal.invariant-loop-segment
 invariant-loop-segment l =

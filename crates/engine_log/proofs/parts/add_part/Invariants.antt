@@ -1,0 +1,7 @@
+-- What is left comes behind the lines so far.
+use Rattle.std.proofs.Common.{◌≡◌, ◌++◌}
+use Rattle.std.specs.Vec.Iter.{into_iter_items}
+use Rattle.engine_log.proofs.parts.add_part.Given as goal
+
+abbrev pub invariant-loop-line : goal.invariant-loop-line
+invariant-loop-line l = l.lines ++ into_iter_items l.line-iterator ≡ l.initial.lines ++ l.fn.part
