@@ -1,10 +1,13 @@
 // The whole run, with as many workers as are asked for.
 ghost use Rattle.std.specs.Prelude.{◌≡◌, ◌≢◌, ◌↔◌, ◌<◌, ◌^◌, Bool, List, false, true, None, IfSome, IfOk, OnOk};
-ghost use Rattle.run_meaning.specs.Runs.{begun_by};
+ghost use Rattle.run_meaning.specs.Runs.{TurnLog, begun_by};
 ghost use Rattle.run_meaning.specs.Turns.{Begun};
+ghost use Rattle.run_text.specs.LogText.{turn_lines};
 ghost use Rattle.run_text.specs.TurnReading.{turn_read};
 ghost use Rattle.site_model.specs.PlainSite.{site_view};
-ghost use Rattle.turn_engine.specs.Stages.{TellsTurn, basis_of_site, stage_of};
+ghost use Rattle.site_model.specs.Sound.{IsSound};
+ghost use Rattle.turn_engine.specs.Stages.{Tells, TellsTurn, basis_of_site, stage_of};
+ghost use Rattle.engine_log.specs.OnSite.{IsTurnOf};
 ghost use Rattle.site_edge.specs.Told.{Rose};
 ghost use Rattle.site_words.specs.Commands.{command_of as command_in};
 ghost use Rattle.site_run.specs.Callers.{AreCallers};
@@ -13,9 +16,12 @@ ghost use Rattle.site_run.specs.Ends.{HandsOn, outside};
 ghost use Rattle.site_program.specs.TaskAnswers.{Answers, Came, is_daemon, is_generate};
 
 use crate::running::{run_one, run_task};
+use engine_log::turn_lines_by_many;
 use post_turn::Gate;
-use site_base::{OutOfMemory, Text};
+use run_text::Style;
+use site_base::{OutOfMemory, Text, Texts};
 use site_edge::{Files, Sink, Turn, World};
+use site_model::Site;
 use site_run::{ManyWorkers, Status};
 use site_words::command_of;
 use std::alloc::Global;
@@ -80,6 +86,15 @@ pub fn run<F: Files, W: World, S: Sink, R: Wait + Threads + Sync, G: Gate + Sync
             ensures zone { OnOk result (engine.new.run.zone ≡ engine.old.run.zone) }
             ensures fresh { OnOk result (engine.new.spent ≡ false) }
         { engine.turn(rt, turn, count, gate) },
+        tell: |alloc: Global, style: Style, site: &Site, turn: &TurnOut| -> Result<
+            Texts,
+            OutOfMemory,
+        >
+            requires sound { IsSound (site_view site.now) }
+            requires turn { IsTurnOf (site_view site.now) turn.now }
+            requires workers { AreCallers count }
+            ensures { (l : TurnLog) → Tells turn.now l → IfOk result (λ lines. lines ≡ turn_lines style (site_view site.now) l) }
+        { turn_lines_by_many(rt, alloc, style, site, turn, count) },
     };
     run_task(alloc, &workers, command.task, files, world, out)
 }

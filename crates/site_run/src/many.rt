@@ -1,34 +1,57 @@
 // Several workers.
 ghost use Rattle.std.specs.Prelude.{◌≡◌, ◌<◌, ◌^◌, List, false, IfOk, OnOk};
-ghost use Rattle.run_meaning.specs.Runs.{begun_by};
+ghost use Rattle.run_meaning.specs.Runs.{TurnLog, begun_by};
 ghost use Rattle.run_meaning.specs.Turns.{Begun};
+ghost use Rattle.run_text.specs.LogText.{turn_lines};
 ghost use Rattle.run_text.specs.TurnReading.{turn_read};
 ghost use Rattle.site_model.specs.PlainSite.{site_view};
-ghost use Rattle.turn_engine.specs.Stages.{TellsTurn, basis_of_site, stage_of};
+ghost use Rattle.site_model.specs.Sound.{IsSound};
+ghost use Rattle.turn_engine.specs.Stages.{Tells, TellsTurn, basis_of_site, stage_of};
+ghost use Rattle.engine_log.specs.OnSite.{IsTurnOf};
 ghost use Rattle.site_run.specs.Callers.{AreCallers};
 
 use crate::workers::Workers;
-use site_base::OutOfMemory;
+use run_text::Style;
+use site_base::{OutOfMemory, Texts};
 use site_edge::Turn;
+use site_model::Site;
+use std::alloc::Global;
 use turn_engine::{Engine, TurnOut};
 
-/// So many callers at once, each in a thread of its own if several have something to do. A closure takes each turn for them: it has
-/// what threads are made and waited for by.
+/// So many callers at once, each in a thread of its own if several have something to do. One closure takes each turn for them, and one
+/// makes its lines: they have what threads are made and waited for by.
 #[derive(Drop)]
-pub struct ManyWorkers<T> {
+pub struct ManyWorkers<T, L> {
     pub count: u32,
     pub take: T,
+    pub tell: L,
 }
 
-impl<T: Fn(&mut Engine, &Turn) -> Result<TurnOut, OutOfMemory>> Workers for ManyWorkers<T> {
+impl<
+    T: Fn(&mut Engine, &Turn) -> Result<TurnOut, OutOfMemory>,
+    L: Fn(Global, Style, &Site, &TurnOut) -> Result<Texts, OutOfMemory>,
+> Workers for ManyWorkers<T, L> {
     ghost callers = { λ w. w.count };
 
     ghost apt = { λ w. ((engine : _) (turn : _) → engine.now.spent ≡ false → engine.now.run.turns < 2 ^ 40 → T.pre w.take engine turn) ×
         ((engine : _) (turn : _) (out : _) (left : _) → T.post w.take engine turn out left →
         ((begun : List Begun) → IfOk out (λ o. TellsTurn (basis_of_site (site_view engine.now.run.site) engine.now.run.zone) w.count (stage_of engine.now.run begun) (turn_read (site_view engine.now.run.site) turn.now) o (stage_of left.now.run (begun_by (stage_of engine.now.run begun) left.now.run.moment)))) ×
-        OnOk out (left.now.run.site ≡ engine.now.run.site) × OnOk out (left.now.run.zone ≡ engine.now.run.zone) × OnOk out (left.now.spent ≡ false)) };
+        OnOk out (left.now.run.site ≡ engine.now.run.site) × OnOk out (left.now.run.zone ≡ engine.now.run.zone) × OnOk out (left.now.spent ≡ false)) ×
+        ((alloc : _) (style : _) (site : _) (turn : _) → IsSound (site_view site.now) → IsTurnOf (site_view site.now) turn.now → L.pre w.tell alloc style site turn) ×
+        ((alloc : _) (style : _) (site : _) (turn : _) (out : _) → L.post w.tell alloc style site turn out →
+        (l : TurnLog) → Tells turn.now l → IfOk out (λ lines. lines ≡ turn_lines style (site_view site.now) l)) };
 
     fn turn(&self, engine: &mut Engine, turn: &Turn) -> Result<TurnOut, OutOfMemory> {
         (self.take)(engine, turn)
+    }
+
+    fn tell(
+        &self,
+        alloc: Global,
+        style: Style,
+        site: &Site,
+        turn: &TurnOut,
+    ) -> Result<Texts, OutOfMemory> {
+        (self.tell)(alloc, style, site, turn)
     }
 }

@@ -12,7 +12,6 @@ ghost use Rattle.site_run.specs.Feeds.{feed_after};
 use crate::feed::Feed;
 use crate::starting::started_of;
 use crate::workers::Workers;
-use engine_log::turn_lines;
 use run_text::Style;
 use site_base::{Blob, OutOfMemory, Row, Texts};
 use site_edge::{Order, Turn};
@@ -55,7 +54,7 @@ pub(crate) fn take<F: Feed, C: Workers>(
     let fed = feed.lines(engine.books(), moment)?;
     let turn = with_lines(fed, turn)?;
     let out = workers.turn(engine, &turn)?;
-    let lines = turn_lines(alloc, style, engine.site(), &out)?;
+    let lines = workers.tell(alloc, style, engine.site(), &out)?;
     let orders = started_of(alloc, out.orders)?;
     Ok(Taken { lines, orders })
 }

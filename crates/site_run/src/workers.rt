@@ -1,14 +1,21 @@
 // Who takes the events of a turn.
 ghost use Rattle.std.specs.Prelude.{◌≡◌, ◌<◌, ◌^◌, ℕ, List, false, IfOk, OnOk};
-ghost use Rattle.run_meaning.specs.Runs.{begun_by};
+ghost use Rattle.run_meaning.specs.Runs.{TurnLog, begun_by};
 ghost use Rattle.run_meaning.specs.Turns.{Begun};
+ghost use Rattle.run_text.specs.LogText.{turn_lines};
 ghost use Rattle.run_text.specs.TurnReading.{turn_read};
 ghost use Rattle.site_model.specs.PlainSite.{site_view};
-ghost use Rattle.turn_engine.specs.Stages.{TellsTurn, basis_of_site, stage_of};
+ghost use Rattle.site_model.specs.Sound.{IsSound};
+ghost use Rattle.turn_engine.specs.Stages.{Tells, TellsTurn, basis_of_site, stage_of};
+ghost use Rattle.engine_log.specs.OnSite.{IsTurnOf};
 ghost use Rattle.site_run.specs.Callers.{AreCallers};
 
-use site_base::OutOfMemory;
+use engine_log::turn_lines;
+use run_text::Style;
+use site_base::{OutOfMemory, Texts};
 use site_edge::Turn;
+use site_model::Site;
+use std::alloc::Global;
 use turn_engine::{Engine, TurnOut};
 
 /// Who takes the events of a turn: so many callers at once, to which they are dealt.
@@ -34,6 +41,24 @@ pub trait Workers {
         ensures site { OnOk result (engine.new.run.site ≡ engine.old.run.site) }
         ensures zone { OnOk result (engine.new.run.zone ≡ engine.old.run.zone) }
         ensures fresh { OnOk result (engine.new.spent ≡ false) };
+
+    /// The lines that tell a turn over a site, as [`turn_lines`] gives them.
+    ///
+    /// # Errors
+    ///
+    /// `OutOfMemory` where there is none for a line.
+    fn tell(
+        &self,
+        alloc: Global,
+        style: Style,
+        site: &Site,
+        turn: &TurnOut,
+    ) -> Result<Texts, OutOfMemory>
+        requires callers { AreCallers (callers self.now) }
+        requires apt { apt self.now }
+        requires sound { IsSound (site_view site.now) }
+        requires turn { IsTurnOf (site_view site.now) turn.now }
+        ensures { (l : TurnLog) → Tells turn.now l → IfOk result (λ lines. lines ≡ turn_lines style (site_view site.now) l) };
 }
 
 /// One caller, that of the run itself: no thread is made.
@@ -47,5 +72,15 @@ impl Workers for OneWorker {
 
     fn turn(&self, engine: &mut Engine, turn: &Turn) -> Result<TurnOut, OutOfMemory> {
         engine.turn_one(turn)
+    }
+
+    fn tell(
+        &self,
+        alloc: Global,
+        style: Style,
+        site: &Site,
+        turn: &TurnOut,
+    ) -> Result<Texts, OutOfMemory> {
+        turn_lines(alloc, style, site, turn)
     }
 }

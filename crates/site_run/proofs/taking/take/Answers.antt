@@ -27,11 +27,11 @@ lines-requires g c =
     } in
     are
 
-pub turn_lines-requires-clause-sound : goal.turn_lines-requires-clause-sound
-turn_lines-requires-clause-sound g c = subst (λ (x : Site). IsSound (site_view x)) (sym (c.site.ensures ∙ c.in_ok-out.ensures.site)) c.requires.sound
+pub tell-requires-clause-sound : goal.tell-requires-clause-sound
+tell-requires-clause-sound g c = subst (λ (x : Site). IsSound (site_view x)) (sym (c.site.ensures ∙ c.in_ok-out.ensures.site)) c.requires.sound
 
-pub turn_lines-requires-clause-turn : goal.turn_lines-requires-clause-turn
-turn_lines-requires-clause-turn g c =
+pub tell-requires-clause-turn : goal.tell-requires-clause-turn
+tell-requires-clause-turn g c =
     let r = c.args.engine.now.run in
     let x = c.in_ok-out.ensures.turn [] in
     subst (λ (x : Site). IsTurnOf (site_view x) c.in_ok-out.out) (sym (c.site.ensures ∙ c.in_ok-out.ensures.site))
