@@ -1,0 +1,9 @@
+pub mod Books
+pub mod ByStart
+pub mod Civil
+pub mod Finding
+pub mod Instants
+pub mod NoneDue
+pub mod Quiet
+pub mod Sleep
+pub mod Steps

@@ -1,0 +1,9 @@
+pub mod Instants
+pub mod Segments
+pub mod Due
+pub mod Bookings
+pub mod Lines
+pub mod Giving
+pub mod Turns
+pub mod Waiting
+pub mod Contents

@@ -1,0 +1,26 @@
+//! Downtimes that recur: what `ScheduledDowntime` objects give at the turns of a run, as command lines (Icinga 2 documentation, Object Types,
+//! "ScheduledDowntime", and Advanced Topics, "Recurring Downtimes").
+//!
+//! This project's own, and no statement about Icinga 2: a downtime is given a day ahead of its segment, and `vars.triggered_by` names the checkable by
+//! whose downtimes an object's are triggered.
+//!
+//! In reading order: the segments of time ranges (`segment`), those around a moment (`around`) and those that are due (`looking`); what recurs
+//! (`recurring`) and how it is read from a site (`reading`); the downtime of a segment (`booking`) and its line (`line`); a turn (`turn`), what
+//! waits for its next segment (`waiting`), all that waits (`walking`), and the feed (`recur`).
+#![tactic(auto)]
+
+mod around;
+mod booking;
+mod line;
+mod looking;
+mod recur;
+mod recurring;
+mod segment;
+mod turn;
+mod waiting;
+mod walking;
+
+pub use booking::Booking;
+pub use recur::Recur;
+pub use recurring::Recurring;
+pub use segment::Segment;
