@@ -158,3 +158,19 @@ pub only_by_start : (xs ys : List Segment) → IsNonDecreasingBy (λ s. s.start)
 only_by_start xs ys h k =
     same ys (by_start xs) (later_at Rises ys (λ i j d lt within. h i j d (omega arith) within)) (by_start_rises xs)
     (λ x. sym (tests_agree x ys) ∙ k x ∙ tests_agree x xs ∙ sym (by_start_stable x xs))
+
+rises_at : (xs : List Segment) → AllLater Rises xs → (i j : ℕ) (d : Segment) → i ≤ j → j < length xs → (slice_index_or xs i d).start ≤ (slice_index_or xs j d).start
+rises_at [] h i j d a k = absurd (omega arith)
+rises_at (x ∷ xs) h zero zero d a k = omega arith
+rises_at (x ∷ xs) h zero (suc j) d a k = first_rises x xs h.0 j d (omega arith)
+  where
+    first_rises : (x : Segment) (ys : List Segment) → AllByRecursion (Rises x) ys → (j : ℕ) (d : Segment) → j < length ys → x.start ≤ (slice_index_or ys j d).start
+    first_rises x [] h j d k = absurd (omega arith)
+    first_rises x (y ∷ ys) h zero d k = h.0
+    first_rises x (y ∷ ys) h (suc j) d k = first_rises x ys h.1 j d (omega arith)
+rises_at (x ∷ xs) h (suc i) zero d a k = absurd (omega arith)
+rises_at (x ∷ xs) h (suc i) (suc j) d a k = rises_at xs h.1 i j d (omega arith) (omega arith)
+
+-- the list by starts rises
+pub rises_by_start : (xs : List Segment) (i j : ℕ) (d : Segment) → i ≤ j → j < length (by_start xs) → (slice_index_or (by_start xs) i d).start ≤ (slice_index_or (by_start xs) j d).start
+rises_by_start xs = rises_at (by_start xs) (by_start_rises xs)

@@ -4,6 +4,8 @@ pub mod Civil
 pub mod Finding
 pub mod Instants
 pub mod NoneDue
+pub mod Once
 pub mod Quiet
+pub mod Readback
 pub mod Sleep
 pub mod Steps

@@ -59,7 +59,7 @@ step_of day d h e =
     (k, omega (arith, signed_arith), omega (arith, signed_arith))
 
 -- so a segment that ends after a moment and begins before the horizon is found
-is_around : (clock : Option Tzif) (moment : ℕ) (found : List Segment) (span : DaySpan) (day : ℤ) (s : Segment) → IsFound clock (moment / 86400) found span → segment_on clock span day ≡ Some s → moment < s.«end» → s.start < horizon_of moment → Among s found
+pub is_around : (clock : Option Tzif) (moment : ℕ) (found : List Segment) (span : DaySpan) (day : ℤ) (s : Segment) → IsFound clock (moment / 86400) found span → segment_on clock span day ≡ Some s → moment < s.«end» → s.start < horizon_of moment → Among s found
 is_around clock moment found span day s f e h k =
     let is = segment_is clock span day s e in
     let first = moment_within clock day span.from s.start is.start_is in
@@ -97,7 +97,7 @@ none_by_start : (s : Segment) (ss : List Segment) → by_start ss ≡ [] → Amo
 none_by_start s [] e h = elim h [ ]
 none_by_start s (t ∷ ts) e h = no_put t (by_start ts) e
 
-due_test : (from till moment : ℕ) (s : Segment) → from ≤ s.start → s.start ≤ till → moment < s.«end» → is_due from till moment s ≡ true
+pub due_test : (from till moment : ℕ) (s : Segment) → from ≤ s.start → s.start ≤ till → moment < s.«end» → is_due from till moment s ≡ true
 due_test from till moment s a b e = grind (arith, nat_tests)
 
 -- each segment that is found and begins after a second begins at the least such start or later

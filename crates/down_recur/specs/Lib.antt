@@ -1,9 +1,12 @@
 pub mod Instants
 pub mod Segments
 pub mod Due
+pub mod Recurrings
 pub mod Bookings
 pub mod Lines
 pub mod Giving
+pub mod Laws
+pub mod Readback
 pub mod Turns
 pub mod Waiting
 pub mod Contents

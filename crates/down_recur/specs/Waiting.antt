@@ -1,5 +1,5 @@
 -- When nothing is due for a while.
-use Rattle.std.specs.Prelude.{ℕ, ◌+◌, ◌-◌, ◌<◌, ◌≤◌, min, nat_le, nat_lt, Bool, ◌&&◌, Option, List, [], ◌∷◌}
+use Rattle.std.specs.Prelude.{◌≡◌, ℕ, ◌+◌, ◌-◌, ◌<◌, ◌≤◌, min, nat_le, nat_lt, Bool, ◌&&◌, Option, List, [], ◌∷◌}
 use Rattle.std.specs.List.{AllByRecursion}
 use Rattle.jiff_tz.specs.declared.tzif.Tzif.{Tzif}
 use Rattle.down_recur.specs.Due.{IsQuiet}
@@ -13,6 +13,10 @@ recurring_in w = w.recurring
 -- no segment that isn't done yet and ends after it was looked at begins before `next`
 abbrev pub IsWaiting : Option Tzif → Waiting → Type 0
 IsWaiting zone w = IsQuiet zone w.recurring.spans w.recurring.done w.seen w.next
+
+-- at first it is looked at at once
+abbrev pub IsFresh : Waiting → Type 0
+IsFresh w = w.next ≡ 0
 
 -- so nothing is due from one moment on and before another
 abbrev pub IsAsleep : ℕ → ℕ → Waiting → Type 0

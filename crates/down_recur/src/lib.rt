@@ -6,13 +6,15 @@
 //!
 //! In reading order: the segments of time ranges (`segment`), those around a moment (`around`) and those that are due (`looking`); what recurs
 //! (`recurring`) and how it is read from a site (`reading`); the downtime of a segment (`booking`) and its line (`line`); a turn (`turn`), what
-//! waits for its next segment (`waiting`), all that waits (`walking`), and the feed (`recur`).
+//! waits for its next segment (`waiting`), all that waits (`walking`), and the feed (`recur`); and what it means (`laws`).
 #![tactic(auto)]
 
 mod around;
 mod booking;
+mod laws;
 mod line;
 mod looking;
+mod reading;
 mod recur;
 mod recurring;
 mod segment;
@@ -21,6 +23,7 @@ mod waiting;
 mod walking;
 
 pub use booking::Booking;
+pub use laws::{lines_tell_downtimes, segments_are_given_once};
 pub use recur::Recur;
 pub use recurring::Recurring;
 pub use segment::Segment;

@@ -3,6 +3,7 @@ ghost use Rattle.std.specs.Prelude.{◌≡◌, ◌≤◌, ◌<◌, ◌&&◌, nat
 ghost use Rattle.site_model.specs.PlainSite.{site_view};
 ghost use Rattle.site_posts.specs.Books.{AreBooks, histories_of};
 
+use crate::reading::read_all;
 use crate::turn::Turn;
 use crate::waiting::Waiting;
 use crate::walking::{give_all, rest_until};
@@ -45,7 +46,27 @@ impl<'a> Model for Recur<'a> {
 }
 
 impl<'a> Recur<'a> {
-    ghost use Rattle.down_recur.specs.Contents.{after, gives};
+    ghost use Rattle.down_recur.specs.Contents.{after, begun, gives};
+
+    /// What recurs on a site in its zone, before the first turn.
+    ///
+    /// An object gives nothing where its host's or service's name has a `;` in it, or where no checkable has the name `vars.triggered_by`.
+    ///
+    /// # Errors
+    ///
+    /// `OutOfMemory` where there is none for what recurs.
+    pub fn new(alloc: Global, site: &Site, zone: &'a Zone) -> Result<Recur<'a>, OutOfMemory>
+        ensures { IfOk result (λ r. r ≡ begun site.now zone.now) }
+    {
+        Ok(Recur {
+            alloc,
+            site: Told::of(site),
+            zone,
+            list: read_all(alloc, site)?,
+            seen: Moment::of(0).unwrap(),
+            until: 0,
+        })
+    }
 
     /// The lines of a turn at a moment, at which the books stand: for each object in committed order the downtimes of its segments, by their
     /// starts and then by the order of `ranges`. A segment gives one line at most: a day before it begins or at the first turn after that, or, where

@@ -1,0 +1,16 @@
+// What it means that lines are given.
+ghost use Rattle.down_recur.specs.Laws.{AreGivenInOrder, IsGivenOnce};
+ghost use Rattle.down_recur.specs.Readback.{LinesTell};
+
+/// Over turns whose moments don't fall each segment of an object is given at the first turn at which it may be and at no other: where it begins
+/// within a day and isn't over, or, if it is triggered, where it has begun and isn't over and the trigger has a downtime in effect. Those of one turn
+/// go by their starts.
+pub fn segments_are_given_once()
+    ensures once { IsGivenOnce }
+    ensures order { AreGivenInOrder }
+{}
+
+/// The line of a downtime reads as that downtime of the checkable that its names are of; of a flexible one without a duration as `BadSpan`.
+pub fn lines_tell_downtimes()
+    ensures { LinesTell }
+{}
