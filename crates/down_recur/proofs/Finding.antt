@@ -57,12 +57,11 @@ IsFound clock day found span = (k : ℕ) (s : Segment) → k < 7 → segment_on 
 
 found_in : (clock : Option Tzif) (day : ℕ) (spans : List DaySpan) → AllByRecursion (IsFound clock day (flat_map (of_span clock day) spans)) spans
 found_in clock day [] = tt
-found_in clock day (span ∷ spans) =
-    (
-      λ k s h e. among_left s (of_span clock day span) (flat_map (of_span clock day) spans) (in_days clock span s 7 day k h e),
-      all_weaker (IsFound clock day (flat_map (of_span clock day) spans)) (IsFound clock day (flat_map (of_span clock day) (span ∷ spans)))
+found_in clock day (span ∷ spans) = (
+  λ k s h e. among_left s (of_span clock day span) (flat_map (of_span clock day) spans) (in_days clock span s 7 day k h e),
+  all_weaker (IsFound clock day (flat_map (of_span clock day) spans)) (IsFound clock day (flat_map (of_span clock day) (span ∷ spans)))
       (λ other f k s h e. among_right s (of_span clock day span) (flat_map (of_span clock day) spans) (f k s h e)) spans (found_in clock day spans),
-    )
+)
 
 pub found_around : (clock : Option Tzif) (moment : ℕ) (spans : List DaySpan) → AllByRecursion (IsFound clock (moment / 86400) (segments_around clock moment spans)) spans
 unfolding segments_around

@@ -1,3 +1,4 @@
+pub mod Booked
 pub mod Books
 pub mod ByStart
 pub mod Civil

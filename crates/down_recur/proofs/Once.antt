@@ -1,5 +1,5 @@
 -- Each segment is given once.
-use Rattle.std.proofs.Common.{◌≡◌, ℕ, zero, suc, ◌+◌, ◌-◌, ◌<◌, ◌≤◌, ◌⊎◌, ◌↔◌, inl, inr, Bool, true, false, cond, nat_le, nat_lt, ◌&&◌, List, [], ◌∷◌, ◌++◌, filter, length, get_or, slice_index_or, Contains, Option, Some, None, ℤ, pos, ◌-ℤ◌, refl, sym, ap, subst, ◌∙◌, arith, true≢false}
+use Rattle.std.proofs.Common.{◌≡◌, ℕ, zero, suc, ◌+◌, ◌-◌, ◌/◌, ◌<◌, ◌≤◌, ◌⊎◌, ◌↔◌, inl, inr, Bool, true, false, cond, nat_le, nat_lt, ◌&&◌, List, [], ◌∷◌, ◌++◌, filter, length, get_or, slice_index_or, Contains, Option, Some, None, ℤ, pos, ◌-ℤ◌, refl, sym, ap, subst, ◌∙◌, arith, true≢false}
 use Rattle.std.proofs.lemmas.Bool.{cases_lt}
 use Rattle.std.proofs.lemmas.Bool.Decides.{nat_tests}
 use Rattle.std.specs.List.{AllByRecursion, flat_map}
@@ -157,11 +157,11 @@ around_is clock moment spans s h soon lasts =
 
 -- ---- of what is due
 
-record IsDueOf (clock : Option Tzif) (spans : List DaySpan) (from till moment : ℕ) (s : Segment) : Type 0 where
-  segment : IsSegmentOf clock spans s
-  from_on : from ≤ s.start
-  by_then : s.start ≤ till
-  lasts : moment < s.«end»
+pub record IsDueOf (clock : Option Tzif) (spans : List DaySpan) (from till moment : ℕ) (s : Segment) : Type 0 where
+  pub segment : IsSegmentOf clock spans s
+  pub from_on : from ≤ s.start
+  pub by_then : s.start ≤ till
+  pub lasts : moment < s.«end»
 
 due_parts : (from till moment : ℕ) (s : Segment) → is_due from till moment s ≡ true → (from ≤ s.start) × (s.start ≤ till) × (moment < s.«end»)
 due_parts from till moment s e = by (nat_le from s.start) refl (nat_le s.start till) refl (nat_lt moment s.«end») refl e
@@ -284,9 +284,11 @@ module _ (s : PlainSite) (zone : Option Tzif) (r : Recurring) where
   once_out turns now seg z h k =
       let given = given_out (done_all turns) now seg k in
       let due = given.1 in
-      let late = due.from_on in
-      (due.segment, record { triggered = given.0; soon = due.by_then; lasts = due.lasts },
-       none_of (λ b. MayBeGiven s r.trigger b seg) turns (λ any. let early = is_done seg turns now.moment z h due.segment any in absurd (omega arith)))
+      let late = due.from_on in (
+        due.segment,
+        record { triggered = given.0; soon = due.by_then; lasts = due.lasts },
+        none_of (λ b. MayBeGiven s r.trigger b seg) turns (λ any. let early = is_done seg turns now.moment z h due.segment any in absurd (omega arith)),
+      )
 
   once_in : (turns : List Begun) (now : Begun) (seg : Segment) → r.done ≡ 0 → AreEarlier now.moment turns
       → IsSegmentOf zone r.spans seg × MayBeGiven s r.trigger now seg × AllByRecursion (λ b. MayBeGiven s r.trigger b seg → ⊥) turns
@@ -298,13 +300,12 @@ module _ (s : PlainSite) (zone : Option Tzif) (r : Recurring) where
       ]
 
 pub given_once : IsGivenOnce
-given_once s zone r turns now seg z h =
-    (
-      λ k. once_out s zone r turns now seg z h
+given_once s zone r turns now seg z h = (
+  λ k. once_out s zone r turns now seg z h
       (subst (λ x. Among seg (given_at s zone now.histories now.moment x)) (all_is s zone r turns) (among seg (given_at s zone now.histories now.moment (after_all s zone r turns)) k)),
-      λ k. contains seg (given_at s zone now.histories now.moment (after_all s zone r turns))
+  λ k. contains seg (given_at s zone now.histories now.moment (after_all s zone r turns))
       (subst (λ x. Among seg (given_at s zone now.histories now.moment x)) (sym (all_is s zone r turns)) (once_in s zone r turns now seg z h k)),
-    )
+)
 
 none_rises : (b : Bool) (l : List Segment) → ((i j : ℕ) (d : Segment) → i ≤ j → j < length l → (slice_index_or l i d).start ≤ (slice_index_or l j d).start) → (i j : ℕ) (d : Segment) → i ≤ j → j < length (cond b l []) → (slice_index_or (cond b l []) i d).start ≤ (slice_index_or (cond b l []) j d).start
 none_rises true l h = h
@@ -314,3 +315,7 @@ pub given_in_order : AreGivenInOrder
 given_in_order s zone r b =
     none_rises (is_triggered s b.histories b.moment r.trigger) (due_at zone b.moment r)
     (rises_by_start (filter (is_due r.done (b.moment + lead r.trigger) b.moment) (segments_around zone b.moment r.spans)))
+
+-- what is given is due
+pub given_due : (s : PlainSite) (zone : Option Tzif) (r : Recurring) (b : Begun) (seg : Segment) → Contains (given_at s zone b.histories b.moment r) seg → IsDueOf zone r.spans r.done (b.moment + lead r.trigger) b.moment seg
+given_due s zone r b seg h = (given_out s zone r r.done b seg (among seg (given_at s zone b.histories b.moment r) h)).1

@@ -2,7 +2,7 @@
 use Rattle.std.proofs.Common.{◌≡◌, ℕ, zero, suc, ◌+◌, ◌<◌, ◌≤◌, ◌^◌, ◌==◌, ◌&&◌, ◌||◌, not, lit<, nat_lt, Bool, true, false, cond, List, [], ◌∷◌, ◌++◌, length, drop, ◌-◌, slice_get, slice_index, codes, refl, sym, ap, ◌∙◌, subst, arith, append_assoc, Option, Some, None, true≢false}
 use Rattle.std.proofs.lemmas.Bool.Decides.{nat_tests}
 use Rattle.std.proofs.lemmas.Fmt.{decimal_is_IsNumeral, length-decimal-le, decimal_digit}
-use Rattle.std.proofs.lemmas.Str.{IsUtf8-append, IsUtf8-from_ascii, IsUtf8-from_is_utf8}
+use Rattle.std.proofs.lemmas.Str.{IsUtf8-append, IsUtf8-from_ascii}
 use Rattle.std.specs.Fmt.{decimal}
 use Rattle.std.specs.Char.{is_ascii_digit}
 use Rattle.std.specs.List.{AllByRecursion, list_all, list_any}
@@ -21,9 +21,7 @@ use Rattle.event_text.specs.Lines.{Has, HasNumbers, IsAsked, IsHead, IsOf, brack
 use Rattle.event_text.specs.Numbers.{AreNumbers, IsNumber, IsNumberWithin}
 use Rattle.event_text.specs.declared.command.Command.{Command}
 use Rattle.event_text.specs.declared.command.Command.TheVariants as command
-use Rattle.event_text.specs.declared.kind.Kind.TheVariants as kind
 use Rattle.event_text.specs.declared.line_fault.LineFault.TheVariants as fault
-use Rattle.event_text.specs.declared.limit.Limit.{Limit}
 use Rattle.down_recur.specs.Lines.{field_text, fixed_text, line_text, names_text, numbers_text}
 use Rattle.down_recur.specs.Readback.{IsBooking, IsUtf8OrNone, IsWritable, LinesTell, told_of}
 use Rattle.down_recur.specs.Recurrings.{has_semicolon, is_nameable}
@@ -104,17 +102,20 @@ in_two author comment = by (cut_at semicolon (author ++ (59 ∷ comment))) refl
 
 -- ---- numbers
 
-number_of : (l : Limit) (n k : ℕ) → 0 < k → n < 10 ^ k → n < 2 ^ 64 → k ≤ l.digits → n ≤ l.most → IsNumberWithin l (decimal n) n
-number_of l n k some few fits digits most =
+digits_of : (n k most : ℕ) → 0 < k → n < 10 ^ k → n < 2 ^ 64 → k ≤ most → IsNumber most (decimal n)
+digits_of n k most some few fits digits =
     let is = decimal_is_IsNumeral n fits in
     let long = length-decimal-le k n some few fits in
-    record { number = record { digits = is.0; few = omega arith }; value = is.1; within = most }
+    record { digits = is.0; few = omega arith }
+
+value_of : (n : ℕ) → n < 2 ^ 64 → digits_value 10 (decimal n) ≡ n
+value_of n fits = (decimal_is_IsNumeral n fits).1
 
 moment_number : (n : ℕ) → n ≤ 99999999999 → IsNumberWithin kinds.moment (decimal n) n
-moment_number n h = number_of kinds.moment n 11 (omega arith) (omega arith) (omega arith) (omega arith) h
+moment_number n h = record { number = digits_of n 11 11 (omega arith) (omega arith) (omega arith) (omega arith); value = value_of n (omega arith); within = h }
 
 duration_number : (n : ℕ) → n ≤ 99999999999 → IsNumberWithin kinds.duration (decimal n) n
-duration_number n h = number_of kinds.duration n 11 (omega arith) (omega arith) (omega arith) (omega arith) h
+duration_number n h = record { number = digits_of n 11 19 (omega arith) (omega arith) (omega arith) (omega arith); value = value_of n (omega arith); within = h }
 
 one : decimal 1 ≡ codes "1"
 one = decimal_digit 1 (omega arith)
@@ -127,11 +128,11 @@ fixed_number true = 1
 fixed_number false = 0
 
 switch_number : (fixed : Bool) → IsNumberWithin kinds.switch (fixed_text fixed) (fixed_number fixed)
-switch_number true = subst (λ t. IsNumberWithin kinds.switch t 1) one (number_of kinds.switch 1 1 (omega arith) (omega arith) (omega arith) (omega arith) (omega arith))
-switch_number false = subst (λ t. IsNumberWithin kinds.switch t 0) none (number_of kinds.switch 0 1 (omega arith) (omega arith) (omega arith) (omega arith) (omega arith))
+switch_number true = subst (λ t. IsNumberWithin kinds.switch t 1) one (record { number = digits_of 1 1 19 (omega arith) (omega arith) (omega arith) (omega arith); value = value_of 1 (omega arith); within = omega arith })
+switch_number false = subst (λ t. IsNumberWithin kinds.switch t 0) none (record { number = digits_of 0 1 19 (omega arith) (omega arith) (omega arith) (omega arith); value = value_of 0 (omega arith); within = omega arith })
 
 nothing_number : IsNumberWithin kinds.nothing (codes "0") 0
-nothing_number = subst (λ t. IsNumberWithin kinds.nothing t 0) none (number_of kinds.nothing 0 1 (omega arith) (omega arith) (omega arith) (omega arith) (omega arith))
+nothing_number = subst (λ t. IsNumberWithin kinds.nothing t 0) none (record { number = digits_of 0 1 19 (omega arith) (omega arith) (omega arith) (omega arith); value = value_of 0 (omega arith); within = omega arith })
 
 abbrev number_texts : Booking → List (List ℕ)
 number_texts b = decimal b.start ∷ decimal b.«end» ∷ fixed_text b.fixed ∷ codes "0" ∷ decimal b.duration ∷ []
@@ -174,49 +175,81 @@ ascii_digits (b ∷ bs) h i = by (λ d j. ascii_digits bs d j) (is_ascii_digit b
 decimal_text : (n : ℕ) → n < 2 ^ 64 → IsUtf8 (decimal n)
 decimal_text n h = IsUtf8-from_ascii (decimal n) (ascii_digits (decimal n) (decimal_digits n h))
 
+-- what is below 128 is text
+small_texts : (bs : List ℕ) → list_all (λ b. nat_lt b 128) bs ≡ true → (i : ℕ) → slice_index bs i < 128
+small_texts [] h i = omega arith
+small_texts (b ∷ bs) h i = by (λ d j. small_texts bs d j) (nat_lt b 128) refl h i
+  where
+    below : nat_lt b 128 ≡ true → b < 128
+    below e = grind (arith, nat_tests)
+
+    by : (list_all (λ c. nat_lt c 128) bs ≡ true → (j : ℕ) → slice_index bs j < 128) → (t : Bool) → nat_lt b 128 ≡ t → (t && list_all (λ c. nat_lt c 128) bs) ≡ true → (i : ℕ) → slice_index (b ∷ bs) i < 128
+    by rest true d h zero = below d
+    by rest true d h (suc i) = rest h i
+    by rest false d h i = absurd (true≢false (sym h))
+
+small_utf8 : (bs : List ℕ) → list_all (λ b. nat_lt b 128) bs ≡ true → IsUtf8 bs
+small_utf8 bs h = IsUtf8-from_ascii bs (small_texts bs h)
+
 field_utf8 : (f : List ℕ) → IsUtf8 f → IsUtf8 (field_text f)
-field_utf8 f h = IsUtf8-append f (codes ";") h (IsUtf8-from_is_utf8 (codes ";") refl)
+field_utf8 f h = IsUtf8-append f (codes ";") h (small_utf8 (codes ";") refl)
 
 fixed_utf8 : (fixed : Bool) → IsUtf8 (fixed_text fixed)
-fixed_utf8 true = IsUtf8-from_is_utf8 (codes "1") refl
-fixed_utf8 false = IsUtf8-from_is_utf8 (codes "0") refl
+fixed_utf8 true = small_utf8 (codes "1") refl
+fixed_utf8 false = small_utf8 (codes "0") refl
 
 both : (a b : List ℕ) → IsUtf8 a → IsUtf8 b → IsUtf8 (a ++ b)
 both a b h k = IsUtf8-append a b h k
 
 numbers_utf8 : (b : Booking) → IsBooking b → IsUtf8 (numbers_text b)
 numbers_utf8 b h =
-    both (field_text (decimal b.start)) _ (field_utf8 (decimal b.start) (decimal_text b.start (omega (arith, h.starts, h.ends))))
-    (both (field_text (decimal b.«end»)) _ (field_utf8 (decimal b.«end») (decimal_text b.«end» (omega (arith, h.ends))))
-    (both (field_text (fixed_text b.fixed)) _ (field_utf8 (fixed_text b.fixed) (fixed_utf8 b.fixed))
-    (both (field_text (codes "0")) (field_text (decimal b.duration)) (field_utf8 (codes "0") (IsUtf8-from_is_utf8 (codes "0") refl))
-    (field_utf8 (decimal b.duration) (decimal_text b.duration (omega (arith, h.lasts)))))))
+    both (field_text (decimal b.start) ++ field_text (decimal b.«end») ++ field_text (fixed_text b.fixed) ++ field_text (codes "0")) (field_text (decimal b.duration))
+    (both (field_text (decimal b.start) ++ field_text (decimal b.«end») ++ field_text (fixed_text b.fixed)) (field_text (codes "0"))
+    (both (field_text (decimal b.start) ++ field_text (decimal b.«end»)) (field_text (fixed_text b.fixed))
+    (both (field_text (decimal b.start)) (field_text (decimal b.«end»)) (field_utf8 (decimal b.start) (decimal_text b.start (omega (arith, h.starts, h.ends)))) (field_utf8 (decimal b.«end») (decimal_text b.«end» (omega (arith, h.ends)))))
+    (field_utf8 (fixed_text b.fixed) (fixed_utf8 b.fixed)))
+    (field_utf8 (codes "0") (small_utf8 (codes "0") refl)))
+    (field_utf8 (decimal b.duration) (decimal_text b.duration (omega (arith, h.lasts))))
 
 names_utf8 : (host : List ℕ) (service : Option (List ℕ)) → IsUtf8 host → IsUtf8OrNone service → IsUtf8 (names_text host service)
-names_utf8 host None h k = both (field_text (command_name command.HostDowntime)) (field_text host) (field_utf8 (command_name command.HostDowntime) (IsUtf8-from_is_utf8 (command_name command.HostDowntime) refl)) (field_utf8 host h)
+names_utf8 host None h k = both (field_text (command_name command.HostDowntime)) (field_text host) (field_utf8 (command_name command.HostDowntime) (small_utf8 (command_name command.HostDowntime) refl)) (field_utf8 host h)
 names_utf8 host (Some service) h k =
-    both (field_text (command_name command.ServiceDowntime)) (field_text host ++ field_text service) (field_utf8 (command_name command.ServiceDowntime) (IsUtf8-from_is_utf8 (command_name command.ServiceDowntime) refl))
-    (both (field_text host) (field_text service) (field_utf8 host h) (field_utf8 service k))
+    both (field_text (command_name command.ServiceDowntime) ++ field_text host) (field_text service)
+    (both (field_text (command_name command.ServiceDowntime)) (field_text host) (field_utf8 (command_name command.ServiceDowntime) (small_utf8 (command_name command.ServiceDowntime) refl)) (field_utf8 host h))
+    (field_utf8 service k)
 
 -- what stands behind the moment
 abbrev behind_moment : Recurring → Booking → List ℕ
 behind_moment r b = names_text r.host r.service ++ numbers_text b ++ field_text r.author ++ r.comment
 
+behind_utf8 : (s : PlainSite) (k : ℕ) (r : Recurring) (b : Booking) → IsWritable s k r → IsBooking b → IsUtf8 (behind_moment r b)
+behind_utf8 s k r b w h =
+    both (names_text r.host r.service ++ numbers_text b ++ field_text r.author) r.comment
+    (both (names_text r.host r.service ++ numbers_text b) (field_text r.author)
+    (both (names_text r.host r.service) (numbers_text b) (names_utf8 r.host r.service w.host_text w.service_text) (numbers_utf8 b h))
+    (field_utf8 r.author w.author_text))
+    w.comment_text
+
+nested : (a b c d e f : List ℕ) → a ++ b ++ c ++ d ++ e ++ f ≡ a ++ (b ++ (c ++ d ++ e ++ f))
+nested a b c d e f = simp append_assoc
+
+-- the line with its head in front
+headed : (moment : ℕ) (r : Recurring) (b : Booking) → line_text moment r b ≡ 91 ∷ (decimal moment ++ (bracket ++ behind_moment r b))
+headed moment r b = ap (λ l. 91 ∷ l) (nested (decimal moment) bracket (names_text r.host r.service) (numbers_text b) (field_text r.author) r.comment)
+
 line_utf8 : (s : PlainSite) (moment k : ℕ) (r : Recurring) (b : Booking) → moment ≤ 99999999999 → IsWritable s k r → IsBooking b → IsUtf8 (line_text moment r b)
 line_utf8 s moment k r b m w h =
-    both (codes "[") (decimal moment ++ codes "] " ++ behind_moment r b) (IsUtf8-from_is_utf8 (codes "[") refl)
-    (both (decimal moment) (codes "] " ++ behind_moment r b) (decimal_text moment (omega arith))
-    (both (codes "] ") (behind_moment r b) (IsUtf8-from_is_utf8 (codes "] ") refl)
-    (both (names_text r.host r.service) (numbers_text b ++ field_text r.author ++ r.comment) (names_utf8 r.host r.service w.host_text w.service_text)
-    (both (numbers_text b) (field_text r.author ++ r.comment) (numbers_utf8 b h)
-    (both (field_text r.author) r.comment (field_utf8 r.author w.author_text) w.comment_text)))))
+    subst IsUtf8 (sym (headed moment r b))
+    (both (codes "[") (decimal moment ++ (bracket ++ behind_moment r b)) (small_utf8 (codes "[") refl)
+    (both (decimal moment) (bracket ++ behind_moment r b) (decimal_text moment (omega arith))
+    (both bracket (behind_moment r b) (small_utf8 bracket refl) (behind_utf8 s k r b w h))))
 
 -- ---- the command
 
 head_is : (moment : ℕ) (r : Recurring) (b : Booking) → moment ≤ 99999999999 → IsHead (line_text moment r b) (decimal moment) (behind_moment r b)
 head_is moment r b m = record {
   inner = decimal moment ++ (bracket ++ behind_moment r b);
-  opened = refl;
+  opened = headed moment r b;
   closed = first_cut 93 (32 ∷ []) (decimal moment) (behind_moment r b) (lacks_digit 93 (decimal moment) (omega arith) (decimal_digits moment (omega arith)));
 }
 
@@ -243,7 +276,7 @@ not_true false e = refl
 -- ---- what it tells
 
 -- a flexible one, with or without a duration
-flexible : (s : PlainSite) (k : ℕ) (c : Command) (line : List ℕ) (fs : List (List ℕ)) (start finish duration : ℕ) (some : Bool) → nat_lt 0 duration ≡ some → kinds.kind_of c ≡ kind.Downtime → IsAsked line c fs → IsOf s c fs k
+flexible : (s : PlainSite) (k : ℕ) (c : Command) (line : List ℕ) (fs : List (List ℕ)) (start finish duration : ℕ) (some : Bool) → nat_lt 0 duration ≡ some → kinds.kind_of c ≡ kinds.kind_of command.HostDowntime → IsAsked line c fs → IsOf s c fs k
     → HasNumbers c fs (start ∷ finish ∷ 0 ∷ 0 ∷ duration ∷ []) → nat_lt start finish ≡ true → Has s line (cond some (told k (event.Down start finish false duration)) (faulty fault.BadSpan))
 flexible s k c line fs start finish duration true t e asked named values before =
     record {
@@ -260,7 +293,7 @@ flexible s k c line fs start finish duration true t e asked named values before 
 flexible s k c line fs start finish duration false t e asked named values before =
     (c, fs, k, start ∷ finish ∷ 0 ∷ 0 ∷ duration ∷ [], asked, named, values, ap (λ q. kinds.has_span q (start ∷ finish ∷ 0 ∷ 0 ∷ duration ∷ [])) e ∙ ap (λ x. x && nat_lt 0 duration) before ∙ t)
 
-tell : (s : PlainSite) (k : ℕ) (c : Command) (line : List ℕ) (fs : List (List ℕ)) (start finish : ℕ) (fixed : Bool) (duration : ℕ) → kinds.kind_of c ≡ kind.Downtime → IsAsked line c fs → IsOf s c fs k
+tell : (s : PlainSite) (k : ℕ) (c : Command) (line : List ℕ) (fs : List (List ℕ)) (start finish : ℕ) (fixed : Bool) (duration : ℕ) → kinds.kind_of c ≡ kinds.kind_of command.HostDowntime → IsAsked line c fs → IsOf s c fs k
     → HasNumbers c fs (start ∷ finish ∷ fixed_number fixed ∷ 0 ∷ duration ∷ []) → nat_lt start finish ≡ true → (fixed ≡ true → duration ≡ 0) → Has s line (told_of k (record { start = start; «end» = finish; fixed = fixed; duration = duration }))
 tell s k c line fs start finish true duration e asked named values before zero_if =
     record {

@@ -72,8 +72,8 @@ none_asleep moment (w ∷ ws) = (λ m a b. absurd (omega arith), none_asleep mom
 
 -- what is fresh waits
 pub fresh_waiting : (zone : Option Tzif) (ws : List Waiting) → AllByRecursion IsFresh ws → AreWaiting zone ws
-fresh_waiting zone [] h = tt
-fresh_waiting zone (w ∷ ws) h = (subst (IsQuiet zone w.recurring.spans w.recurring.done w.seen) (sym h.0) (quiet_zero zone w.recurring.spans w.recurring.done w.seen), fresh_waiting zone ws h.1)
+fresh_waiting clock [] h = tt
+fresh_waiting clock (w ∷ ws) h = (subst (IsQuiet clock w.recurring.spans w.recurring.done w.seen) (sym h.0) (quiet_zero clock w.recurring.spans w.recurring.done w.seen), fresh_waiting clock ws h.1)
 
 pub fresh_more : (ws : List Waiting) (w : Waiting) → AllByRecursion IsFresh ws → IsFresh w → AllByRecursion IsFresh (ws ++ w ∷ [])
 fresh_more [] w h k = (k, tt)

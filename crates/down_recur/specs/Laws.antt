@@ -24,8 +24,8 @@ AreEarlier moment (turn ∷ turns) = (turn.moment ≤ moment) × AreEarlier turn
 
 -- what recurs after turns, of which the last stands first
 abbrev pub after_all : PlainSite → Option Tzif → Recurring → List Begun → Recurring
-after_all s zone r [] = r
-after_all s zone r (turn ∷ turns) = after_at s zone turn.histories turn.moment (after_all s zone r turns)
+after_all s clock r [] = r
+after_all s clock r (turn ∷ turns) = after_at s clock turn.histories turn.moment (after_all s clock r turns)
 
 -- Each segment of an object is given at the first turn at which it may be, and at no other.
 abbrev pub IsGivenOnce : Type 0

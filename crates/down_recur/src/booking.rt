@@ -3,7 +3,6 @@ ghost use Rattle.std.specs.Prelude.{◌≡◌};
 ghost use Rattle.down_recur.specs.Bookings.{booking_by, end_after as end_of, plain_booking, triggered_booking};
 
 use crate::{Recurring, Segment};
-
 use site_base::Moment;
 
 /// A downtime that a segment gives.
@@ -34,7 +33,11 @@ impl Booking {
             start: segment.start,
             end: segment.end,
             fixed: !recurring.flexible,
-            duration: if recurring.flexible { recurring.duration } else { 0 },
+            duration: if recurring.flexible {
+                recurring.duration
+            } else {
+                0
+            },
         }
     }
 

@@ -1,6 +1,6 @@
 // What it means that lines are given.
 ghost use Rattle.down_recur.specs.Laws.{AreGivenInOrder, IsGivenOnce};
-ghost use Rattle.down_recur.specs.Readback.{LinesTell};
+ghost use Rattle.down_recur.specs.Readback.{AreBookings, LinesTell};
 
 /// Over turns whose moments don't fall each segment of an object is given at the first turn at which it may be and at no other: where it begins
 /// within a day and isn't over, or, if it is triggered, where it has begun and isn't over and the trigger has a downtime in effect. Those of one turn
@@ -11,6 +11,8 @@ pub fn segments_are_given_once()
 {}
 
 /// The line of a downtime reads as that downtime of the checkable that its names are of; of a flexible one without a duration as `BadSpan`.
+/// What segments give are such downtimes.
 pub fn lines_tell_downtimes()
-    ensures { LinesTell }
+    ensures tell { LinesTell }
+    ensures bookings { AreBookings }
 {}

@@ -42,7 +42,11 @@ fn push_some(out: &mut Vec<Waiting>, recurring: Option<Recurring>) -> Result<(),
 }
 
 /// What recurs of an object, where the checkables have these names.
-fn recurring_of(alloc: Global, names: &Names, object: &Object) -> Result<Option<Recurring>, OutOfMemory>
+fn recurring_of(
+    alloc: Global,
+    names: &Names,
+    object: &Object,
+) -> Result<Option<Recurring>, OutOfMemory>
     ensures { IfOk result (λ r. r ≡ recurring_of names.now (object_view object.now)) }
 {
     if object.kind.as_str() == "ScheduledDowntime" {

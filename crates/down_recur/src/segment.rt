@@ -25,7 +25,10 @@ pub(crate) fn segment_on(zone: &Zone, span: DaySpan, day: i32) -> Option<Segment
     ensures { result ≡ segment_of zone.now span day }
 {
     if falls_on(span.day, day) {
-        between(moment_at(zone, day, span.from), moment_at(zone, day, span.to))
+        between(
+            moment_at(zone, day, span.from),
+            moment_at(zone, day, span.to),
+        )
     } else {
         None
     }

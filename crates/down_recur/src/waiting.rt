@@ -7,9 +7,9 @@ ghost use Rattle.down_recur.specs.Due.{IsQuiet};
 ghost use Rattle.site_posts.specs.Books.{histories_of};
 
 use crate::line::line;
+use crate::looking::{Found, Window, look};
 use crate::turn::Turn;
 use crate::{Booking, Recurring, Segment};
-use crate::looking::{Found, Window, look};
 use site_base::{Blob, Moment, OutOfMemory};
 use std::alloc::Global;
 
@@ -132,7 +132,13 @@ impl Recurring {
             from: self.done,
             till,
         };
-        look(turn.alloc, turn.zone, self.spans.as_slice(), window, turn.moment)
+        look(
+            turn.alloc,
+            turn.zone,
+            self.spans.as_slice(),
+            window,
+            turn.moment,
+        )
     }
 }
 

@@ -12,14 +12,14 @@ pub in_effect-requires : goal.in_effect-requires
 in_effect-requires c =
     let look = c.in-Some.ensures.lookup in
     let at : slice_get c.args.turn.now.books.now c.args.checkable ≡ Some c.in-Some.book.now =
-        book_at c.args.checkable c.args.turn.now.books.now c.in-Some.book.now look.3.0 ∙ ap Some (sym look.1) in
+    book_at c.args.checkable c.args.turn.now.books.now c.in-Some.book.now look.3.0 ∙ ap Some (sym look.1) in
     (c.requires.each c.args.checkable c.in-Some.book.now at).moment
 
 pub returns-in-Some : goal.returns-in-Some
 returns-in-Some c =
     let look = c.in-Some.ensures.lookup in
     let at : slice_get c.args.turn.now.books.now c.args.checkable ≡ Some c.in-Some.book.now =
-        book_at c.args.checkable c.args.turn.now.books.now c.in-Some.book.now look.3.0 ∙ ap Some (sym look.1) in
+    book_at c.args.checkable c.args.turn.now.books.now c.in-Some.book.now look.3.0 ∙ ap Some (sym look.1) in
     let is = c.requires.each c.args.checkable c.in-Some.book.now at in
     c.is_some.ensures
     ∙ ap is_some

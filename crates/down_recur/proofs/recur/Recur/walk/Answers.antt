@@ -13,20 +13,15 @@ use Rattle.down_recur.specs.Waiting.{AreAsleep, AreWaiting, recurring_in, rest_o
 use Rattle.down_recur.specs.declared.recurring.Recurring.{Recurring}
 use Rattle.down_recur.specs.declared.waiting.Waiting.{Waiting}
 use Rattle.down_recur.proofs.recur.Recur.walk.Goals as goal
-use Rattle.down_recur.proofs.recur.Recur.walk.Goals.{After-self-3-1}
 
 abbrev contents : Site → Option Tzif → List Recurring → Contents
 contents s zone rs = record { site = s; zone = zone; recurrings = rs }
 
--- the list is given back whole
-whole : (c : After-self-3-1) → take c.self.inside.list.len (c.give_all.new.list ++ drop (length c.give_all.new.list) c.self.inside.list.items) ≡ c.give_all.new.list
-whole c = front_of c.self.inside.list.len c.give_all.new.list (drop (length c.give_all.new.list) c.self.inside.list.items) (omega (arith, c.deref_mut.ensures.len, c.give_all.auto.list))
-
 pub invariant_of-self-2 : goal.invariant_of-self-2
 invariant_of-self-2 c =
-    let back = whole c in
-    let least = c.rest_until-self-inside.ensures ∙ ap (rest_of 18446744073709551615) c.deref.ensures.value in
-    (
+    let back : take c.self.inside.list.len (c.give_all.new.list ++ drop (length c.give_all.new.list) c.self.inside.list.items) ≡ c.give_all.new.list =
+    front_of c.self.inside.list.len c.give_all.new.list (drop (length c.give_all.new.list) c.self.inside.list.items) (omega (arith, c.deref_mut.ensures.len, c.give_all.auto.list)) in
+    let least = c.rest_until-self-inside.ensures ∙ ap (rest_of 18446744073709551615) c.deref.ensures.value in (
       subst (AreWaiting c.self.inside.zone.now) (sym back) c.give_all.ensures.waiting,
       all_asleep c.args.moment 18446744073709551615 (take c.self.inside.list.len (c.give_all.new.list ++ drop (length c.give_all.new.list) c.self.inside.list.items))
           (subst (AllByRecursion (λ (w : Waiting). w.seen ≤ c.args.moment)) (sym back) c.in_ok-give_all.ensures.seen) c.rest_until-self-inside.result (omega (arith, least)),
@@ -43,7 +38,9 @@ returns-clause-lines c =
 pub returns-clause-after : goal.returns-clause-after
 unfolding after
 returns-clause-after c =
+    let back : take c.self.inside.list.len (c.give_all.new.list ++ drop (length c.give_all.new.list) c.self.inside.list.items) ≡ c.give_all.new.list =
+    front_of c.self.inside.list.len c.give_all.new.list (drop (length c.give_all.new.list) c.self.inside.list.items) (omega (arith, c.deref_mut.ensures.len, c.give_all.auto.list)) in
     ap (contents c.self.inside.site.value c.self.inside.zone.now)
-    (ap (map recurring_in) (whole c) ∙ c.in_ok-give_all.ensures.after
+    (ap (map recurring_in) back ∙ c.in_ok-give_all.ensures.after
     ∙ ap (λ l. map (after_at (site_view c.self.inside.site.value) c.self.inside.zone.now (histories_of c.args.books.now) c.args.moment) (map recurring_in l)) c.deref_mut.ensures.value)
     ∙ ap (λ k. after k (histories_of c.args.books.now) c.args.moment) c.self.view_is
