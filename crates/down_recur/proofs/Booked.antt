@@ -1,9 +1,8 @@
 -- What segments give are downtimes that start before they end.
-use Rattle.std.proofs.Common.{◌≡◌, ℕ, ◌+◌, ◌<◌, ◌≤◌, min, ◌==◌, not, Bool, true, false, cond, Contains, Option, Some, None, refl, sym, arith, true≢false}
+use Rattle.std.proofs.Common.{◌≡◌, ℕ, ◌+◌, ◌<◌, ◌≤◌, min, ◌==◌, not, Bool, true, false, cond, Option, Some, None, refl, sym, arith, true≢false}
 use Rattle.std.proofs.lemmas.Bool.Decides.{nat_tests}
-use Rattle.run_meaning.specs.Turns.{Begun}
-use Rattle.down_recur.proofs.Once.{IsDueOf, given_due}
-use Rattle.down_recur.specs.Bookings.{booking_by, end_after, plain_booking, triggered_booking}
+use Rattle.down_recur.proofs.Once.{given_due}
+use Rattle.down_recur.specs.Bookings.{booking_by, end_after}
 use Rattle.down_recur.specs.Readback.{AreBookings, IsBooking}
 use Rattle.down_recur.specs.declared.recurring.Recurring.{Recurring}
 use Rattle.down_recur.specs.declared.segment.Segment.{Segment}

@@ -1,5 +1,5 @@
 -- The entries of a book, by its index.
-use Rattle.std.proofs.Common.{◌≡◌, ℕ, zero, suc, ◌+◌, ◌<◌, ◌≤◌, List, [], ◌∷◌, map, length, get_or, slice_get, Some, refl, arith}
+use Rattle.std.proofs.Common.{◌≡◌, ℕ, zero, suc, ◌<◌, ◌≤◌, List, [], ◌∷◌, length, get_or, slice_get, Some, refl, arith}
 use Rattle.checkable_core.specs.Contents.{Contents}
 use Rattle.run_meaning.specs.Turns.{of_index}
 use Rattle.site_posts.specs.Books.{histories_of}

@@ -1,8 +1,7 @@
 -- The moment of a civil time, as it is calculated.
-use Rattle.std.proofs.Common.{◌≡◌, ℕ, zero, suc, ◌+◌, ◌-◌, ◌*◌, ◌<◌, ◌≤◌, Bool, true, false, cond, nat_le, Option, Some, None, ℤ, pos, negsuc, neg_ℤ, ◌+ℤ◌, ◌-ℤ◌, ◌*ℤ◌, ◌≤ℤ◌, refl, sym, ap, subst, ◌∙◌, arith, IfSome, IfNone, true≢false}
+use Rattle.std.proofs.Common.{◌≡◌, ℕ, ◌-◌, ◌<◌, ◌≤◌, Bool, true, false, cond, nat_le, Option, Some, None, ℤ, pos, negsuc, ◌+ℤ◌, ◌-ℤ◌, ◌*ℤ◌, ◌≤ℤ◌, refl, sym, ap, subst, ◌∙◌, arith, IfSome, IfNone}
 use Rattle.jiff.proofs.SpanFacts.{signed_arith}
 use Rattle.jiff_core.proofs.DateTimeLemmas.{civil_nanos-civil_seconds}
-use Rattle.jiff_core.specs.Calendar.{IsEpochDay}
 use Rattle.jiff_core.specs.DateTime.{civil_nanos, civil_seconds}
 use Rattle.jiff_core.specs.Timestamp.{nanos_of_seconds}
 use Rattle.jiff_core.specs.declared.Offset.{Offset}
@@ -21,7 +20,7 @@ use Rattle.jiff_tz.specs.declared.posix.TimeZone.{TimeZone}
 use Rattle.jiff_tz.specs.declared.tzif.Tzif.{Tzif}
 use Rattle.time_range.specs.Zone.{IsCivil, IsInstant, offsets}
 use Rattle.down_recur.proofs.Civil.{has_civil}
-use Rattle.down_recur.specs.Instants.{IsMomentAt, civil_second, moment_at, moment_of, moment_shown, offsets_after, offsets_at, offsets_by_rule, offsets_in_table, offsets_of_year}
+use Rattle.down_recur.specs.Instants.{IsMomentAt, civil_second, moment_at, moment_of, moment_shown, offsets_after, offsets_at, offsets_by_rule, offsets_in_table}
 
 -- ---- offsets
 

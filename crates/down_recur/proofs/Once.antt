@@ -1,5 +1,5 @@
 -- Each segment is given once.
-use Rattle.std.proofs.Common.{◌≡◌, ℕ, zero, suc, ◌+◌, ◌-◌, ◌/◌, ◌<◌, ◌≤◌, ◌⊎◌, ◌↔◌, inl, inr, Bool, true, false, cond, nat_le, nat_lt, ◌&&◌, List, [], ◌∷◌, ◌++◌, filter, length, get_or, slice_index_or, Contains, Option, Some, None, ℤ, pos, ◌-ℤ◌, refl, sym, ap, subst, ◌∙◌, arith, true≢false}
+use Rattle.std.proofs.Common.{◌≡◌, ℕ, zero, suc, ◌+◌, ◌/◌, ◌<◌, ◌≤◌, ◌⊎◌, inl, inr, Bool, true, false, cond, nat_le, nat_lt, ◌&&◌, List, [], ◌∷◌, ◌++◌, filter, length, slice_index_or, Contains, Option, Some, None, ℤ, pos, ◌-ℤ◌, refl, sym, ap, subst, ◌∙◌, arith, true≢false}
 use Rattle.std.proofs.lemmas.Bool.{cases_lt}
 use Rattle.std.proofs.lemmas.Bool.Decides.{nat_tests}
 use Rattle.std.specs.List.{AllByRecursion, flat_map}
@@ -13,8 +13,8 @@ use Rattle.time_range.specs.Period.{falls_on}
 use Rattle.down_recur.proofs.ByStart.{rises_by_start}
 use Rattle.down_recur.proofs.Finding.{Among, IsFound, found_around, in_filter}
 use Rattle.down_recur.proofs.Instants.{moment_found, moment_right}
-use Rattle.down_recur.proofs.Quiet.{IsBetween, due_test, is_around, segment_is}
-use Rattle.down_recur.specs.Due.{by_start, due_of, horizon_of, is_due, put}
+use Rattle.down_recur.proofs.Quiet.{due_test, is_around, segment_is}
+use Rattle.down_recur.specs.Due.{by_start, due_of, is_due, put}
 use Rattle.down_recur.specs.Giving.{after_at, done_after, due_at, given_at, is_triggered, lead}
 use Rattle.down_recur.specs.Instants.{moment_at}
 use Rattle.down_recur.specs.Laws.{AreEarlier, AreGivenInOrder, IsGivenOnce, MayBeGiven, after_all}

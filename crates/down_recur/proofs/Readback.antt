@@ -1,20 +1,20 @@
 -- The line of a downtime is read again as what it tells.
-use Rattle.std.proofs.Common.{◌≡◌, ℕ, zero, suc, ◌+◌, ◌<◌, ◌≤◌, ◌^◌, ◌==◌, ◌&&◌, ◌||◌, not, lit<, nat_lt, Bool, true, false, cond, List, [], ◌∷◌, ◌++◌, length, drop, ◌-◌, slice_get, slice_index, codes, refl, sym, ap, ◌∙◌, subst, arith, append_assoc, Option, Some, None, true≢false}
+use Rattle.std.proofs.Common.{◌≡◌, ℕ, zero, suc, ◌<◌, ◌≤◌, ◌^◌, ◌==◌, ◌&&◌, ◌||◌, not, lit<, nat_lt, Bool, true, false, cond, List, [], ◌∷◌, ◌++◌, length, drop, ◌-◌, slice_get, slice_index, codes, refl, sym, ap, ◌∙◌, subst, arith, append_assoc, Option, Some, None, true≢false}
 use Rattle.std.proofs.lemmas.Bool.Decides.{nat_tests}
 use Rattle.std.proofs.lemmas.Fmt.{decimal_is_IsNumeral, length-decimal-le, decimal_digit}
 use Rattle.std.proofs.lemmas.Str.{IsUtf8-append, IsUtf8-from_ascii}
 use Rattle.std.specs.Fmt.{decimal}
 use Rattle.std.specs.Char.{is_ascii_digit}
 use Rattle.std.specs.List.{AllByRecursion, list_all, list_any}
-use Rattle.std.specs.Str.{IsUtf8, IsAscii}
-use Rattle.std.specs.Str.Parse.{IsNumeral, AllDigits, digits_value}
+use Rattle.std.specs.Str.{IsUtf8}
+use Rattle.std.specs.Str.Parse.{digits_value}
 use Rattle.site_model.specs.PlainSite.{PlainSite}
 use Rattle.site_model.specs.declared.event.Event.TheVariants as event
 use Rattle.event_text.proofs.CutLaws.{cut_sound, uncut_sound}
 use Rattle.event_text.proofs.NumberLaws.{are_digits}
 use Rattle.event_text.specs.Checkables.{IsNamed}
 use Rattle.event_text.specs.Commands.{command_name}
-use Rattle.event_text.specs.Cuts.{Cut, IsCut, IsUncut, cut, cut_at, uncut}
+use Rattle.event_text.specs.Cuts.{Cut, IsCut, cut, cut_at, uncut}
 use Rattle.event_text.specs.Fields.{AreFields, field, semicolon}
 use Rattle.event_text.specs.Kinds as kinds
 use Rattle.event_text.specs.Lines.{Has, HasNumbers, IsAsked, IsHead, IsOf, bracket, faulty, told}

@@ -1,5 +1,5 @@
 -- What rests gives nothing and stays as it is.
-use Rattle.std.proofs.Common.{◌≡◌, ℕ, ◌+◌, ◌-◌, ◌<◌, ◌≤◌, min, nat_le, nat_lt, Bool, true, false, cond, ◌&&◌, true≢false, List, [], ◌∷◌, ◌++◌, map, Option, Some, None, refl, sym, subst, ap, ◌∙◌, arith}
+use Rattle.std.proofs.Common.{◌≡◌, ℕ, ◌+◌, ◌-◌, ◌<◌, ◌≤◌, min, nat_le, nat_lt, Bool, true, false, cond, ◌&&◌, true≢false, List, [], ◌∷◌, ◌++◌, map, Option, refl, sym, subst, ap, ◌∙◌, arith}
 use Rattle.std.proofs.lemmas.Bool.Decides.{nat_tests}
 use Rattle.std.specs.List.{AllByRecursion, flat_map}
 use Rattle.jiff_tz.specs.declared.tzif.Tzif.{Tzif}
@@ -8,7 +8,7 @@ use Rattle.run_meaning.specs.Turns.{Histories}
 use Rattle.down_recur.proofs.NoneDue.{quiet_none, quiet_zero}
 use Rattle.down_recur.specs.Due.{IsQuiet}
 use Rattle.down_recur.specs.Giving.{after_at, done_after, due_at, given_at, is_triggered, lead, lines_at, lines_of}
-use Rattle.down_recur.specs.Waiting.{AreAsleep, AreWaiting, IsAsleep, IsFresh, IsWaiting, is_asleep, recurring_in, rest_of}
+use Rattle.down_recur.specs.Waiting.{AreAsleep, AreWaiting, IsFresh, IsWaiting, is_asleep, recurring_in, rest_of}
 use Rattle.down_recur.specs.declared.recurring.Recurring.{Recurring}
 use Rattle.down_recur.specs.declared.segment.Segment.{Segment}
 use Rattle.down_recur.specs.declared.waiting.Waiting.{Waiting}

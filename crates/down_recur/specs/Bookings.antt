@@ -1,5 +1,5 @@
 -- The downtimes that segments give.
-use Rattle.std.specs.Prelude.{ℕ, ◌+◌, min, ◌==◌, Bool, true, false, not, Option, Some, None, if◌then◌else◌}
+use Rattle.std.specs.Prelude.{ℕ, ◌+◌, min, ◌==◌, true, not, Option, Some, None, if◌then◌else◌}
 use Rattle.down_recur.specs.declared.segment.Segment.{Segment}
 use Rattle.down_recur.specs.declared.booking.Booking.{Booking}
 use Rattle.down_recur.specs.declared.recurring.Recurring.{Recurring}

@@ -1,5 +1,5 @@
 -- What the lines of downtimes tell when they are read.
-use Rattle.std.specs.Prelude.{◌≡◌, ℕ, ◌<◌, ◌≤◌, nat_lt, ◌||◌, Bool, true, false, List, Contains, Option, Some, None, if◌then◌else◌}
+use Rattle.std.specs.Prelude.{◌≡◌, ℕ, ◌<◌, ◌≤◌, nat_lt, ◌||◌, true, false, List, Contains, Option, Some, None, if◌then◌else◌}
 use Rattle.std.specs.Str.{IsUtf8}
 use Rattle.jiff_tz.specs.declared.tzif.Tzif.{Tzif}
 use Rattle.run_meaning.specs.Turns.{Begun}

@@ -2,7 +2,7 @@
 use Rattle.std.specs.Prelude.{ℕ, List}
 use Rattle.site_model.specs.PlainSite.{PlainSite, site_view}
 use Rattle.site_posts.specs.Books.{AreBooks, histories_of}
-use Rattle.down_recur.specs.Giving.{after_at, is_triggered, lines_at}
+use Rattle.down_recur.specs.Giving.{after_at, lines_at}
 use Rattle.down_recur.specs.declared.recurring.Recurring.{Recurring}
 use Rattle.down_recur.specs.declared.turn.Turn.{Turn}
 

@@ -1,8 +1,8 @@
 -- So far the segments of the days before this one were added.
-use Rattle.std.proofs.Common.{◌≡◌, ◌+◌, ◌-◌, ◌++◌, ◌<◌, pos, ◌-ℤ◌, sym, ap, ◌∙◌, append_assoc, append-nil, arith, rules, FitsSigned, w32}
+use Rattle.std.proofs.Common.{◌≡◌, ◌+◌, ◌-◌, ◌++◌, pos, ◌-ℤ◌, sym, ap, ◌∙◌, append_assoc, rules, FitsSigned, w32}
 use Rattle.std.proofs.lemmas.Int.{to_z-of_z}
 use Rattle.std.specs.Option.{option_to_list}
-use Rattle.down_recur.proofs.Finding.{days_next, days_over}
+use Rattle.down_recur.proofs.Finding.{days_next}
 use Rattle.down_recur.specs.Segments.{on_days, segment_on}
 use Rattle.down_recur.proofs.around.push_span.Goals as goal
 

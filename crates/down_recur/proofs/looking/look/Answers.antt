@@ -1,5 +1,5 @@
 -- The list of segments is the definition's, so what is quiet is so by the law.
-use Rattle.std.proofs.Common.{◌≡◌, ◌+◌, ◌∙◌, [], sym, ap, subst, filter}
+use Rattle.std.proofs.Common.{◌≡◌, ◌+◌, ◌∙◌, sym, ap, subst, filter}
 use Rattle.down_recur.proofs.Quiet.{quiet_behind, quiet_from}
 use Rattle.down_recur.specs.Due.{IsQuiet, by_start, horizon_of, is_due, least_start}
 use Rattle.down_recur.specs.Segments.{segments_around}

@@ -3,7 +3,6 @@ use Rattle.std.proofs.Common.{◌≡◌, sym, ap, ◌∙◌, is_some, slice_get,
 use Rattle.checkable_core.specs.Contents.{check_at}
 use Rattle.run_meaning.specs.Downtimes.{in_effect}
 use Rattle.site_posts.proofs.Behind.{entries_at}
-use Rattle.site_posts.specs.Books.{IsBook}
 use Rattle.down_recur.proofs.Books.{behind_all, book_at}
 use Rattle.down_recur.specs.Turns.{site_of}
 use Rattle.down_recur.proofs.waiting.has_downtime.Goals as goal

@@ -1,9 +1,9 @@
 -- The next one is as it was, and gives its lines.
-use Rattle.std.proofs.Common.{◌≡◌, ◌≤◌, ◌<◌, ◌+◌, ◌++◌, List, [], ◌∷◌, map, take, drop, length, get_or, refl, sym, ap, ◌∙◌, subst, append_assoc, append-nil, arith}
+use Rattle.std.proofs.Common.{◌≤◌, ◌<◌, ◌+◌, ◌++◌, map, take, drop, length, get_or, refl, sym, ap, ◌∙◌, subst, append_assoc, append-nil, arith}
 use Rattle.std.specs.List.{AllByRecursion, flat_map}
 use Rattle.down_recur.proofs.Steps.{all_before, all_of_map, all_set, changed_more, first_more, next_is, none_behind, one_of}
 use Rattle.down_recur.specs.Turns.{after_in, lines_in}
-use Rattle.down_recur.specs.Waiting.{AreWaiting, IsWaiting, recurring_in}
+use Rattle.down_recur.specs.Waiting.{IsWaiting, recurring_in}
 use Rattle.down_recur.specs.declared.waiting.Waiting.{Waiting}
 use Rattle.down_recur.proofs.walking.give_all.Goals as goal
 

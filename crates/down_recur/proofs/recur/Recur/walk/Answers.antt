@@ -1,5 +1,5 @@
 -- What is given is what the definition says, and what rests rests until the least next second.
-use Rattle.std.proofs.Common.{◌≡◌, ◌≤◌, ◌++◌, List, [], map, take, drop, length, Option, sym, ap, ◌∙◌, subst, arith}
+use Rattle.std.proofs.Common.{◌≡◌, ◌≤◌, ◌++◌, List, map, take, drop, length, Option, sym, ap, ◌∙◌, subst, arith}
 use Rattle.std.specs.List.{AllByRecursion, flat_map}
 use Rattle.jiff_tz.specs.declared.tzif.Tzif.{Tzif}
 use Rattle.site_model.specs.PlainSite.{site_view}
@@ -9,7 +9,7 @@ use Rattle.down_recur.proofs.Sleep.{all_asleep}
 use Rattle.down_recur.proofs.Steps.{front_of}
 use Rattle.down_recur.specs.Contents.{Contents, after, gives}
 use Rattle.down_recur.specs.Giving.{after_at, lines_at}
-use Rattle.down_recur.specs.Waiting.{AreAsleep, AreWaiting, recurring_in, rest_of}
+use Rattle.down_recur.specs.Waiting.{AreWaiting, recurring_in, rest_of}
 use Rattle.down_recur.specs.declared.recurring.Recurring.{Recurring}
 use Rattle.down_recur.specs.declared.waiting.Waiting.{Waiting}
 use Rattle.down_recur.proofs.recur.Recur.walk.Goals as goal

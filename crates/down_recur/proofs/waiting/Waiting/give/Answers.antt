@@ -1,5 +1,5 @@
 -- What rests gives nothing.
-use Rattle.std.proofs.Common.{◌≡◌, ◌++◌, sym, ap, ◌∙◌, append-nil}
+use Rattle.std.proofs.Common.{◌++◌, sym, ap, ◌∙◌, append-nil}
 use Rattle.site_posts.specs.Books.{histories_of}
 use Rattle.down_recur.proofs.Sleep.{asleep_none, no_lines, rests, unchanged}
 use Rattle.down_recur.specs.Turns.{site_of}
