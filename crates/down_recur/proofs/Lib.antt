@@ -1,3 +1,4 @@
+pub mod Anew
 pub mod Booked
 pub mod Books
 pub mod ByStart

@@ -25,7 +25,7 @@ use Rattle.down_recur.specs.declared.segment.Segment.{Segment}
 -- ---- of lists
 
 module _ {A : Type 0} where
-  of_contained : (P : A → Type 0) (xs : List A) (k : ℕ) (x : A) → AllByRecursion P xs → k < length xs → slice_index_or xs k x ≡ x → P x
+  pub of_contained : (P : A → Type 0) (xs : List A) (k : ℕ) (x : A) → AllByRecursion P xs → k < length xs → slice_index_or xs k x ≡ x → P x
   of_contained P [] k x h l e = absurd (omega arith)
   of_contained P (y ∷ ys) zero x h l e = subst P e h.0
   of_contained P (y ∷ ys) (suc k) x h l e = of_contained P ys k x h.1 (omega arith) e

@@ -1,11 +1,12 @@
 -- What is given at which turn, in the words of the rule.
-use Rattle.std.specs.Prelude.{◌≡◌, ◌↔◌, ℕ, ◌+◌, ◌<◌, ◌≤◌, true, List, [], ◌∷◌, Contains, Option}
+use Rattle.std.specs.Prelude.{◌≡◌, ◌↔◌, ℕ, ◌+◌, ◌<◌, ◌≤◌, true, false, List, [], ◌∷◌, Contains, Option}
 use Rattle.std.specs.List.{AllByRecursion}
 use Rattle.std.specs.List.Sorted.{IsNonDecreasingBy}
 use Rattle.jiff_tz.specs.declared.tzif.Tzif.{Tzif}
 use Rattle.site_model.specs.PlainSite.{PlainSite}
 use Rattle.run_meaning.specs.Turns.{Begun}
 use Rattle.down_recur.specs.Giving.{after_at, given_at, is_triggered, lead}
+use Rattle.down_recur.specs.Recurrings.{has_semicolon, is_nameable, recurrings}
 use Rattle.down_recur.specs.Segments.{IsSegmentOf}
 use Rattle.down_recur.specs.declared.recurring.Recurring.{Recurring}
 use Rattle.down_recur.specs.declared.segment.Segment.{Segment}
@@ -39,3 +40,13 @@ abbrev pub AreGivenInOrder : Type 0
 AreGivenInOrder =
     (s : PlainSite) (zone : Option Tzif) (r : Recurring) (turn : Begun)
     → IsNonDecreasingBy (λ segment. segment.start) (given_at s zone turn.histories turn.moment r)
+
+-- What stands for an object at first: names without a semicolon, a duration no longer than the greatest moment, and nothing that was given.
+pub record IsNew (r : Recurring) : Type 0 where
+  pub host : has_semicolon r.host ≡ false
+  pub service : is_nameable r.service ≡ true
+  pub duration : r.duration ≤ 99_999_999_999
+  pub done : r.done ≡ 0
+
+abbrev pub AreNew : Type 0
+AreNew = (s : PlainSite) (r : Recurring) → Contains (recurrings s) r → IsNew r

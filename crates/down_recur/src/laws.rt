@@ -1,5 +1,5 @@
 // What it means that lines are given.
-ghost use Rattle.down_recur.specs.Laws.{AreGivenInOrder, IsGivenOnce};
+ghost use Rattle.down_recur.specs.Laws.{AreGivenInOrder, AreNew, IsGivenOnce};
 ghost use Rattle.down_recur.specs.Readback.{AreBookings, LinesTell};
 
 /// Over turns whose moments don't fall each segment of an object is given at the first turn at which it may be and at no other: where it begins
@@ -15,4 +15,9 @@ pub fn segments_are_given_once()
 pub fn lines_tell_downtimes()
     ensures tell { LinesTell }
     ensures bookings { AreBookings }
+{}
+
+/// What recurs on a site begins with nothing given, and its names can stand in a line.
+pub fn recurrings_begin_anew()
+    ensures { AreNew }
 {}
