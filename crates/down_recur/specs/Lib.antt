@@ -5,6 +5,7 @@ pub mod Recurrings
 pub mod Bookings
 pub mod Lines
 pub mod Giving
+pub mod Examples
 pub mod Laws
 pub mod Readback
 pub mod Turns

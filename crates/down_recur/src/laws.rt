@@ -1,4 +1,5 @@
 // What it means that lines are given.
+ghost use Rattle.down_recur.specs.Examples.{ADayAhead, AWeekLater};
 ghost use Rattle.down_recur.specs.Laws.{AreGivenInOrder, AreNew, IsGivenOnce};
 ghost use Rattle.down_recur.specs.Readback.{AreBookings, LinesTell};
 
@@ -20,4 +21,10 @@ pub fn lines_tell_downtimes()
 /// What recurs on a site begins with nothing given, and its names can stand in a line.
 pub fn recurrings_begin_anew()
     ensures { AreNew }
+{}
+
+/// Segments of a date and of a day of the week, as they are calculated.
+pub fn segments_are_worked_out()
+    ensures date { ADayAhead }
+    ensures weekday { AWeekLater }
 {}

@@ -23,7 +23,9 @@ mod waiting;
 mod walking;
 
 pub use booking::Booking;
-pub use laws::{lines_tell_downtimes, recurrings_begin_anew, segments_are_given_once};
+pub use laws::{
+    lines_tell_downtimes, recurrings_begin_anew, segments_are_given_once, segments_are_worked_out,
+};
 pub use recur::Recur;
 pub use recurring::Recurring;
 pub use segment::Segment;

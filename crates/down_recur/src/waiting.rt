@@ -24,6 +24,8 @@ pub(crate) struct Waiting {
     pub(crate) seen: Moment,
     /// Nothing begins before this second that isn't done and ends after `seen`.
     pub(crate) next: u64,
+    /// At this second a segment ends that waits for the trigger. Before it no look is needed as long as the trigger has no downtime in effect.
+    closes: u64,
 }
 
 impl Waiting {
@@ -36,6 +38,7 @@ impl Waiting {
             recurring,
             seen: Moment::of(0).unwrap(),
             next: 0,
+            closes: 0,
         }
     }
 
@@ -49,6 +52,10 @@ impl Waiting {
         ensures seen { OnOk result (self.new.seen ≤ turn.now.moment) }
     {
         if self.is_asleep(turn.moment) {
+            return Ok(());
+        }
+        if turn.moment.secs() < self.closes && !is_triggered(turn, self.recurring.trigger) {
+            self.rest(turn.moment, 0);
             return Ok(());
         }
         self.look(out, turn)
@@ -101,6 +108,7 @@ impl Waiting {
         }
         if !is_triggered(turn, self.recurring.trigger) {
             self.rest(turn.moment, 0);
+            self.closes = found.due[0].end.secs();
             return Ok(());
         }
         push_lines(turn.alloc, out, turn.moment, &self.recurring, &found.due)?;
