@@ -14,9 +14,6 @@ days_next clock span first k n h =
     let place : first + k + 1 ≡ first + (k + 1) = omega arith in
     ap (on_days clock span (first + k)) more ∙ ap (λ p. option_to_list (segment_on clock span (pos (first + k) -ℤ pos 2)) ++ on_days clock span p (n - (k + 1))) place
 
-pub days_over : (clock : Option Tzif) (span : DaySpan) (first n : ℕ) → on_days clock span first (n - n) ≡ []
-days_over clock span first n = let none : n - n ≡ 0 = omega arith in ap (on_days clock span first) none
-
 -- ---- a segment among others
 
 abbrev pub Among : Segment → List Segment → Type 0

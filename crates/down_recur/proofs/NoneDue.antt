@@ -42,8 +42,3 @@ none_in clock from till moment seen next day (span ∷ spans) quiet h k =
 pub quiet_none : (clock : Option Tzif) (spans : List DaySpan) (from till moment seen next : ℕ) → IsQuiet clock spans from seen next → seen ≤ moment → till < next → due_of clock spans from till moment ≡ []
 unfolding segments_around
 quiet_none clock spans from till moment seen next quiet h k = ap by_start (none_in clock from till moment seen next (moment / 86400) spans quiet h k)
-
--- and nothing begins before the first second
-pub quiet_zero : (clock : Option Tzif) (spans : List DaySpan) (from moment : ℕ) → IsQuiet clock spans from moment 0
-quiet_zero clock [] from moment = tt
-quiet_zero clock (span ∷ spans) from moment = (λ day s e a h. omega arith, quiet_zero clock spans from moment)

@@ -1,14 +1,13 @@
 -- What rests gives nothing and stays as it is.
-use Rattle.std.proofs.Common.{◌≡◌, ℕ, ◌+◌, ◌-◌, ◌<◌, ◌≤◌, min, nat_le, nat_lt, Bool, true, false, cond, ◌&&◌, true≢false, List, [], ◌∷◌, ◌++◌, map, Option, refl, sym, subst, ap, ◌∙◌, arith}
+use Rattle.std.proofs.Common.{◌≡◌, ℕ, ◌+◌, ◌-◌, ◌<◌, ◌≤◌, min, nat_le, nat_lt, Bool, true, false, cond, ◌&&◌, true≢false, List, [], ◌∷◌, ◌++◌, map, Option, refl, sym, ap, ◌∙◌, arith}
 use Rattle.std.proofs.lemmas.Bool.Decides.{nat_tests}
 use Rattle.std.specs.List.{AllByRecursion, flat_map}
 use Rattle.jiff_tz.specs.declared.tzif.Tzif.{Tzif}
 use Rattle.site_model.specs.PlainSite.{PlainSite}
 use Rattle.run_meaning.specs.Turns.{Histories}
-use Rattle.down_recur.proofs.NoneDue.{quiet_none, quiet_zero}
-use Rattle.down_recur.specs.Due.{IsQuiet}
+use Rattle.down_recur.proofs.NoneDue.{quiet_none}
 use Rattle.down_recur.specs.Giving.{after_at, done_after, due_at, given_at, is_triggered, lead, lines_at, lines_of}
-use Rattle.down_recur.specs.Waiting.{AreAsleep, AreWaiting, IsFresh, IsWaiting, is_asleep, recurring_in, rest_of}
+use Rattle.down_recur.specs.Waiting.{AreAsleep, AreWaiting, IsWaiting, is_asleep, recurring_in, rest_of}
 use Rattle.down_recur.specs.declared.recurring.Recurring.{Recurring}
 use Rattle.down_recur.specs.declared.segment.Segment.{Segment}
 use Rattle.down_recur.specs.declared.waiting.Waiting.{Waiting}
@@ -65,16 +64,3 @@ all_asleep moment most (w ∷ ws) h until k =
     let least = rest_most (min most (w.next - lead w.recurring.trigger)) ws in
     let seen = h.0 in
     (λ m a b. (omega arith, omega arith), all_asleep moment (min most (w.next - lead w.recurring.trigger)) ws h.1 until k)
-
-pub none_asleep : (moment : ℕ) (ws : List Waiting) → AreAsleep moment 0 ws
-none_asleep moment [] = tt
-none_asleep moment (w ∷ ws) = (λ m a b. absurd (omega arith), none_asleep moment ws)
-
--- what is fresh waits
-pub fresh_waiting : (zone : Option Tzif) (ws : List Waiting) → AllByRecursion IsFresh ws → AreWaiting zone ws
-fresh_waiting clock [] h = tt
-fresh_waiting clock (w ∷ ws) h = (subst (IsQuiet clock w.recurring.spans w.recurring.done w.seen) (sym h.0) (quiet_zero clock w.recurring.spans w.recurring.done w.seen), fresh_waiting clock ws h.1)
-
-pub fresh_more : (ws : List Waiting) (w : Waiting) → AllByRecursion IsFresh ws → IsFresh w → AllByRecursion IsFresh (ws ++ w ∷ [])
-fresh_more [] w h k = (k, tt)
-fresh_more (v ∷ ws) w h k = (h.0, fresh_more ws w h.1 k)
