@@ -6,7 +6,7 @@ ghost use Rattle.dsl_value.specs.Whole.{Names, NamesAll};
 ghost use Rattle.dsl_lib.specs.Arguments.{one as one_of, two as two_of, three as three_of, text_in, number_in, items_in, pairs_in, array_in, dict_in};
 
 use crate::LibFault;
-use dsl_value::{Cell, Store, Value};
+use dsl_value::{Cell, SortedPairs, Store, Value};
 use site_base::{Num, Text};
 
 /// The one argument.
@@ -85,7 +85,7 @@ pub(crate) fn items<'a>(value: &Value, store: &'a Store) -> Result<&'a [Value], 
 }
 
 /// The pairs of the dictionary that a value is.
-pub(crate) fn pairs<'a>(value: &Value, store: &'a Store) -> Result<&'a [(Text, Value)], LibFault>
+pub(crate) fn pairs<'a>(value: &Value, store: &'a Store) -> Result<&'a SortedPairs, LibFault>
     requires { Names (length store.now.cells) (length store.now.functions) value.now }
     ensures pairs { MatchResult result (λ ps. pairs_in store.now.cells value.now ≡ Some ps.now) (λ e. (pairs_in store.now.cells value.now ≡ None) × (e ≡ LibFault.WrongType)) }
     ensures stands { IfOk result (λ ps. NamesAll (length store.now.cells) (length store.now.functions) ps.now) }
@@ -93,7 +93,7 @@ pub(crate) fn pairs<'a>(value: &Value, store: &'a Store) -> Result<&'a [(Text, V
     match value {
         Value::Ref(cell) => match store.cell(*cell) {
             Cell::Array(_) => Err(LibFault::WrongType),
-            Cell::Dict(pairs) => Ok(pairs.as_slice()),
+            Cell::Dict(pairs) => Ok(pairs),
         },
         _ => Err(LibFault::WrongType),
     }

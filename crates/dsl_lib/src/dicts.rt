@@ -10,8 +10,8 @@ use crate::LibFault;
 use crate::answers::copied;
 use crate::args::{dict, held_text, is_frozen, one, pairs, text, three, two};
 use crate::scalars::whole;
-use dsl_value::{Act, Change, Store, Value};
-use site_base::{OutOfMemory, Row, Text};
+use dsl_value::{Act, Change, SortedPairs, Store, Value};
+use site_base::{OutOfMemory, Row};
 use std::alloc::Global;
 
 /// `keys(dictionary)` and `dictionary.keys()`: a new array of the keys.
@@ -23,12 +23,14 @@ pub(crate) fn keys(alloc: Global, args: &[Value], store: &Store) -> Result<Row<V
     Ok(key_values(alloc, pairs(one(args)?, store)?)?)
 }
 
-fn key_values(alloc: Global, pairs: &[(Text, Value)]) -> Result<Row<Value>, OutOfMemory>
+fn key_values(alloc: Global, pairs: &SortedPairs) -> Result<Row<Value>, OutOfMemory>
     ensures { IfOk result (λ row. row ≡ map key_of pairs.now) }
 {
     let mut keys = Row::new(alloc);
-    for pair in pairs {
+    let mut left = pairs.left();
+    while let Some((pair, behind)) = left.split_first() {
         keys.push(Value::Str(pair.0.clone()?))?;
+        left = behind;
     }
     Ok(keys)
 }
@@ -42,12 +44,14 @@ pub(crate) fn values(alloc: Global, args: &[Value], store: &Store) -> Result<Row
     Ok(copied_values(alloc, pairs(one(args)?, store)?)?)
 }
 
-fn copied_values(alloc: Global, pairs: &[(Text, Value)]) -> Result<Row<Value>, OutOfMemory>
+fn copied_values(alloc: Global, pairs: &SortedPairs) -> Result<Row<Value>, OutOfMemory>
     ensures { IfOk result (λ row. row ≡ map value_of pairs.now) }
 {
     let mut values = Row::new(alloc);
-    for pair in pairs {
+    let mut left = pairs.left();
+    while let Some((pair, behind)) = left.split_first() {
         values.push(pair.1.clone()?)?;
+        left = behind;
     }
     Ok(values)
 }

@@ -126,20 +126,16 @@ pub beyond_sorted : (right beyond : Pairs) (b : Pair) → right ≡ b ∷ beyond
 beyond_sorted right beyond b f sorted = second (entries.below_all key_cmp b.0 beyond) _ (subst (λ ps. T (is_sorted ps)) f sorted)
 
 -- nothing is left of one
-nothing : (ps : Pairs) → length ps ≡ 0 → ps ≡ []
-nothing [] none = refl
-nothing (p ∷ ps) none = absurd (omega (arith, none))
+pub next_left : (left right behind : Pairs) (a : Pair) → left ≡ a ∷ behind → right ≡ [] → merged left right ≡ a ∷ merged behind right
+next_left left right behind a e none = (λ i. merged (e i) (none i)) ∙ ap (λ ps. a ∷ merged behind ps) (sym none)
 
-pub next_left : (left right behind : Pairs) (a : Pair) → left ≡ a ∷ behind → length right ≡ 0 → merged left right ≡ a ∷ merged behind right
-next_left left right behind a e none = (λ i. merged (e i) (nothing right none i)) ∙ ap (λ ps. a ∷ merged behind ps) (sym (nothing right none))
-
-pub next_right : (left right beyond : Pairs) (b : Pair) → length left ≡ 0 → right ≡ b ∷ beyond → T (is_sorted right) → merged left right ≡ b ∷ merged left beyond
+pub next_right : (left right beyond : Pairs) (b : Pair) → left ≡ [] → right ≡ b ∷ beyond → T (is_sorted right) → merged left right ≡ b ∷ merged left beyond
 next_right left right beyond b none f sorted =
-    ap (λ ps. merged ps right) (nothing left none) ∙ dict_of_sorted right sorted ∙ f
-    ∙ sym (ap (λ ps. b ∷ ps) (ap (λ ps. merged ps beyond) (nothing left none) ∙ dict_of_sorted beyond (beyond_sorted right beyond b f sorted)))
+    ap (λ ps. merged ps right) none ∙ dict_of_sorted right sorted ∙ f
+    ∙ sym (ap (λ ps. b ∷ ps) (ap (λ ps. merged ps beyond) none ∙ dict_of_sorted beyond (beyond_sorted right beyond b f sorted)))
 
-pub next_none : (left right : Pairs) → length left ≡ 0 → length right ≡ 0 → merged left right ≡ []
-next_none left right none too = (λ i. merged (nothing left none i) (nothing right too i))
+pub next_none : (left right : Pairs) → left ≡ [] → right ≡ [] → merged left right ≡ []
+next_none left right none too = (λ i. merged (none i) (too i))
 
 pub merges_in_order : (left right : Pairs) → T (is_sorted left) → T (is_sorted (merged left right))
 merges_in_order left right h = dict_of-sorted right left h

@@ -39,7 +39,7 @@ plain (operands.Bool b) = boolean b
 plain (operands.Number n) = number n
 plain (operands.Str t) = string t.now
 plain (operands.Array vs) = array vs.now
-plain (operands.Dict ps) = dictionary ps.now
+plain (operands.Dict ps) = dictionary ps
 plain (operands.Func k) = function k
 
 -- null, false, 0, and the empty string, array and dictionary are false, and all else is true

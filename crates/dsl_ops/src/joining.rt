@@ -16,7 +16,11 @@ use site_base::{OutOfMemory, Row, Text};
 use std::alloc::Global;
 
 /// `+`: a sum, what null leaves of the other operand, a new array or dictionary of both, or a text.
-pub(crate) fn plus(alloc: Global, left: &Operand, right: &Operand) -> Result<Made, OpFault>
+pub(crate) fn plus<'a>(
+    alloc: Global,
+    left: &Operand<'a>,
+    right: &Operand<'a>,
+) -> Result<Made, OpFault>
     requires left { IsInOrder (plain left.now) }
     requires right { IsInOrder (plain right.now) }
     ensures gives { Gives result (sum (plain left.now) (plain right.now)) (sum_units (plain left.now) (plain right.now)) }

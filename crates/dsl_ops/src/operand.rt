@@ -4,7 +4,7 @@ ghost use Rattle.dsl_value.specs.Whole.{Names};
 ghost use Rattle.dsl_value.specs.Contents.{plain as plain_cell};
 ghost use Rattle.dsl_ops.specs.Operands.{plain, content_of, operand, Stands, IsInOrder};
 
-use dsl_value::{Cell, Store, Value};
+use dsl_value::{Cell, PairsLeft, Store, Value};
 use site_base::{Num, Text};
 
 /// A value, with what its cell contains.
@@ -15,7 +15,7 @@ pub(crate) enum Operand<'a> {
     Number(Num),
     Str(&'a Text),
     Array(&'a [Value]),
-    Dict(&'a [(Text, Value)]),
+    Dict(PairsLeft<'a>),
     Func(u32),
 }
 
@@ -41,6 +41,6 @@ fn content(cell: &Cell) -> Operand<'_>
 {
     match cell {
         Cell::Array(items) => Operand::Array(items),
-        Cell::Dict(pairs) => Operand::Dict(pairs),
+        Cell::Dict(pairs) => Operand::Dict(pairs.left()),
     }
 }

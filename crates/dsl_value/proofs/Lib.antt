@@ -14,6 +14,8 @@ pub mod Parted
 pub mod Places
 pub mod Plainly
 pub mod Rising
+pub mod Rowed
+pub mod Searching
 pub mod Seen
 pub mod Settled
 pub mod Steps

@@ -9,6 +9,7 @@ use Rattle.std.specs.FinMap.Entries as entries
 use Rattle.std.specs.declared.cmp.Ordering.{Ordering}
 use Rattle.std.specs.declared.cmp.Ordering.TheVariants.{Less, Equal, Greater}
 use Rattle.std.proofs.lemmas.Cmp.{nat_list_cmp_total}
+use Rattle.std.proofs.lemmas.List.{get_or_default}
 use Rattle.std.proofs.lemmas.List.Sorted.{IsNonDecreasingBy-from_default}
 use Rattle.dsl_value.specs.declared.value.Value.{Value}
 use Rattle.dsl_value.specs.declared.value.Value.TheVariants.{Null}
@@ -160,3 +161,10 @@ put_entry k v (p ∷ ps) =
 
 pub sorted_put : (k : List ℕ) (v : Value) (ps : Pairs) → T (is_sorted ps) → T (is_sorted (put k v ps))
 sorted_put k v ps h = subst (λ qs. T (is_sorted qs)) (put_entry k v ps) (entries.is_sorted-put key_cmp nat_list_cmp_total k v ps h)
+
+-- a key that is there
+pub put_in_place : (ps : Pairs) (n m : List ℕ) (v : Value) (i : ℕ) (x : List ℕ × Value) (qs : Pairs) → IsAt qs m i → qs ≡ ps → m ≡ n → x ≡ get_or ps i x → set ps i (x.0, v) ≡ put n v ps
+put_in_place ps n m v i x qs at same named here =
+    let there : IsAt ps n i = subst (λ k. IsAt ps k i) named (subst (λ rs. IsAt rs m i) same at) in
+    let key : x.0 ≡ n = ap (λ p. p.0) (here ∙ get_or_default ps i x ([], Null) there.inside) ∙ there.here in
+    ap (λ k. set ps i (k, v)) key ∙ sym (put_at ps n v i there)

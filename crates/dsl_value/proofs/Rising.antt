@@ -11,7 +11,7 @@ use Rattle.std.proofs.Math.Seq.{get_or-append_seam}
 use Rattle.dsl_value.specs.Contents.{PlainCell, array, cell_at}
 use Rattle.dsl_value.specs.declared.value.Value.{Value}
 use Rattle.dsl_value.specs.Pairs.{Pairs, key_cmp, is_sorted, find, put, dict_of, or_found, last_of}
-use Rattle.dsl_value.proofs.Places.{put_entry}
+use Rattle.dsl_value.proofs.Places.{put_entry, sorted_put}
 
 pub both : (a b : Bool) → T a → T b → T (a && b)
 both true b p q = q
@@ -30,7 +30,7 @@ less Less p = refl
 less Equal p = absurd p
 less Greater p = absurd p
 
-below_seam : (key k : List ℕ) (v : Value) (es ps : Pairs) → T (entries.below_all key_cmp key (es ++ (k, v) ∷ ps)) → key_cmp k key ≡ Greater
+pub below_seam : (key k : List ℕ) (v : Value) (es ps : Pairs) → T (entries.below_all key_cmp key (es ++ (k, v) ∷ ps)) → key_cmp k key ≡ Greater
 below_seam key k v [] ps h = nat_list_cmp_total.antisymm k key ∙ ap ordering_reverse (less _ (first _ _ h))
 below_seam key k v (e ∷ es) ps h = below_seam key k v es ps (second _ _ h)
 
@@ -97,3 +97,11 @@ pub added_last : (frozen live new : List PlainCell) (c : PlainCell) (n : ℕ) �
 added_last frozen live new c n e long =
     ap (λ ks. cell_at (frozen ++ ks) n) e ∙ ap (λ ks. cell_at ks n) (sym (append_assoc frozen live (c ∷ []))) ∙ ap (cell_at ((frozen ++ live) ++ c ∷ [])) (sym long)
     ∙ get_or-append_seam (frozen ++ live) c [] (array [])
+
+sorted_after : (ps sorted : Pairs) → T (is_sorted sorted) → T (is_sorted (dict_of ps sorted))
+sorted_after [] sorted h = h
+sorted_after (p ∷ ps) sorted h = sorted_after ps (put p.0 p.1 sorted) (sorted_put p.0 p.1 sorted h)
+
+-- pairs that are put in one after another are sorted
+pub sorted_dict_of : (ps qs : Pairs) → qs ≡ dict_of ps [] → T (is_sorted qs)
+sorted_dict_of ps qs e = subst (λ rs. T (is_sorted rs)) (sym e) (sorted_after ps [] tt)

@@ -15,7 +15,7 @@ pub data PlainCell : Type 0 where
 
 abbrev pub plain : Cell → PlainCell
 plain (cell.Array v) = array v.items
-plain (cell.Dict v) = dict v.items
+plain (cell.Dict v) = dict v
 
 -- a function and what it captured
 pub record PlainFunction : Type 0 where

@@ -12,8 +12,10 @@ pub mod Looking
 pub mod Nests
 pub mod Outcomes
 pub mod Pairs
+pub mod PairsKept
 pub mod Parts
 pub mod Paths
 pub mod PlainStores
+pub mod Rows
 pub mod Walks
 pub mod Whole

@@ -3,7 +3,6 @@ ghost use Rattle.std.specs.Prelude.{◌≡◌, ◌<◌, OnOk, OnErr, IsTrue, len
 ghost use Rattle.dsl_value.specs.Changes.{changed, FitsCell};
 ghost use Rattle.dsl_value.specs.Contents.{plain, pushed, is_array, is_dict, values_of, IsInOrder, with_value, with_pair, without_pair};
 
-use crate::pairs::{put_pair, remove_pair};
 use crate::{Cell, Change, Value};
 use site_base::{OutOfMemory, Text};
 
@@ -63,7 +62,7 @@ fn set_in(cell: &mut Cell, key: Text, value: Value) -> Result<(), OutOfMemory>
 {
     match cell {
         Cell::Array(_) => Ok(()),
-        Cell::Dict(pairs) => put_pair(pairs, key, value),
+        Cell::Dict(pairs) => pairs.put(&key, value),
     }
 }
 
@@ -74,6 +73,6 @@ fn remove_in(cell: &mut Cell, key: &str)
     ensures { plain cell.new ≡ without_pair (plain cell.old) key.now }
 {
     if let Cell::Dict(pairs) = cell {
-        remove_pair(pairs, key);
+        pairs.remove(key);
     }
 }

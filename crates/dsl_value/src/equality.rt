@@ -4,11 +4,10 @@ ghost use Rattle.std.specs.List.{All};
 ghost use Rattle.dsl_value.specs.Contents.{plain};
 ghost use Rattle.dsl_value.specs.Equality.{scalars_equal, each_equal, each_pair_equal, cells_equal, refs_equal, equal_within};
 ghost use Rattle.dsl_value.specs.Known.{IsKnown};
-ghost use Rattle.dsl_value.specs.Whole.{Names, Stands};
+ghost use Rattle.dsl_value.specs.Whole.{Names, NamesAll, Stands};
 
 use crate::known::Known;
-use crate::{Cell, Store, Value};
-use site_base::Text;
+use crate::{Cell, PairsLeft, Store, Value};
 
 /// How deep arrays and dictionaries are compared. Those that lie deeper are unequal.
 const LEVELS: u32 = 100;
@@ -78,7 +77,7 @@ fn cells(levels: u32, left: &Cell, right: &Cell, store: &Store, known: &mut Know
             left.len() == right.len() && items(levels, left, right, store, known)
         }
         (Cell::Dict(left), Cell::Dict(right)) => {
-            left.len() == right.len() && pairs(levels, left, right, store, known)
+            left.len() == right.len() && pairs(levels, &left.left(), &right.left(), store, known)
         }
         _ => false,
     }
@@ -103,25 +102,25 @@ fn items(levels: u32, left: &[Value], right: &[Value], store: &Store, known: &mu
 }
 
 #[cycle(equal)]
-fn pairs(
-    levels: u32,
-    left: &[(Text, Value)],
-    right: &[(Text, Value)],
-    store: &Store,
-    known: &mut Known,
-) -> bool
-    requires left { All (λ p. Names (length store.now.cells) (length store.now.functions) p.1) left.now }
-    requires right { All (λ p. Names (length store.now.cells) (length store.now.functions) p.1) right.now }
-    requires length { length left.now ≡ length right.now }
+fn pairs(levels: u32, left: &PairsLeft, right: &PairsLeft, store: &Store, known: &mut Known) -> bool
+    requires left { NamesAll (length store.now.cells) (length store.now.functions) left.now }
+    requires right { NamesAll (length store.now.cells) (length store.now.functions) right.now }
     requires levels { levels < 100 }
     requires known { IsKnown store.now.cells known.old }
     ensures equal { result ≡ each_pair_equal (equal_within levels store.now.cells) left.now right.now }
     ensures known { IsKnown store.now.cells known.new }
 {
-    for i in 0..left.len() {
-        if left[i].0 != right[i].0 || !values(levels, &left[i].1, &right[i].1, store, known) {
+    let mut left = left.again();
+    let mut right = right.again();
+    while let Some((one, behind)) = left.split_first() {
+        let Some((other, beyond)) = right.split_first() else {
+            return true;
+        };
+        if one.0 != other.0 || !values(levels, &one.1, &other.1, store, known) {
             return false;
         }
+        left = behind;
+        right = beyond;
     }
     true
 }

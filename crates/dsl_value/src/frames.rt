@@ -45,9 +45,7 @@ pub(crate) fn next_of<'a>(top: &Frame, content: &'a Cell) -> Option<&'a Value>
         (Frame::Array { made, .. }, Cell::Array(items)) if made.len() < items.len() => {
             Some(&items[made.len()])
         }
-        (Frame::Dict { made, .. }, Cell::Dict(pairs)) if made.len() < pairs.len() => {
-            Some(&pairs[made.len()].1)
-        }
+        (Frame::Dict { made, .. }, Cell::Dict(pairs)) => Some(&pairs.at(made.len())?.1),
         _ => None,
     }
 }
@@ -57,9 +55,10 @@ pub(crate) fn key_bytes_of(top: &Frame, content: &Cell) -> usize
     ensures { result ≡ key_bytes (plain content.now) (frame top.now) }
 {
     match (top, content) {
-        (Frame::Dict { made, .. }, Cell::Dict(pairs)) if made.len() < pairs.len() => {
-            pairs[made.len()].0.len()
-        }
+        (Frame::Dict { made, .. }, Cell::Dict(pairs)) => match pairs.at(made.len()) {
+            Some(pair) => pair.0.len(),
+            None => 0,
+        },
         _ => 0,
     }
 }
@@ -82,10 +81,9 @@ pub(crate) fn add_tree(top: &mut Frame, content: &Cell, tree: Tree) -> Result<()
 fn add_pair(made: &mut Vec<(Text, Tree)>, content: &Cell, tree: Tree) -> Result<(), OutOfMemory>
     ensures { OnOk result (map pair_view made.new.items ≡ keyed (slice_get (pairs_of (plain content.now)) (length (map pair_view made.old.items))) (map pair_view made.old.items) (view tree)) }
 {
-    let place = made.len();
     if let Cell::Dict(pairs) = content {
-        if place < pairs.len() {
-            let key = pairs[place].0.clone()?;
+        if let Some(pair) = pairs.at(made.len()) {
+            let key = pair.0.clone()?;
             made.push((key, tree))?;
         }
     }

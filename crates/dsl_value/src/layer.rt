@@ -266,7 +266,7 @@ pub(crate) fn copy_cell(cell: &Cell) -> Result<Cell, OutOfMemory>
 {
     match cell {
         Cell::Array(items) => Ok(Cell::Array(items.clone()?)),
-        Cell::Dict(pairs) => Ok(Cell::Dict(pairs.clone()?)),
+        Cell::Dict(pairs) => Ok(Cell::Dict(pairs.copied()?)),
     }
 }
 

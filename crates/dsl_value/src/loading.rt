@@ -6,8 +6,7 @@ ghost use Rattle.dsl_value.specs.Contents.{plain};
 ghost use Rattle.dsl_value.specs.Loads.{bare, load, grown, given};
 ghost use Rattle.dsl_value.specs.Loading.{among, loaded, array_of, dict_of_pairs, filled, value_of, work_in, work_of, SameArray, SameDict};
 
-use crate::pairs::sorted_pairs;
-use crate::{Cell, Value};
+use crate::{Cell, SortedPairs, Value};
 use site_base::{OutOfMemory, Text, Tree};
 use std::alloc::Global;
 
@@ -147,7 +146,7 @@ fn next_pair<'a>(
     let left = add_bare_pairs(&mut pairs, left)?;
     match left.split_first() {
         None => {
-            let sorted = sorted_pairs(alloc, pairs)?;
+            let sorted = SortedPairs::of_pairs(alloc, pairs)?;
             Ok(Step::Made(add_cell(Cell::Dict(sorted), before, made)?))
         }
         Some(((key, next), left)) => {

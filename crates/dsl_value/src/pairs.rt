@@ -1,10 +1,11 @@
 // Pairs of a key and a value, sorted by the keys' bytes.
 ghost use Rattle.std.specs.Prelude.{◌≡◌, IfOk, IfErr, OnOk, OnErr, IfSome, IfNone, IsTrue, T, Some, None, []};
-ghost use Rattle.dsl_value.specs.Pairs.{Pairs, find, is_sorted, put, without, IsAt, IsGapFor, dict_of};
+ghost use Rattle.dsl_value.specs.Pairs.{Pairs, find, is_sorted, key_cmp, put, without, IsAt, IsGapFor, dict_of};
 
 use crate::Value;
 use site_base::{OutOfMemory, Text};
 use std::alloc::Global;
+use std::cmp::Ordering;
 use std::collections::BTreeMap;
 
 /// Where a key stands, or where it would go.
@@ -13,7 +14,27 @@ fn place_of(pairs: &[(Text, Value)], key: &str) -> Result<usize, usize>
     ensures found { IfOk result (IsAt pairs.now key.now) }
     ensures absent { IfErr result (IsGapFor pairs.now key.now) }
 {
-    pairs.binary_search_by(|pair| pair.0.as_str().cmp(key))
+    let mut low = 0;
+    let mut high = pairs.len();
+    while low < high {
+        let middle = low + (high - low) / 2;
+        match key_order(pairs[middle].0.as_str(), key) {
+            Ordering::Less => low = middle + 1,
+            Ordering::Equal => return Ok(middle),
+            Ordering::Greater => high = middle,
+        }
+    }
+    Err(low)
+}
+
+/// The order of two keys, by their bytes. Of most two the first bytes differ, and decide.
+pub(crate) fn key_order(a: &str, b: &str) -> Ordering
+    ensures { result ≡ key_cmp a.now b.now }
+{
+    match (a.as_bytes().first(), b.as_bytes().first()) {
+        (Some(x), Some(y)) if x != y => x.cmp(y),
+        _ => a.cmp(b),
+    }
 }
 
 /// The value of a key.
@@ -31,19 +52,22 @@ pub(crate) fn value_of<'a>(pairs: &'a [(Text, Value)], key: &str) -> Option<&'a 
 /// Gives a key a value.
 pub(crate) fn put_pair(
     pairs: &mut Vec<(Text, Value)>,
-    key: Text,
+    key: &Text,
     value: Value,
 ) -> Result<(), OutOfMemory>
     requires { T (is_sorted pairs.old.items) }
-    ensures ok { OnOk result (pairs.new.items ≡ put key value pairs.old.items) }
+    ensures ok { OnOk result (pairs.new.items ≡ put key.now value pairs.old.items) }
     ensures err { OnErr result (pairs.new.items ≡ pairs.old.items) }
 {
     match place_of(pairs, key.as_str()) {
         Ok(at) => {
-            pairs[at] = (key, value);
+            pairs[at].1 = value;
             Ok(())
         }
-        Err(at) => Ok(pairs.insert(at, (key, value))?),
+        Err(at) => {
+            let key = key.clone()?;
+            Ok(pairs.insert(at, (key, value))?)
+        }
     }
 }
 

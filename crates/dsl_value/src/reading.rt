@@ -5,7 +5,6 @@ ghost use Rattle.dsl_value.specs.Pairs.{find};
 ghost use Rattle.dsl_value.specs.Whole.{Names, Stands};
 
 use crate::layer::copy_cell;
-use crate::pairs::value_of;
 use crate::{Cell, Store, Value};
 use site_base::OutOfMemory;
 
@@ -41,6 +40,6 @@ fn value_in<'a>(cell: &'a Cell, key: &str) -> Option<&'a Value>
 {
     match cell {
         Cell::Array(_) => None,
-        Cell::Dict(pairs) => value_of(pairs, key),
+        Cell::Dict(pairs) => pairs.get(key),
     }
 }

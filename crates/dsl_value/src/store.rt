@@ -15,9 +15,8 @@ ghost use Rattle.dsl_value.specs.Faults.{Concerns};
 use crate::frozen::Frozen;
 use crate::layer::Layer;
 use crate::loading::make_tree;
-use crate::pairs::sorted_pairs;
 use crate::walking::walk_value;
-use crate::{Cell, Change, Function, SetFault, TreeFault, Value};
+use crate::{Cell, Change, Function, SetFault, SortedPairs, TreeFault, Value};
 use dsl_syntax::Func;
 use site_base::{OutOfMemory, Row, Text, Tree};
 use std::alloc::Global;
@@ -206,7 +205,7 @@ impl Store {
         ensures last { OnOk result ((key : List ℕ) → find key (pairs_of (cell_at self.new.cells (length self.old.cells))) ≡ last_of key pairs) }
     {
         let number = next_number(self.frozen.len(), self.live.len())?;
-        let sorted = sorted_pairs(self.alloc, pairs.into_vec())?;
+        let sorted = SortedPairs::of_pairs(self.alloc, pairs.into_vec())?;
         self.live.add(self.alloc, Cell::Dict(sorted))?;
         Ok(Value::Ref(number))
     }
@@ -221,7 +220,8 @@ impl Store {
         ensures err { OnErr result (self.new ≡ self.old) }
     {
         let number = next_number(self.frozen.len(), self.live.len())?;
-        self.live.add(self.alloc, Cell::Dict(pairs.into_vec()))?;
+        let sorted = SortedPairs::of_rising(self.alloc, pairs.into_vec());
+        self.live.add(self.alloc, Cell::Dict(sorted))?;
         Ok(Value::Ref(number))
     }
 

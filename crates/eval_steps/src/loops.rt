@@ -8,7 +8,7 @@ ghost use Rattle.eval_work.specs.Kept.{Named, IsFit, IsStill, FlowNamed, TurnNam
 ghost use Rattle.eval_steps.specs.Loops.{turns_of as turns_over, turn_set as set_turn, element_turn, pair_turn};
 ghost use Rattle.eval_steps.specs.Named.{IsTurnNamed, TurnsNamed};
 
-use dsl_value::{Cell, Value};
+use dsl_value::{Cell, SortedPairs, Value};
 use eval_meaning::Flow;
 use eval_work::{Stop, Work, fault};
 use site_base::{DiagKind, Place, Text};
@@ -74,16 +74,18 @@ fn element_turns(alloc: Global, items: &[Value]) -> Result<Vec<Turn>, Stop>
 
 /// A turn for each pair of a dictionary, by its order.
 #[tactic(auto, using(std::proofs::Common::append_assoc))]
-fn pair_turns(alloc: Global, pairs: &[(Text, Value)]) -> Result<Vec<Turn>, Stop>
+fn pair_turns(alloc: Global, pairs: &SortedPairs) -> Result<Vec<Turn>, Stop>
     ensures turns { IfOk result (λ v. v.items ≡ map pair_turn pairs.now) }
     ensures memory { IfErr result (λ e. e ≡ Stop.Memory) }
 {
     let mut turns = Vec::with_capacity(alloc, pairs.len())?;
-    for (key, value) in pairs {
+    let mut left = pairs.left();
+    while let Some(((key, value), behind)) = left.split_first() {
         turns.push(Turn {
             first: Value::Str(key.clone()?),
             second: Some(value.clone()?),
         })?;
+        left = behind;
     }
     Ok(turns)
 }

@@ -4,4 +4,3 @@ pub mod Charged
 pub mod Called
 pub mod Found
 pub mod Placed
-pub mod Searching

@@ -1,16 +1,13 @@
 -- Names with their values, of which more are put in.
-use Rattle.std.proofs.Common.{◌≡◌, ℕ, List, [], ◌∷◌, Option, Some, None, Result, Ok, Err, T, get_or, set, subst, sym, ap, ◌∙◌, Bor}
+use Rattle.std.proofs.Common.{◌≡◌, ℕ, List, [], ◌∷◌, Option, Some, None, Result, Ok, Err, subst, sym, Bor}
 use Rattle.std.specs.Ordering.{match_ordering}
 use Rattle.std.specs.declared.cmp.Ordering.TheVariants.{Less, Equal, Greater}
-use Rattle.std.proofs.lemmas.List.{get_or_default}
 use Rattle.std.specs.Prelude.{IfSome, OnOk}
 use Rattle.std.specs.List.{AllByRecursion}
-use Rattle.dsl_value.specs.Pairs.{Pairs, find, put, dict_of, is_sorted, key_cmp, IsAt}
+use Rattle.dsl_value.specs.Pairs.{Pairs, find, put, dict_of, key_cmp}
 use Rattle.dsl_value.specs.Whole.{Names, NamesAll}
 use Rattle.dsl_value.specs.declared.value.Value.{Value}
-use Rattle.dsl_value.specs.declared.value.Value.TheVariants as value
 use Rattle.dsl_value.proofs.Found.{find_stands}
-use Rattle.dsl_value.proofs.Places.{sorted_put, put_at}
 use Rattle.eval_meaning.specs.Functions.{bound}
 
 names_put : (cells functions : ℕ) (k : List ℕ) (v : Value) (ps : Pairs) → Names cells functions v → NamesAll cells functions ps → NamesAll cells functions (put k v ps)
@@ -47,13 +44,3 @@ pub bound_named : (cells functions : ℕ) (ns : List (List ℕ)) (vs : List Valu
 bound_named cells functions [] vs h = tt
 bound_named cells functions (n ∷ ns) [] h = tt
 bound_named cells functions (n ∷ ns) (v ∷ vs) h = (h.0, bound_named cells functions ns vs h.1)
-
-pub put_sorted : (n : List ℕ) (v : Value) (ps qs : Pairs) → qs ≡ put n v ps → T (is_sorted ps) → T (is_sorted qs)
-put_sorted n v ps qs e h = subst (λ x. T (is_sorted x)) (sym e) (sorted_put n v ps h)
-
--- a name that is there
-pub put_in_place : (ps : Pairs) (n m : List ℕ) (v : Value) (i : ℕ) (x : List ℕ × Value) (qs : Pairs) → IsAt qs m i → qs ≡ ps → m ≡ n → x ≡ get_or ps i x → set ps i (x.0, v) ≡ put n v ps
-put_in_place ps n m v i x qs at same named here =
-    let there : IsAt ps n i = subst (λ k. IsAt ps k i) named (subst (λ rs. IsAt rs m i) same at) in
-    let key : x.0 ≡ n = ap (λ p. p.0) (here ∙ get_or_default ps i x ([], value.Null) there.inside) ∙ there.here in
-    ap (λ k. set ps i (k, v)) key ∙ sym (put_at ps n v i there)

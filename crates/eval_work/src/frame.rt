@@ -7,7 +7,7 @@ ghost use Rattle.eval_work.specs.Kept.{Named, PairsNamed, IsFit, IsStill, FlowNa
 
 use crate::work::fault;
 use crate::{Locals, Stop, Work};
-use dsl_value::Value;
+use dsl_value::{PairsLeft, Value};
 use eval_meaning::Flow;
 use site_base::{DiagKind, Text};
 use std::mem;
@@ -82,7 +82,7 @@ ghost use Rattle.std.specs.Prelude.{ℕ};
 /// The locals that a frame begins with.
 pub fn first_locals(
     captured: &[(Text, Value)],
-    others: &[(Text, Value)],
+    others: &PairsLeft,
     empty: Locals,
 ) -> Result<Locals, Stop>
     requires { empty ≡ [] }
@@ -92,6 +92,6 @@ pub fn first_locals(
 {
     let mut locals = empty;
     locals.put_all(captured)?;
-    locals.put_all(others)?;
+    locals.put_left(others)?;
     Ok(locals)
 }

@@ -26,7 +26,7 @@ pub use budget::Budget;
 pub use committed::Committed;
 pub use frame::{Frame, first_locals};
 pub use item::Item;
-pub use locals::{Locals, value_of};
+pub use locals::Locals;
 pub use rule::Rule;
 pub use settling::member_stop;
 pub use source_file::SourceFile;

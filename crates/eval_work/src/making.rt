@@ -63,7 +63,7 @@ impl Work {
     {
         Ok(
             self.store
-                .add_function(func, Row::from(captured.into_vec()))?,
+                .add_function(func, Row::from(captured.into_vec()?))?,
         )
     }
 }

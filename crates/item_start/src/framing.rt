@@ -3,7 +3,7 @@ ghost use Rattle.std.specs.Prelude.{◌≡◌, false, OnOk, IfErr};
 ghost use Rattle.eval_meaning.specs.Frames.{first_locals as locals_first};
 ghost use Rattle.eval_work.specs.Kept.{IsFit, Named, PairsNamed};
 
-use dsl_value::Value;
+use dsl_value::{PairsLeft, Value};
 use eval_work::{Locals, Stop, Work, first_locals};
 use site_base::Text;
 use std::mem;
@@ -25,7 +25,7 @@ pub fn enter_frame(
     ensures memory { IfErr result (λ e. e ≡ Stop.Memory) }
 {
     let left = mem::replace(&mut work.locals, Locals::new(work.alloc));
-    let locals = first_locals(captured, bound, left.cleared())?;
+    let locals = first_locals(captured, &PairsLeft::of_row(bound), left.cleared())?;
     work.this = this;
     work.locals = locals;
     work.in_file = false;

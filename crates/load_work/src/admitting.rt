@@ -80,7 +80,7 @@ fn template_frame(
     match view.templates.find(kind.as_str(), name.as_str()) {
         Some(template) => {
             let empty = Locals::new(work.alloc);
-            let locals = first_locals(&template.captured, bound.pairs(), empty)?;
+            let locals = first_locals(&template.captured, &bound.left(), empty)?;
             Ok(Imported {
                 body: template.body.clone()?,
                 locals,

@@ -85,7 +85,7 @@ pub fn add_item(
                 place,
                 presets,
                 names,
-                captured: captured.into_vec(),
+                captured: captured.into_vec()?,
                 body: body.clone()?,
                 builtin,
             };
@@ -122,7 +122,7 @@ pub fn add_template(
                 kind: kind.clone()?,
                 name,
                 place,
-                captured: captured.into_vec(),
+                captured: captured.into_vec()?,
                 body: body.clone()?,
             };
             Ok(load.templates.add(template)?)
@@ -161,7 +161,7 @@ pub fn add_rule(
                 name,
                 target,
                 each,
-                captured: captured.into_vec(),
+                captured: captured.into_vec()?,
                 body: body.clone()?,
             };
             Ok(load.rules.push(rule)?)

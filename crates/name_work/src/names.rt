@@ -10,7 +10,7 @@ ghost use Rattle.eval_work.specs.Kept.{Named, IsFit, CalleeNamed};
 use dsl_lib::LibraryCall;
 use dsl_value::{Cell, Store, Value};
 use eval_meaning::Callee;
-use eval_work::{Stop, Work, value_of};
+use eval_work::{Stop, Work};
 use site_base::{DiagKind, Place, Text, quote};
 use std::alloc::Global;
 
@@ -32,7 +32,7 @@ fn in_cell<'a>(store: &'a Store, cell: u32, name: &Text) -> Option<&'a Value>
     ensures absent { IfNone result (name_in store.now.cells name.now (Value.Ref cell) ≡ None) }
 {
     match store.cell(cell) {
-        Cell::Dict(pairs) => value_of(pairs, name.as_str()),
+        Cell::Dict(pairs) => pairs.get(name.as_str()),
         Cell::Array(_) => None,
     }
 }

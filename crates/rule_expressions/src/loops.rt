@@ -11,7 +11,7 @@ ghost use Rattle.rule_expressions.specs.Plain.{plain_element, plain_elements};
 
 use crate::prepared::evaluate;
 use dsl_syntax::Each;
-use dsl_value::{Cell, Value};
+use dsl_value::{Cell, SortedPairs, Value};
 use eval_work::{Stop, Task, Work, WorldView, fault};
 use site_base::{DiagKind, OutOfMemory, Text};
 use std::alloc::Global;
@@ -95,13 +95,15 @@ fn pair_elements(
     alloc: Global,
     first: &Text,
     second: &Text,
-    pairs: &[(Text, Value)],
+    pairs: &SortedPairs,
 ) -> Result<Option<Vec<Element>>, OutOfMemory>
     ensures { IfOk result (λ o. option_map plain_elements o ≡ Some (of_pairs first.now second.now pairs.now)) }
 {
     let mut elements = Vec::with_capacity(alloc, pairs.len())?;
-    for (key, value) in pairs {
+    let mut left = pairs.left();
+    while let Some(((key, value), behind)) = left.split_first() {
         elements.push(pair_element(alloc, first, second, key, value)?)?;
+        left = behind;
     }
     Ok(Some(elements))
 }

@@ -14,6 +14,6 @@ returns-in_default-Null-clause-stands c = λ cells functions left right. c.kept_
 pub returns-in_ok-merged_pairs-in-Dict-Dict-clause-stands : goal.returns-in_ok-merged_pairs-in-Dict-Dict-clause-stands
 returns-in_ok-merged_pairs-in-Dict-Dict-clause-stands c = λ cells functions left right.
     subst (λ ps. NamesAll cells functions ps × T (is_sorted ps)) (sym c.in_ok-merged_pairs-in-Dict-Dict.ensures)
-    (names_dict cells functions c.in-Dict-Dict.right.now c.in-Dict-Dict.left.now
+    (names_dict cells functions c.in-Dict-Dict.right c.in-Dict-Dict.left
     (subst (Stands cells functions) (ap plain c.in-Dict-Dict.is-1) right)
     (subst (Stands cells functions) (ap plain c.in-Dict-Dict.is-0) left, subst IsInOrder (ap plain c.in-Dict-Dict.is-0) c.requires.left))

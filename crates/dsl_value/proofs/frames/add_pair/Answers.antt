@@ -1,4 +1,4 @@
-use Rattle.std.proofs.Common.{◌≡◌, ◌<◌, ◌≤◌, ◌++◌, ◌∷◌, [], map, length, slice_get, sym, subst, rules}
+use Rattle.std.proofs.Common.{◌≡◌, ◌++◌, ◌∷◌, [], map, length, slice_get, sym, subst, rules}
 use Rattle.site_base.specs.View.{view, pair_view}
 use Rattle.dsl_value.specs.Contents.{plain, pairs_of}
 use Rattle.dsl_value.specs.Paths.{keyed}
@@ -7,16 +7,14 @@ use Rattle.dsl_value.proofs.frames.add_pair.Goals as goal
 
 pub returns-in_ok-push : goal.returns-in_ok-push
 returns-in_ok-push c =
-    let count : c.len-place.result ≡ length c.args.made.now.items = search rules in
-    let key : c.in_ok-key.key ≡ c.index.result.now.0 = search rules in
+    let count : c.len.result ≡ length c.args.made.now.items = search rules in
+    let key : c.in_ok-key.key ≡ c.in-Some.pair.now.0 = search rules in
     let pushed : c.push.new.self.items ≡ c.args.made.now.items ++ (c.in_ok-key.key, c.args.tree) ∷ [] = search rules in
-    let lt : c.len-place.result < length c.in-Dict.pairs.items = search rules in
     subst (λ cell. map pair_view c.push.new.self.items ≡ keyed (slice_get (pairs_of (plain cell)) (length (map pair_view c.args.made.now.items))) (map pair_view c.args.made.now.items) (view c.args.tree)) (sym c.in-Dict.is)
-    (keyed_some c.in-Dict.pairs.items c.args.made.now.items c.push.new.self.items c.in_ok-key.key c.args.tree c.index.result.now c.len-place.result count lt c.index.ensures key pushed)
+    (keyed_some c.in-Dict.pairs c.args.made.now.items c.push.new.self.items c.in_ok-key.key c.args.tree c.in-Some.pair.now c.len.result count c.in-Some.ensures.found key pushed)
 
-pub returns-else-place-len : goal.returns-else-place-len
-returns-else-place-len c =
-    let count : c.len-place.result ≡ length c.args.made.now.items = search rules in
-    let le : length c.in-Dict.pairs.items ≤ c.len-place.result = search rules in
+pub returns-in_default-at : goal.returns-in_default-at
+returns-in_default-at c =
+    let count : c.len.result ≡ length c.args.made.now.items = search rules in
     subst (λ cell. map pair_view c.args.made.now.items ≡ keyed (slice_get (pairs_of (plain cell)) (length (map pair_view c.args.made.now.items))) (map pair_view c.args.made.now.items) (view c.args.tree)) (sym c.in-Dict.is)
-    (keyed_none c.in-Dict.pairs.items c.args.made.now.items (view c.args.tree) c.len-place.result count le)
+    (keyed_none c.in-Dict.pairs c.args.made.now.items (view c.args.tree) c.len.result count c.in_default-at.ensures.none)

@@ -1,15 +1,21 @@
-use Rattle.std.proofs.Common.{rules}
-use Rattle.std.proofs.lemmas.Fn.{always_returns_same}
-use Rattle.dsl_value.specs.Pairs.{key_cmp}
-use Rattle.dsl_value.proofs.Places.{searched}
+use Rattle.std.proofs.Common.{rules, ◌+◌, ◌-◌, ◌/◌, arith}
+use Rattle.dsl_value.proofs.Searching.{compared, after_less, at_equal, before_greater}
 use Rattle.dsl_value.proofs.pairs.place_of.Goals as goal
 
-pub returns-clause-found : goal.returns-clause-found
-returns-clause-found c =
-    let by_key = c.binary_search_by.ensures.position (λ p. key_cmp p.0 c.args.key.now) (always_returns_same _ _ _ (λ a r g called. search rules)) in
-    (searched _ c.requires _ _ c.binary_search_by.ensures.bound by_key).found
+pub loop-low-preserved-in-Less : goal.loop-low-preserved-in-Less
+loop-low-preserved-in-Less c =
+    let middle = c.loop-low.low + (c.loop-low.high - c.loop-low.low) / 2 in
+    after_less _ c.requires _ c.loop-low.low middle c.loop-low.high c.loop-low.invariant (omega arith) (omega arith)
+    (compared _ _ middle _ _ _ (omega arith) c.as_str.ensures (search rules))
 
-pub returns-clause-absent : goal.returns-clause-absent
-returns-clause-absent c =
-    let by_key = c.binary_search_by.ensures.position (λ p. key_cmp p.0 c.args.key.now) (always_returns_same _ _ _ (λ a r g called. search rules)) in
-    (searched _ c.requires _ _ c.binary_search_by.ensures.bound by_key).absent
+pub returns-in-Equal-clause-found : goal.returns-in-Equal-clause-found
+returns-in-Equal-clause-found c =
+    let middle = c.loop-low.low + (c.loop-low.high - c.loop-low.low) / 2 in
+    at_equal _ c.requires _ c.loop-low.low middle c.loop-low.high c.loop-low.invariant (omega arith) (omega arith)
+    (compared _ _ middle _ _ _ (omega arith) c.as_str.ensures (search rules))
+
+pub loop-low-preserved : goal.loop-low-preserved
+loop-low-preserved c =
+    let middle = c.loop-low.low + (c.loop-low.high - c.loop-low.low) / 2 in
+    before_greater _ c.requires _ c.loop-low.low middle c.loop-low.high c.loop-low.invariant (omega arith) (omega arith)
+    (compared _ _ middle _ _ _ (omega arith) c.as_str.ensures (search rules))

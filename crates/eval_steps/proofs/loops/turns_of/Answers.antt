@@ -2,7 +2,7 @@ use Rattle.std.proofs.Common.{◌≡◌, length, map, List, Vec, Global, Result,
 use Rattle.std.specs.Prelude.{IfOk}
 use Rattle.dsl_value.specs.Contents.{Contents, plain}
 use Rattle.dsl_value.specs.Whole.{Stands}
-use Rattle.eval_work.specs.Kept.{NamedAll, PairsNamed}
+use Rattle.eval_work.specs.Kept.{NamedAll}
 use Rattle.eval_work.specs.declared.stop.Stop.{Stop}
 use Rattle.eval_steps.specs.Loops.{element_turn, pair_turn}
 use Rattle.eval_steps.specs.Named.{TurnsNamed}
@@ -23,5 +23,5 @@ returns-in-None-Array-clause-named c =
 pub returns-in-Some-Dict-clause-named : goal.returns-in-Some-Dict-clause-named
 returns-in-Some-Dict-clause-named c =
     let s = c.args.work.now.store in
-    let named : PairsNamed s c.in-Some-Dict.pairs.items = (subst (Stands (length s.cells) (length s.functions)) (ap plain c.in-Some-Dict.is-1) c.cell.ensures.stands).0 in
-    turns_named c.pair_turns.result s (map pair_turn c.deref-in-Some-Dict.result.now) c.pair_turns.ensures.turns (pairs_named s c.deref-in-Some-Dict.result.now (subst (PairsNamed s) (sym c.deref-in-Some-Dict.ensures.value) named))
+    turns_named c.pair_turns.result s (map pair_turn _) c.pair_turns.ensures.turns
+    (pairs_named s _ (subst (Stands (length s.cells) (length s.functions)) (ap plain c.in-Some-Dict.is-1) c.cell.ensures.stands).0)
