@@ -18,7 +18,7 @@ pub struct Attributes<'a> {
 impl<'a> Attributes<'a> {
     /// What the object sets, unless it counts as not set.
     #[tactic(auto, unfolding(crate::specs::Attributes::set_value))]
-    pub(crate) fn set(&self, attribute: Attribute) -> Option<&'a Tree>
+    pub fn set(&self, attribute: Attribute) -> Option<&'a Tree>
         ensures { value_view result ≡ set_value self.now.kind attribute (view self.now.tree.now) }
     {
         match self.tree {

@@ -1,3 +1,4 @@
 pub mod Zones
 pub mod Loads
 pub mod Configs
+pub mod Idle
