@@ -1,7 +1,7 @@
 # Completion of icinga_site's words for bash: source this file, or put it into
 # /usr/share/bash-completion/completions/icinga_site.
 _icinga_site() {
-    local word=${COMP_WORDS[COMP_CWORD]} at told=() options=" --log --workers "
+    local word=${COMP_WORDS[COMP_CWORD]} at told=() options=" --log --workers --quiet "
     case ${COMP_WORDS[COMP_CWORD - 1]} in
     --log)
         mapfile -t COMPREPLY < <(compgen -W "1 2" -- "$word")
@@ -19,12 +19,13 @@ _icinga_site() {
             options=${options/ ${COMP_WORDS[at]} / }
             at=$((at + 1))
             ;;
+        --quiet) options=${options/ --quiet / } ;;
         *) told+=("${COMP_WORDS[at]}") ;;
         esac
     done
     COMPREPLY=()
     case "${#told[@]} ${told[0]-} $options" in
-    "0   --log --workers ") mapfile -t COMPREPLY < <(compgen -W "check objects replay daemon gen $options --help --version" -- "$word") ;;
+    "0   --log --workers --quiet ") mapfile -t COMPREPLY < <(compgen -W "check objects replay daemon gen $options --help --version" -- "$word") ;;
     "0 "*" --log "*) mapfile -t COMPREPLY < <(compgen -W "check objects replay daemon gen $options" -- "$word") ;;
     "0 "*) mapfile -t COMPREPLY < <(compgen -W "replay daemon $options" -- "$word") ;;
     "1 check "* | "1 objects "* | "1 replay "* | "1 daemon "* | "2 replay "*) mapfile -t COMPREPLY < <(compgen -f -- "$word") ;;

@@ -1,11 +1,14 @@
 // The words of the command line, over the real files and standard output.
 use crate::complaint::{say_diagnosed, say_misuse, say_unread};
 use crate::counted::Counted;
+use crate::heard::Heard;
+use crate::watched::Watched;
 use live_world::LiveWorld;
 use post_turn::OpenGate;
 use site_base::{OutOfMemory, Text};
 use site_edge::{DiskFiles, OutSink};
 use site_program::{self, Status};
+use std::cell::Cell;
 use std::env;
 use std::io::ErrorKind;
 use std::sync::Wait;
@@ -26,6 +29,7 @@ usage:
 
 --log 1 or --log 2, before or behind the words of replay and daemon, chooses the version of the log.
 --workers K, before or behind any words, has K workers, from 1 to 64, take the events of a turn at the same time.
+--quiet, anywhere among them, leaves out what check and daemon remark of a site on standard error.
 ";
 
 /// What `--version` prints.
@@ -44,15 +48,27 @@ pub(crate) fn run<R: Wait + Threads + Sync, T: Threads + Drop>(
     }
 }
 
-/// The words of the command line; one that isn't UTF-8 is a wrong use.
-fn words_of(rt: &HostRuntime) -> Result<Vec<Text>, Status> {
+/// The words of a command line without `--quiet`, and whether that stood among them.
+#[derive(Drop)]
+struct Words {
+    words: Vec<Text>,
+    quiet: bool,
+}
+
+/// The words of the command line; one that isn't UTF-8 is a wrong use. `--quiet` is taken out once.
+fn words_of(rt: &HostRuntime) -> Result<Words, Status> {
     let args = match env::args(rt) {
         Ok(args) => args,
         Err(error) if error.kind() == ErrorKind::OutOfMemory => return Err(Status::OutOfMemory),
         Err(_) => return Err(Status::Usage),
     };
     let mut words = Vec::new(rt.alloc());
+    let mut quiet = false;
     for word in args.skip(1) {
+        if !quiet && word.as_str() == "--quiet" {
+            quiet = true;
+            continue;
+        }
         let Ok(text) = Text::copy_of(rt.alloc(), word.as_str()) else {
             return Err(Status::OutOfMemory);
         };
@@ -60,7 +76,7 @@ fn words_of(rt: &HostRuntime) -> Result<Vec<Text>, Status> {
             return Err(Status::OutOfMemory);
         }
     }
-    Ok(words)
+    Ok(Words { words, quiet })
 }
 
 /// Does what the words ask for, over the real files and standard output.
@@ -68,12 +84,12 @@ fn run_words<R: Wait + Threads + Sync, T: Threads + Drop>(
     rt: &HostRuntime,
     turns: &R,
     threads: T,
-    words: &[Text],
+    words: &Words,
 ) -> Status {
-    match words {
+    match words.words.as_slice() {
         [word] if asks_for_help(word) => print_text(rt, HELP),
         [word] if word.as_str() == "--version" => print_text(rt, VERSION),
-        words => run_over(rt, turns, threads, words),
+        _ => run_over(rt, turns, threads, words),
     }
 }
 
@@ -86,16 +102,27 @@ fn run_over<R: Wait + Threads + Sync, T: Threads + Drop>(
     rt: &HostRuntime,
     turns: &R,
     threads: T,
-    words: &[Text],
+    words: &Words,
 ) -> Status {
-    let Ok(mut world) = world_of(rt, threads) else {
+    let Ok(world) = world_of(rt, threads) else {
         return Status::OutOfMemory;
     };
+    let Words { words, quiet } = words;
     let alloc = rt.alloc();
+    let limit = Cell::new(0);
     let mut files = DiskFiles::new(rt);
+    let mut world = Watched::new(rt, world, &limit);
     let mut out = Counted::new(OutSink::new(alloc, rt));
+    let mut remarks = Heard::new(rt, *quiet, &limit);
     let status = site_program::run(
-        turns, alloc, words, &mut files, &mut world, &mut out, &OpenGate,
+        turns,
+        alloc,
+        words,
+        &mut files,
+        &mut world,
+        &mut out,
+        &mut remarks,
+        &OpenGate,
     );
     match status {
         Status::Diagnosed => say_diagnosed(rt, words, out.lines()),

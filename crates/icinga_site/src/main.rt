@@ -4,6 +4,8 @@
 mod command_line;
 mod complaint;
 mod counted;
+mod heard;
+mod watched;
 
 use site_program::Status;
 use std::process::ExitCode;

@@ -29,6 +29,8 @@ pub(crate) struct Case {
     pub(crate) held: Held,
     /// Outputs of which one has to be written.
     pub(crate) either: Row<Blob>,
+    /// Whether what is remarked of the site is a part of the answer.
+    pub(crate) remarks: bool,
 }
 
 impl Case {
@@ -42,6 +44,7 @@ impl Case {
             world: Blob::new(alloc),
             held: Held::new(alloc),
             either: Row::new(alloc),
+            remarks: false,
         }
     }
 
@@ -128,7 +131,8 @@ impl Case {
         self.files.push((Text::copy_of(alloc, name)?, bytes))
     }
 
-    /// Adds a call that fails, `read 2 fails`, `put 2 fails` or `turn 2 fails`, or a worker that is held up.
+    /// Adds a call that fails, `read 2 fails`, `put 2 fails` or `turn 2 fails`, or a worker that is held up; or, by `remarks`, that they
+    /// are a part of the answer.
     fn add_failing(&mut self, text: &str) -> Result<(), OutOfMemory> {
         let (call, rest) = text.split_once(' ').unwrap_or((text, ""));
         let (number, _) = rest.split_once(' ').unwrap_or((rest, ""));
@@ -138,6 +142,10 @@ impl Case {
             "put" => self.puts.push(number),
             "turn" => self.turns.push(number),
             "worker" => self.held.push(Hold::read(rest)),
+            "remarks" => {
+                self.remarks = true;
+                Ok(())
+            }
             _ => Ok(()),
         }
     }

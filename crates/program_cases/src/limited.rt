@@ -26,6 +26,7 @@ pub(crate) fn push_limited(alloc: Global, out: &mut Text, case: Case) -> Result<
         world,
         held: _,
         either: _,
+        remarks: _,
     } = case;
     let [limit, root] = words.as_slice() else {
         return out.push_str("  →  no limit and root");

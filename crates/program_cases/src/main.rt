@@ -8,6 +8,7 @@
 
 mod case;
 mod gated;
+mod heard;
 mod limited;
 mod named;
 mod outcome;

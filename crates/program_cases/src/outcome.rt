@@ -1,6 +1,7 @@
 // What the program gives.
 use crate::case::Case;
 use crate::gated::Held;
+use crate::heard::Heard;
 use live_world::LiveWorld;
 use post_turn::OpenGate;
 use site_base::{Blob, OutOfMemory, Row, Text, quote};
@@ -61,14 +62,30 @@ fn push_answer<T: Wait + Threads + Sync, W: World>(
         world: _,
         held,
         either,
+        remarks,
     } = case;
     let mut files = MemFiles::new(alloc, files, reads);
     let mut sink = MemSink::new(alloc, puts);
-    let status = run(turns, alloc, &words, &mut files, world, &mut sink, &held);
+    let mut heard = Heard::new(alloc);
+    let status = run(
+        turns, alloc, &words, &mut files, world, &mut sink, &mut heard, &held,
+    );
     out.push_str("  →  ")?;
     push_status(out, status)?;
     push_late(out, &held)?;
+    if remarks {
+        push_heard(out, heard.lines())?;
+    }
     push_written(out, sink.written(), either.as_slice())
+}
+
+/// Adds what was remarked, a line each.
+fn push_heard(out: &mut Text, remarks: &[Text]) -> Result<(), OutOfMemory> {
+    for remark in remarks {
+        out.push_str("\n  remarked ")?;
+        out.push_str(remark.as_str())?;
+    }
+    Ok(())
 }
 
 /// Adds a line where a worker was held up for too long.
@@ -107,13 +124,15 @@ pub(crate) fn push_short<T: Wait + Threads + Sync>(
         world: _,
         held: _,
         either: _,
+        remarks: _,
     } = case;
     let mut world = MemWorld::new(alloc, Row::new(alloc), failing);
     let mut files = MemFiles::new(alloc, files, reads);
     let mut sink = MemSink::new(alloc, puts);
+    let mut heard = Heard::new(alloc);
     out.push_str("  →")?;
     match run(
-        turns, alloc, &words, &mut files, &mut world, &mut sink, &OpenGate,
+        turns, alloc, &words, &mut files, &mut world, &mut sink, &mut heard, &OpenGate,
     ) {
         Status::Done | Status::Diagnosed => {}
         status => {

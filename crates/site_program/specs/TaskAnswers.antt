@@ -1,5 +1,5 @@
 -- What a run writes for a task over files and the turns of the world.
-use Rattle.std.specs.Prelude.{ℕ, ◌≡◌, ◌≤◌, ◌⊎◌, Bool, true, false, List, [], ◌∷◌, codes, length, Option, Some, None, IfSome}
+use Rattle.std.specs.Prelude.{ℕ, ◌≡◌, ◌≢◌, ◌≤◌, ◌⊎◌, Bool, true, false, List, [], ◌∷◌, codes, length, Option, Some, None, IfSome}
 use Rattle.std.specs.Bool.{Decides}
 use Rattle.commit_meaning.specs.Commits as commits
 use Rattle.commit_meaning.specs.Commits.{Committed}
@@ -12,10 +12,13 @@ use Rattle.site_gen.specs.Lines.{count_lines}
 use Rattle.site_gen.specs.Root.{root_text}
 use Rattle.site_gen.specs.declared.counts.Counts.{Counts}
 use Rattle.site_load.specs.Configs.{IsBadZone, config_outcome, names_of}
+use Rattle.site_load.specs.Idle.{idle_by, rules_of}
 use Rattle.site_load.specs.Loads.{load_outcome}
 use Rattle.site_model.specs.PlainSite.{PlainSite}
 use Rattle.site_program.specs.Runs.{replied}
+use Rattle.site_replies.specs.Remarks.{remarks_of, with_remarks}
 use Rattle.site_replies.specs.Replies.{bad_script, config_reply, diagnoses, listed, no_script}
+use Rattle.site_replies.specs.declared.remarks.Remark.{Remark}
 use Rattle.site_replies.specs.declared.replies.Shown.{Shown}
 use Rattle.site_replies.specs.declared.replies.Shown.TheVariants as shown
 use Rattle.site_run.specs.Ends.{Outside}
@@ -132,6 +135,23 @@ CameFar end callers style root files old new = IsUnanswered end old new ⊎ (IsR
 abbrev pub Came : Status → ℕ → Task → Option Files → Outside → Outside → Type 0
 Came end callers (daemon style root) files old new = CameFar end callers style root files old new
 Came end callers task files old new = Unit {0}
+
+-- Remarks.
+
+-- what is remarked of what a root's configuration comes to was told
+abbrev pub RemarksOn : Files → List ℕ → Option (List Remark) → Option (List Remark) → Type 0
+RemarksOn files root old new =
+    AnswersRoot files root (λ names c. new ≡ with_remarks old (remarks_of c (idle_by (rules_of (load_outcome files root)) c)))
+
+-- that is said of a run that found out what its configuration comes to
+abbrev pub RemarkedOf : Status → List ℕ → Option Files → Option (List Remark) → Option (List Remark) → Type 0
+RemarkedOf end root files old new = end ≢ status.ReadFault → end ≢ status.OutOfMemory → IfSome files (λ all. RemarksOn all root old new)
+
+-- by the task; but for these two nothing is remarked
+abbrev pub Remarked : Status → Task → Option Files → Option (List Remark) → Option (List Remark) → Type 0
+Remarked end (check root) files old new = RemarkedOf end root files old new
+Remarked end (daemon style root) files old new = RemarkedOf end root files old new
+Remarked end task files old new = new ≡ old
 
 -- Command lines.
 

@@ -4,22 +4,22 @@ ghost use Rattle.site_edge.specs.Told.{Rose};
 ghost use Rattle.site_run.specs.Callers.{AreCallers};
 ghost use Rattle.site_run.specs.Logs.{AnswersWorld, EndsRun};
 ghost use Rattle.site_run.specs.Ends.{HandsOn, outside};
-ghost use Rattle.site_program.specs.TaskAnswers.{AnswersSite, CameFar, most_turns};
+ghost use Rattle.site_program.specs.TaskAnswers.{AnswersSite, CameFar, RemarkedOf, most_turns};
 
 use crate::config::status_of;
 use crate::output::write_made;
+use crate::remarked::answer_remarked;
 use crate::replay::MOST_TURNS;
 use run_text::Style;
 use site_edge::{Files, Sink, World};
-use site_load::config_answer;
 use site_phases::Answer;
-use site_replies::diagnoses;
+use site_replies::{Remarks, diagnoses};
 use site_run::{Status, Workers, write_log};
 use std::alloc::Global;
 
 /// Writes the log of the world's turns, whose events these workers take, over the site that the files from the root on make, or why there
-/// is none. No turn is taken and no check started where there is none. The workers are 1 to 64.
-pub fn watch<F: Files, W: World, S: Sink, C: Workers>(
+/// is none, and tells what is remarked of that site before the first turn. No turn is taken and no check started where there is none. The workers are 1 to 64.
+pub fn watch<F: Files, W: World, S: Sink, N: Remarks, C: Workers>(
     alloc: Global,
     workers: &C,
     style: Style,
@@ -27,11 +27,13 @@ pub fn watch<F: Files, W: World, S: Sink, C: Workers>(
     files: &mut F,
     world: &mut W,
     out: &mut S,
+    remarks: &mut N,
 ) -> Status
     requires callers { AreCallers (C.callers workers.now) }
     requires apt { C.apt workers.now }
     ensures never_usage { result ≢ Status.Usage }
     ensures written { EndsRun result (λ w. IfSome (F.told files.old) (λ all. AnswersSite all root.now (AnswersWorld (C.callers workers.now) style most_turns (W.turns world.old)) w)) (S.written out.old) (S.written out.new) }
+    ensures remarked { RemarkedOf result root.now (F.told files.old) (N.remarked remarks.old) (N.remarked remarks.new) }
     ensures through { HandsOn result (S.kept_back out.new) }
     // Which turns were taken, what was written of them, and by which calls their checks were started.
     ensures came { CameFar result (C.callers workers.now) style root.now (F.told files.old) (outside (W.turns world.old) (W.started world.old) (W.calls world.old) (S.written out.old) (S.kept_back out.old)) (outside (W.turns world.new) (W.started world.new) (W.calls world.new) (S.written out.new) (S.kept_back out.new)) }
@@ -43,7 +45,7 @@ pub fn watch<F: Files, W: World, S: Sink, C: Workers>(
     ensures calm_sink { S.calm out.old → result ≢ Status.WriteFault }
     ensures calm_world { W.calm world.old → result ≢ Status.WorldFault }
 {
-    match config_answer(alloc, files, root) {
+    match answer_remarked(alloc, files, root, remarks) {
         Ok(Answer::Site(site)) => write_log(alloc, workers, style, site, world, out, MOST_TURNS),
         Ok(Answer::Diags { files, list }) => {
             write_made(diagnoses(alloc, &files, list.as_slice()), out)

@@ -1,6 +1,7 @@
 //! The program over any files, world and sink: what is written for the words of a command line.
 //!
-//! In reading order: how replies are written (`output`), the objects of a configuration (`config`), the log of a script (`replay`)
+//! In reading order: how replies are written (`output`), what is remarked of a site (`remarked`), the objects of a
+//! configuration (`config`), the log of a script (`replay`)
 //! and of the world (`daemon`), and the counts of a generated site (`generate`). `running` does what is asked for with one worker, `many`
 //! with as many as are asked for, and both end with a `Status`; `laws` says what is known of that.
 #![tactic(auto)]
@@ -11,10 +12,12 @@ mod generate;
 mod laws;
 mod many;
 mod output;
+mod remarked;
 mod replay;
 mod running;
 
 pub use laws::{answers_are_one, calm_runs_write_their_answer};
 pub use many::run;
 pub use running::run_one;
+pub use site_replies::{Remark, Remarks};
 pub use site_run::Status;

@@ -13,7 +13,7 @@ ghost use Rattle.site_words.specs.Commands.{command_of as command_in};
 ghost use Rattle.site_run.specs.Callers.{AreCallers};
 ghost use Rattle.site_run.specs.Logs.{EndsRun};
 ghost use Rattle.site_run.specs.Ends.{HandsOn, outside};
-ghost use Rattle.site_program.specs.TaskAnswers.{Answers, Came, is_daemon, is_generate};
+ghost use Rattle.site_program.specs.TaskAnswers.{Answers, Came, Remarked, is_daemon, is_generate};
 
 use crate::running::{run_one, run_task};
 use engine_log::turn_lines_by_many;
@@ -22,6 +22,7 @@ use run_text::Style;
 use site_base::{OutOfMemory, Text, Texts};
 use site_edge::{Files, Sink, Turn, World};
 use site_model::Site;
+use site_replies::Remarks;
 use site_run::{ManyWorkers, Status};
 use site_words::command_of;
 use std::alloc::Global;
@@ -32,22 +33,27 @@ use turn_engine::{Engine, TurnOut};
 /// Does what the words of a command line ask for, with as many workers as they ask for. Those take the events of a turn at the same time,
 /// and enter the gate before and after each. Where it is one, [`run_one`] does it, and no thread is made.
 ///
-/// `world` is touched by `daemon` alone, `files` by all words but `gen`, and after `Usage` nothing is.
-pub fn run<F: Files, W: World, S: Sink, R: Wait + Threads + Sync, G: Gate + Sync>(
+/// `world` is touched by `daemon` alone, `files` by all words but `gen`, `remarks` by `check` and `daemon`, and after `Usage` nothing is.
+pub fn run<F: Files, W: World, S: Sink, N: Remarks, R: Wait + Threads + Sync, G: Gate + Sync>(
     rt: &R,
     alloc: Global,
     words: &[Text],
     files: &mut F,
     world: &mut W,
     out: &mut S,
+    remarks: &mut N,
     gate: &G,
 ) -> Status
     ensures usage { (result ≡ Status.Usage) ↔ (command_in words.now ≡ None) }
-    ensures refused { result ≡ Status.Usage → (files.new ≡ files.old) × (out.new ≡ out.old) × (world.new ≡ world.old) }
+    ensures refused { result ≡ Status.Usage → (files.new ≡ files.old) × (out.new ≡ out.old) × (world.new ≡ world.old) × (remarks.new ≡ remarks.old) }
 
     // What was written is what answers to the words over the files and the turns of the world, or after a fault a prefix of it.
     ensures written { IfSome (command_in words.now) (λ c.
         EndsRun result (Answers c.workers c.task (F.told files.old) (W.turns world.old)) (S.written out.old) (S.written out.new)) }
+
+    // What is remarked of a site is told by `check` and `daemon`, before anything is written.
+    ensures remarked { IfSome (command_in words.now) (λ c.
+        Remarked result c.task (F.told files.old) (N.remarked remarks.old) (N.remarked remarks.new)) }
 
     // Where it ends well, and where the world failed, nothing of that is kept back.
     ensures through { HandsOn result (S.kept_back out.new) }
@@ -67,7 +73,7 @@ pub fn run<F: Files, W: World, S: Sink, R: Wait + Threads + Sync, G: Gate + Sync
     ensures calm_world { W.calm world.old → result ≢ Status.WorldFault }
     ensures no_world_fault { IfSome (command_in words.now) (λ c. is_daemon c.task ≡ false → result ≢ Status.WorldFault) }
 {
-    if let Some(status) = run_one(alloc, words, files, world, out) {
+    if let Some(status) = run_one(alloc, words, files, world, out, remarks) {
         return status;
     }
     let Some(command) = command_of(words) else {
@@ -96,5 +102,5 @@ pub fn run<F: Files, W: World, S: Sink, R: Wait + Threads + Sync, G: Gate + Sync
             ensures { (l : TurnLog) → Tells turn.now l → IfOk result (λ lines. lines ≡ turn_lines style (site_view site.now) l) }
         { turn_lines_by_many(rt, alloc, style, site, turn, count) },
     };
-    run_task(alloc, &workers, command.task, files, world, out)
+    run_task(alloc, &workers, command.task, files, world, out, remarks)
 }

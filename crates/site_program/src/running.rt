@@ -6,15 +6,15 @@ ghost use Rattle.site_words.specs.Tasks.{task_view};
 ghost use Rattle.site_run.specs.Callers.{AreCallers};
 ghost use Rattle.site_run.specs.Logs.{EndsRun};
 ghost use Rattle.site_run.specs.Ends.{HandsOn, outside};
-ghost use Rattle.site_program.specs.TaskAnswers.{Answers, AskForMany, Came, is_daemon, is_generate};
+ghost use Rattle.site_program.specs.TaskAnswers.{Answers, AskForMany, Came, Remarked, is_daemon, is_generate};
 
-use crate::config::show_objects;
+use crate::config::{count_objects, list_objects};
 use crate::daemon::watch;
 use crate::generate::generate;
 use crate::replay::replay;
 use site_base::Text;
 use site_edge::{Files, Sink, World};
-use site_replies::Shown;
+use site_replies::Remarks;
 use site_run::{OneWorker, Status, Workers};
 use site_words::{Command, Task, command_of};
 use std::alloc::Global;
@@ -22,22 +22,27 @@ use std::alloc::Global;
 /// Does what the words of a command line ask for, with one worker, and waits for nobody but the world.
 ///
 /// It answers `None`, with nothing touched, exactly for words that ask for two or more workers. `world` is touched by `daemon` alone,
-/// `files` by all words but `gen`, and after `Usage` nothing is.
-pub fn run_one<F: Files, W: World, S: Sink>(
+/// `files` by all words but `gen`, `remarks` by `check` and `daemon`, and after `Usage` nothing is.
+pub fn run_one<F: Files, W: World, S: Sink, N: Remarks>(
     alloc: Global,
     words: &[Text],
     files: &mut F,
     world: &mut W,
     out: &mut S,
+    remarks: &mut N,
 ) -> Option<Status>
     ensures answered { (result ≡ None) ↔ AskForMany (command_in words.now) }
-    ensures passed { result ≡ None → (files.new ≡ files.old) × (out.new ≡ out.old) × (world.new ≡ world.old) }
+    ensures passed { result ≡ None → (files.new ≡ files.old) × (out.new ≡ out.old) × (world.new ≡ world.old) × (remarks.new ≡ remarks.old) }
     ensures usage { (result ≡ Some Status.Usage) ↔ (command_in words.now ≡ None) }
-    ensures refused { result ≡ Some Status.Usage → (files.new ≡ files.old) × (out.new ≡ out.old) × (world.new ≡ world.old) }
+    ensures refused { result ≡ Some Status.Usage → (files.new ≡ files.old) × (out.new ≡ out.old) × (world.new ≡ world.old) × (remarks.new ≡ remarks.old) }
 
     // What was written is what answers to the words over the files and the turns of the world, or after a fault a prefix of it.
     ensures written { IfSome (command_in words.now) (λ c. IfSome result (λ status.
         EndsRun status (Answers c.workers c.task (F.told files.old) (W.turns world.old)) (S.written out.old) (S.written out.new))) }
+
+    // What is remarked of a site is told by `check` and `daemon`, before anything is written.
+    ensures remarked { IfSome (command_in words.now) (λ c. IfSome result (λ status.
+        Remarked status c.task (F.told files.old) (N.remarked remarks.old) (N.remarked remarks.new))) }
 
     // Where it ends well, and where the world failed, nothing of that is kept back.
     ensures through { IfSome result (λ status. HandsOn status (S.kept_back out.new)) }
@@ -59,7 +64,7 @@ pub fn run_one<F: Files, W: World, S: Sink>(
 {
     match command_of(words) {
         Some(Command { task, workers: 1 }) => {
-            Some(run_task(alloc, &OneWorker, task, files, world, out))
+            Some(run_task(alloc, &OneWorker, task, files, world, out, remarks))
         }
         Some(_) => None,
         None => Some(Status::Usage),
@@ -67,18 +72,20 @@ pub fn run_one<F: Files, W: World, S: Sink>(
 }
 
 /// Does what is asked for, with these workers, which are 1 to 64.
-pub(crate) fn run_task<F: Files, W: World, S: Sink, C: Workers>(
+pub(crate) fn run_task<F: Files, W: World, S: Sink, N: Remarks, C: Workers>(
     alloc: Global,
     workers: &C,
     task: Task<'_>,
     files: &mut F,
     world: &mut W,
     out: &mut S,
+    remarks: &mut N,
 ) -> Status
     requires callers { AreCallers (C.callers workers.now) }
     requires apt { C.apt workers.now }
     ensures never_usage { result ≢ Status.Usage }
     ensures written { EndsRun result (Answers (C.callers workers.now) (task_view task.entry) (F.told files.old) (W.turns world.old)) (S.written out.old) (S.written out.new) }
+    ensures remarked { Remarked result (task_view task.entry) (F.told files.old) (N.remarked remarks.old) (N.remarked remarks.new) }
     ensures through { HandsOn result (S.kept_back out.new) }
     ensures came { Came result (C.callers workers.now) (task_view task.entry) (F.told files.old) (outside (W.turns world.old) (W.started world.old) (W.calls world.old) (S.written out.old) (S.kept_back out.old)) (outside (W.turns world.new) (W.started world.new) (W.calls world.new) (S.written out.new) (S.kept_back out.new)) }
     ensures told { F.told files.new ≡ F.told files.old }
@@ -93,14 +100,16 @@ pub(crate) fn run_task<F: Files, W: World, S: Sink, C: Workers>(
     ensures no_world_fault { is_daemon (task_view task.entry) ≡ false → result ≢ Status.WorldFault }
 {
     match task {
-        Task::Check { root } => show_objects(alloc, root, Shown::Count, files, out),
-        Task::Objects { root } => show_objects(alloc, root, Shown::Listing, files, out),
+        Task::Check { root } => count_objects(alloc, root, files, out, remarks),
+        Task::Objects { root } => list_objects(alloc, root, files, out),
         Task::Replay {
             style,
             root,
             script,
         } => replay(alloc, workers, style, root, script, files, out),
-        Task::Daemon { style, root } => watch(alloc, workers, style, root, files, world, out),
+        Task::Daemon { style, root } => {
+            watch(alloc, workers, style, root, files, world, out, remarks)
+        }
         Task::Generate { hosts } => generate(alloc, hosts, out),
     }
 }

@@ -6,6 +6,7 @@ use Rattle.site_replies.specs.Replies.{diagnoses, reply_view}
 use Rattle.site_run.specs.Logs.{AnswersWorld}
 use Rattle.site_program.proofs.Answering.{always, diags_answer, no_site_found, site_answers, site_found}
 use Rattle.site_program.proofs.Ending.{ended, ended_as, unanswered, unread_through}
+use Rattle.site_program.proofs.Remarking.{remarked_on, unread_unremarked}
 use Rattle.site_program.proofs.daemon.watch.Goals as goal
 
 pub returns-in-Ok-Site-clause-written : goal.returns-in-Ok-Site-clause-written
@@ -57,3 +58,18 @@ returns-in-Ok-Diags-clause-came g c =
 
 pub returns-in-Err-clause-came : goal.returns-in-Err-clause-came
 returns-in-Err-clause-came g c = inl (unanswered c.in-Err.fault c.status_of.result _ c.status_of.ensures)
+
+pub returns-in-Ok-Site-clause-remarked : goal.returns-in-Ok-Site-clause-remarked
+returns-in-Ok-Site-clause-remarked g c =
+    let a = c.in-Ok-Site in
+    remarked_on _ c.args.root.now (g.F.Files.told c.args.files.now) a.field-0 (g.N.Remarks.remarked c.args.remarks.now) (g.N.Remarks.remarked c.answer_remarked.new.remarks)
+    (λ files h. a.ensures.remarked files h) (λ files h. λ bad decided. a.ensures.value files bad h decided)
+
+pub returns-in-Ok-Diags-clause-remarked : goal.returns-in-Ok-Diags-clause-remarked
+returns-in-Ok-Diags-clause-remarked g c =
+    let a = c.in-Ok-Diags in
+    remarked_on _ c.args.root.now (g.F.Files.told c.args.files.now) a.field-0 (g.N.Remarks.remarked c.args.remarks.now) (g.N.Remarks.remarked c.answer_remarked.new.remarks)
+    (λ files h. a.ensures.remarked files h) (λ files h. λ bad decided. a.ensures.value files bad h decided)
+
+pub returns-in-Err-clause-remarked : goal.returns-in-Err-clause-remarked
+returns-in-Err-clause-remarked g c = unread_unremarked c.in-Err.fault c.status_of.result c.args.root.now (g.F.Files.told c.args.files.now) _ _ c.status_of.ensures

@@ -1,6 +1,6 @@
 -- What is written is what answers to the task that it is.
 use Rattle.std.proofs.Common.{subst, sym, ap}
-use Rattle.site_program.specs.TaskAnswers.{Answers}
+use Rattle.site_program.specs.TaskAnswers.{Answers, Remarked}
 use Rattle.site_run.specs.Logs.{EndsRun}
 use Rattle.site_words.specs.Tasks.{Task, task_view}
 use Rattle.site_program.proofs.running.run_task.Goals as goal
@@ -14,3 +14,13 @@ pub returns-in-Daemon-clause-written : goal.returns-in-Daemon-clause-written
 returns-in-Daemon-clause-written g c =
     subst (λ (t : Task). EndsRun c.watch.result (Answers (g.C.Workers.callers c.args.workers.now) t (g.F.Files.told c.args.files.now) (g.W.World.turns c.args.world.now)) (g.S.Sink.written c.args.out.now) (g.S.Sink.written c.watch.new.out))
     (sym (ap task_view c.in-Daemon.is)) c.watch.ensures.written
+
+pub returns-in-Daemon-clause-remarked : goal.returns-in-Daemon-clause-remarked
+returns-in-Daemon-clause-remarked g c =
+    subst (λ (t : Task). Remarked c.watch.result t (g.F.Files.told c.args.files.now) (g.N.Remarks.remarked c.args.remarks.now) (g.N.Remarks.remarked c.watch.new.remarks))
+    (sym (ap task_view c.in-Daemon.is)) c.watch.ensures.remarked
+
+pub returns-in-Check-clause-remarked : goal.returns-in-Check-clause-remarked
+returns-in-Check-clause-remarked g c =
+    subst (λ (t : Task). Remarked c.count_objects.result t (g.F.Files.told c.args.files.now) (g.N.Remarks.remarked c.args.remarks.now) (g.N.Remarks.remarked c.count_objects.new.remarks))
+    (sym (ap task_view c.in-Check.is)) c.count_objects.ensures.remarked
