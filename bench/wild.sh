@@ -126,6 +126,15 @@ else
     echo "a full disk isn't tried: no file system can be mounted"
 fi
 
+# An allocator that is named for the program alone isn't handed on to checks; what else is preloaded is.
+cat >preload.conf <<CONF
+object CheckCommand "seen" { command = [ "/bin/sh", "-c", "env | grep -c -e LD_PRELOAD -e ICINGA_SITE_ALLOCATOR" ] }
+object Host "h" { check_command = "seen" }
+CONF
+library=$(ldconfig -p | sed -n 's/.*libm\.so\.6 .*x86-64.* => //p' | head -n 1)
+same "an allocator of its own" '"0"' "$(sleep 2 | LD_PRELOAD=$library ICINGA_SITE_ALLOCATOR=$library "$program" daemon preload.conf --log 2 | grep -o '"[0-9]"' | head -n 1)"
+same "what else is preloaded" '"1"' "$(sleep 2 | LD_PRELOAD=$library "$program" daemon preload.conf --log 2 | grep -o '"[0-9]"' | head -n 1)"
+
 # A clock that is set forward and back: checks go on.
 if command -v faketime >/dev/null; then
     site clock.conf 1 0 4
@@ -142,6 +151,22 @@ if command -v faketime >/dev/null; then
     same "a clock that jumps: checks go on" yes "$([ "$(grep -c ': result 0' log)" -ge 3 ] && echo yes || echo "no, $(grep -c ': result 0' log) results")"
     same "a clock that jumps: moments don't fall" yes "$(sed -n 's/^turn [0-9]* //p' log | sort -nc 2>&1 && echo yes)"
     same "a clock that jumps: it did jump" yes "$(sed -n 's/^turn [0-9]* //p' log | awk 'NR > 1 && $1 - last > 80000 { jumped = 1 } { last = $1 } END { print jumped ? "yes" : "no" }')"
+
+    # As many checks as may be for five minutes, which the clock makes of a second: one line then, and one when it is over.
+    cat >full.conf <<CONF
+const MaxConcurrentChecks = 1
+object CheckCommand "slow" { command = [ "/bin/sleep", "4" ] }
+object Host "h" { check_command = "slow"; check_interval = 1d }
+CONF
+    echo "+0" >offset
+    (
+        sleep 2
+        echo "+600" >offset
+        sleep 4
+    ) | FAKETIME_TIMESTAMP_FILE=$room/offset FAKETIME_NO_CACHE=1 FAKETIME_DONT_FAKE_MONOTONIC=1 \
+        LD_PRELOAD=$library "$program" daemon full.conf 2>said >log
+    same "as many checks as may be: it is said" "icinga_site: for five minutes as many checks have been outstanding as MaxConcurrentChecks allows: 1; others wait
+icinga_site: fewer checks are outstanding than MaxConcurrentChecks allows" "$(cat said)"
 else
     echo "the clock isn't tried: faketime isn't installed"
 fi

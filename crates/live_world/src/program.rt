@@ -12,13 +12,16 @@ use std::os::fd::AsRawFd;
 use std::os::unix::process::ExitStatusExt;
 use std::process::{Child, Command, ExitStatus, Stdio};
 use std::time::Duration;
-use std::{io, mem, thread};
+use std::{env, io, mem, thread};
 
 /// So many seconds a program's output is waited for before it is looked whether the program itself has ended.
 const PATIENCE: u64 = 1;
 
 /// The system has no descriptor left (Linux's number of this error).
 const ENFILE: i32 = 23;
+
+/// The variable that says of `LD_PRELOAD` that it is there for this program alone.
+const ALLOCATOR: &str = "ICINGA_SITE_ALLOCATOR";
 
 /// A program that was started, with what it writes.
 #[derive(Drop)]
@@ -72,7 +75,8 @@ fn wants_room(error: &io::Error) -> bool {
     }
 }
 
-/// Starts a program. A name without a slash is looked for in the folders of `PATH`.
+/// Starts a program. A name without a slash is looked for in the folders of `PATH`. The allocator that this program runs under, if one was
+/// named for it, isn't handed on.
 fn started(rt: &HostRuntime, argv: &[Text]) -> io::Result<Program> {
     let Some((name, arguments)) = argv.split_first() else {
         return Err(io::Error::from(ErrorKind::InvalidInput));
@@ -80,6 +84,10 @@ fn started(rt: &HostRuntime, argv: &[Text]) -> io::Result<Program> {
     let mut command = Command::new(rt.alloc(), name.as_str())?;
     for argument in arguments {
         let _ = command.arg(argument.as_str())?;
+    }
+    if env::var(rt, ALLOCATOR).is_ok() {
+        let _ = command.env_remove("LD_PRELOAD")?;
+        let _ = command.env_remove(ALLOCATOR)?;
     }
     let (output, theirs) = io::pipe(rt)?;
     let errors = theirs.try_clone()?;
