@@ -1,5 +1,5 @@
 #!/bin/sh
-# Runs icinga_site with these words, under the allocator mimalloc if that is installed: so it takes some two thirds of the time. An
+# Runs icinga_site with these words, under the allocator mimalloc if that is installed: so it takes less time and memory. An
 # LD_PRELOAD that is set stays as it is. Checks are started without the allocator, by the second variable.
 #
 # ICINGA_SITE_PROGRAM is the program, /usr/lib/icinga_site/icinga_site unless it is set.
