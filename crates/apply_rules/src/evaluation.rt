@@ -24,7 +24,7 @@ use crate::{Instance, PreparedTarget, Target};
 use dsl_syntax::Each;
 use dsl_value::{Store, Value};
 use eval_work::{Locals, Rule, Stop, Task, Work, WorldView};
-use rule_expressions::{Element, begin_expressions, elements, prepare};
+use rule_expressions::{Element, begin_expressions, elements, prepare_for_many};
 use site_base::{OutOfMemory, Text};
 use std::alloc::Global;
 use std::mem;
@@ -161,7 +161,7 @@ fn run_elements<'a>(
         return Ok(items);
     }
     let before = work.store.fork()?;
-    let prepared = prepare(work.alloc, &before, subject_of(target))?;
+    let prepared = prepare_for_many(work.alloc, &before, subject_of(target))?;
     let mut number = 0;
     for element in elements {
         number = next_number(number)?;

@@ -13,6 +13,9 @@ all_added (x ∷ ls) l =
     ap (beside x) (all_added ls l)
     ∙ (λ i. record { cells = sym (append_assoc x.cells (all_of ls).cells l.cells) i; functions = sym (append_assoc x.functions (all_of ls).functions l.functions) i })
 
+pub beside_together : (a b c : Contained) → beside (beside a b) c ≡ beside a (beside b c)
+beside_together a b c = λ i. record { cells = append_assoc a.cells b.cells c.cells i; functions = append_assoc a.functions b.functions c.functions i }
+
 -- the first of the layers that are left
 pub first_left : (ls : List Contained) (i : ℕ) (l : Contained) → i < length ls → l ≡ get_or ls i l → all_of (drop i ls) ≡ beside l (all_of (drop (i + 1) ls))
 first_left ls i l lt is = ap all_of (drop_more ls i l lt) ∙ ap (λ x. beside x (all_of (drop (i + 1) ls))) (sym is)
@@ -63,12 +66,11 @@ no_function_beyond ls i left le lt = let e = ap (λ c. length c.functions) (none
 pub found_function : (fs : List PlainFunction) (k : ℕ) (f : PlainFunction) → k < length fs → get_or fs k f ≡ f → Some f ≡ slice_get fs k
 found_function fs k f lt e = sym (slice_get-get_or fs k f lt ∙ ap Some e)
 
-pub counted_more : (ls new : List Contained) (l : Contained) (cells functions n m : ℕ) → AreCounted ls cells functions → n ≡ length l.cells → m ≡ length l.functions → new ≡ ls ++ l ∷ [] → AreCounted new (cells + n) (functions + m)
-counted_more ls new l cells functions n m counted long long_functions e =
-    let same = all_added ls l in
-    let a = ap (λ c. length c.cells) same in
-    let b = ap (λ c. length c.functions) same in
+pub counted_beside : (ls new : List Contained) (l : Contained) (cells functions n m : ℕ) → AreCounted ls cells functions → n ≡ length l.cells → m ≡ length l.functions
+    → all_of new ≡ beside (all_of ls) l → AreCounted new (cells + n) (functions + m)
+counted_beside ls new l cells functions n m counted long long_functions e =
+    let a = ap (λ c. length c.cells) e in
+    let b = ap (λ c. length c.functions) e in
     let f = length-append (all_of ls).cells l.cells in
     let g = length-append (all_of ls).functions l.functions in
-    subst (λ xs. AreCounted xs (cells + n) (functions + m)) (sym e)
-    (record { cells_are = omega (arith, counted.cells_are, long, a, f); functions_are = omega (arith, counted.functions_are, long_functions, b, g) })
+    record { cells_are = omega (arith, counted.cells_are, long, a, f); functions_are = omega (arith, counted.functions_are, long_functions, b, g) }

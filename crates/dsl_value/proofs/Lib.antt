@@ -19,3 +19,4 @@ pub mod Searching
 pub mod Seen
 pub mod Settled
 pub mod Steps
+pub mod Lending

@@ -5,6 +5,7 @@ ghost use Rattle.dsl_value.specs.Contents.{Contained, plain, function, cell_at};
 ghost use Rattle.dsl_value.specs.Parts.{beside, all_of, layers_of};
 
 use crate::layer::Layer;
+use crate::live::Live;
 use crate::{Cell, Function};
 use site_base::OutOfMemory;
 use std::alloc::Global;
@@ -101,17 +102,19 @@ impl Frozen {
         function_among(layers_in(&self.layers), func)
     }
 
-    /// Freezes a layer more. It is handed back for want of memory.
-    pub(crate) fn add(&mut self, alloc: Global, layer: Layer) -> Result<(), Layer>
-        requires few { length self.old.cells + length layer.cells < 2 ^ 32 }
-        requires few_functions { length self.old.functions + length layer.functions < 2 ^ 32 }
-        ensures ok { OnOk result (self.new ≡ beside self.old layer) }
+    /// Freezes cells and functions more. They are handed back for want of memory.
+    pub(crate) fn add(&mut self, alloc: Global, live: Live) -> Result<(), Live>
+        requires few { length self.old.cells + length live.cells < 2 ^ 32 }
+        requires few_functions { length self.old.functions + length live.functions < 2 ^ 32 }
+        ensures ok { OnOk result (self.new ≡ beside self.old live) }
         ensures err { OnErr result (self.new ≡ self.old) }
-        ensures back { IfErr result (λ l. l ≡ layer) }
+        ensures back { IfErr result (λ l. l ≡ live) }
     {
-        let cells = self.cells + layer.len();
-        let functions = self.functions + layer.functions();
-        let layers = with_layer(alloc, layers_in(&self.layers), layer)?;
+        let cells = self.cells + live.len();
+        let functions = self.functions + live.functions();
+        let Ok(layers) = with_live(alloc, layers_in(&self.layers), &live) else {
+            return Err(live);
+        };
         self.layers = Some(layers);
         self.cells = cells;
         self.functions = functions;
@@ -129,21 +132,25 @@ fn layers_in(layers: &Option<Arc<Vec<Layer>>>) -> &[Layer]
     }
 }
 
-/// The same layers and one more behind them, behind a pointer of their own. That one is handed back for want of memory.
-fn with_layer(alloc: Global, layers: &[Layer], layer: Layer) -> Result<Arc<Vec<Layer>>, Layer>
-    ensures layers { IfOk result (λ a. (arc_value a).items ≡ layers.now ++ layer ∷ []) }
-    ensures back { IfErr result (λ l. l ≡ layer) }
+/// The same layers and these cells and functions behind them, behind a pointer of their own, without a copy of any.
+fn with_live(alloc: Global, layers: &[Layer], live: &Live) -> Result<Arc<Vec<Layer>>, OutOfMemory>
+    ensures { IfOk result (λ a. all_of (arc_value a).items ≡ beside (all_of layers.now) live.now) }
 {
-    let Ok(mut all) = own_layers(alloc, layers) else {
-        return Err(layer);
-    };
-    let Some(own) = Arc::get_mut(&mut all) else {
-        return Err(layer);
-    };
-    match own.push(layer) {
-        Ok(()) => Ok(all),
-        Err(refused) => Err(refused.value),
+    let mut all = all_shared(alloc, layers)?;
+    let (lent, own) = live.shared()?.into_layers();
+    push_layer(&mut all, lent)?;
+    push_layer(&mut all, own)?;
+    Ok(Arc::new(alloc, all)?)
+}
+
+/// Adds a layer, unless there is nothing in it.
+fn push_layer(layers: &mut Vec<Layer>, layer: Layer) -> Result<(), OutOfMemory>
+    ensures { OnOk result (all_of layers.new.items ≡ beside (all_of layers.old.items) layer) }
+{
+    if !layer.is_empty() {
+        layers.push(layer)?;
     }
+    Ok(())
 }
 
 /// The same layers behind a pointer of their own, without a copy of a cell or function.

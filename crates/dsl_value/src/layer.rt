@@ -1,5 +1,5 @@
 // Cells and functions that several stores may share.
-ghost use Rattle.std.specs.Prelude.{◌≡◌, ◌<◌, ◌++◌, [], ◌∷◌, IfOk, OnOk, OnErr, length, slice_get, Some, map};
+ghost use Rattle.std.specs.Prelude.{◌≡◌, ◌<◌, ◌^◌, ◌++◌, true, [], ◌∷◌, IfOk, OnOk, OnErr, length, slice_get, Some, map};
 ghost use Rattle.dsl_value.specs.Changes.{changed, FitsCell};
 ghost use Rattle.dsl_value.specs.Contents.{Contained, plain, function, with_cell, cell_at, IsInOrder};
 ghost use Rattle.dsl_value.specs.Parts.{part_of};
@@ -62,9 +62,17 @@ impl Layer {
         }
     }
 
+    /// Whether there is no cell and no function.
+    pub(crate) fn is_empty(&self) -> bool
+        ensures { result ≡ true → self.now ≡ record { cells = []; functions = [] } }
+    {
+        self.len() == 0 && self.functions() == 0
+    }
+
     /// The number of cells.
     pub(crate) fn len(&self) -> usize
-        ensures { result ≡ length self.now.cells }
+        ensures len { result ≡ length self.now.cells }
+        ensures few { result < 2 ^ 63 }
     {
         match &self.part {
             Some(part) => part.cells.len(),
@@ -112,7 +120,8 @@ impl Layer {
 
     /// The number of functions.
     pub(crate) fn functions(&self) -> usize
-        ensures { result ≡ length self.now.functions }
+        ensures len { result ≡ length self.now.functions }
+        ensures few { result < 2 ^ 63 }
     {
         match &self.part {
             Some(part) => part.functions.len(),

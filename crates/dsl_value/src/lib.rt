@@ -2,7 +2,7 @@
 //!
 //! In reading order: values (`value`), pairs by rising keys (`sorted_pairs`, with `pairs` for those in a row, `pair_rows` for
 //! those in several, and `pairs_left` for walks over them), cells with what changes one (`cell`, `change`, `cells`), functions
-//! (`function`), cells and functions that stores share (`part`, `layer`, `frozen`), the store (`store`, `reading`, `writing`,
+//! (`function`), cells and functions that stores share (`part`, `layer`, `live`, `frozen`), the store (`store`, `reading`, `writing`,
 //! `set_fault`), when values are equal (`equality`, `known`), trees that are put in (`loading`), the trees of values
 //! (`walking`, with `looking`, `frame`, `frames`, `nest`, `path`, `turn` and `tree_fault`), and what trees cost (`costs`).
 //! What operators and the library make for a store stands in `making` and `acting` (with `priced` and `refusal`), and laws
@@ -22,6 +22,7 @@ mod function;
 mod known;
 mod laws;
 mod layer;
+mod live;
 mod loading;
 mod looking;
 mod making;

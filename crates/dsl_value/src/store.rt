@@ -13,7 +13,7 @@ ghost use Rattle.dsl_value.specs.Whole.{Names, NamesAll, Stands, Captures};
 ghost use Rattle.dsl_value.specs.Faults.{Concerns};
 
 use crate::frozen::Frozen;
-use crate::layer::Layer;
+use crate::live::Live;
 use crate::loading::make_tree;
 use crate::walking::walk_value;
 use crate::{Cell, Change, Function, SetFault, SortedPairs, TreeFault, Value};
@@ -33,7 +33,7 @@ use std::sync::Arc;
 pub struct Store {
     alloc: Global,
     frozen: Frozen,
-    live: Layer,
+    live: Live,
     base: u32,
 }
 
@@ -61,7 +61,7 @@ impl Store {
         Store {
             alloc,
             frozen: Frozen::new(),
-            live: Layer::new(),
+            live: Live::new(),
             base: 0,
         }
     }
@@ -71,13 +71,21 @@ impl Store {
         ensures { self.new ≡ record { cells = self.old.cells; base = length self.old.cells; functions = self.old.functions } }
     {
         self.base = (self.frozen.len() + self.live.len()) as u32;
-        let live = mem::replace(&mut self.live, Layer::new());
+        let live = mem::replace(&mut self.live, Live::new());
         if let Err(live) = self.frozen.add(self.alloc, live) {
             self.live = live;
         }
     }
 
-    /// An equal store. The two share all cells and functions. Those that came after the last freezing are copied
+    /// Lends the cells and functions that came after the last freezing to forks, unless some of those are lent already: what is added to
+    /// a fork then copies none of them. They are copied when the first of them changes.
+    pub fn lend(&mut self)
+        ensures { self.new ≡ self.old }
+    {
+        self.live.lend();
+    }
+
+    /// An equal store. The two share all cells and functions. Those that came after the last freezing and aren't lent are copied
     /// when the first of the two stores changes.
     pub fn fork(&self) -> Result<Store, OutOfMemory>
         ensures { IfOk result (λ s. s ≡ self.now) }

@@ -12,5 +12,5 @@ mod subject;
 
 pub use conditions::{Verdict, has_conditions, is_kept, judge};
 pub use loops::{Element, elements};
-pub use prepared::{Prepared, begin_expressions, prepare};
+pub use prepared::{Prepared, begin_expressions, prepare, prepare_for_many};
 pub use subject::{Subject, bind_subject, named_trees};

@@ -52,6 +52,21 @@ pub fn prepare<'a>(
     })
 }
 
+/// The same, for many forks: what is added to one of them copies none of those values.
+pub fn prepare_for_many<'a>(
+    alloc: Global,
+    store: &Store,
+    subject: Subject<'a>,
+) -> Result<Prepared<'a>, OutOfMemory>
+    requires { HasGlobals store.now }
+    ensures prepared { IfOk result (IsPrepared store.now) }
+    ensures subject { IfOk result (λ p. p.subject ≡ subject.entry) }
+{
+    let mut prepared = prepare(alloc, store, subject)?;
+    prepared.store.lend();
+    Ok(prepared)
+}
+
 /// The work on which expressions are evaluated: in a fork of the prepared store, with a whole budget, in the frame in which what was
 /// captured and the prepared names are locals. So much was read before. The locals take the memory of the spare ones.
 pub fn begin_expressions(
