@@ -77,4 +77,8 @@ pub enum DiagKind {
     BadZone,
     /// A line of a script that isn't one.
     BadScript,
+    /// A line of a query that isn't one.
+    BadQuery,
+    /// A state file that isn't one, or that the site doesn't fit.
+    BadState,
 }

@@ -43,6 +43,8 @@ kind_text kind.DependencyCycle = codes "DependencyCycle"
 kind_text kind.BadConst = codes "BadConst"
 kind_text kind.BadZone = codes "BadZone"
 kind_text kind.BadScript = codes "BadScript"
+kind_text kind.BadQuery = codes "BadQuery"
+kind_text kind.BadState = codes "BadState"
 
 -- a blank and the detail, where there is one
 abbrev pub detail_text : List ℕ → List ℕ

@@ -75,5 +75,7 @@ fn kind_name(kind: DiagKind) -> &'static str
         DiagKind::BadConst => "BadConst",
         DiagKind::BadZone => "BadZone",
         DiagKind::BadScript => "BadScript",
+        DiagKind::BadQuery => "BadQuery",
+        DiagKind::BadState => "BadState",
     }
 }
