@@ -41,7 +41,7 @@ use Rattle.site_base.specs.contracts.text.Text.{the_row as text_row}
 use Rattle.depend_graph.specs.contracts.graph.Graph.{the_row as graph_row}
 use Rattle.time_range.specs.contracts.zone.Zone.{the_row as zone_row}
 
-text_send : IsSend text_row
+pub text_send : IsSend text_row
 text_send = search (sendable, crosses, maps.crosses) depth 60 fits 20000
 
 text_sync : IsSync text_row
@@ -105,7 +105,7 @@ graph_sync = search (sendable, crosses, maps.crosses) depth 60
 zone_sync : IsSync zone_row
 zone_sync = search (sendable, crosses, maps.crosses) depth 60 fits 20000
 
-site_sync : IsSync site_row
+pub site_sync : IsSync site_row
 site_sync = declared_sync site_type (
   search (sendable, crosses, text_sync) depth 60,
   (

@@ -5,7 +5,7 @@ use Rattle.std.proofs.Crossing.{crosses}
 use Rattle.site_model.specs.PlainSite.{site_view}
 use Rattle.site_posts.specs.declared.segment.Segment.{Segment}
 use Rattle.site_text.specs.Entries.{IsPrintable}
-use Rattle.turn_deal.proofs.Crossing.{site_sync}
+use Rattle.site_posts.proofs.Crossing.{site_sync}
 use Rattle.engine_log.proofs.parts.parts_of.Goals as goal
 
 pub map_chunks-requires-sync-F : goal.map_chunks-requires-sync-F
