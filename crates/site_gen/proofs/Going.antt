@@ -6,6 +6,7 @@ use Rattle.run_text.specs.TurnReading.{turn_read}
 use Rattle.site_edge.specs.declared.turn.Turn.{Turn}
 use Rattle.site_model.specs.PlainSite.{PlainSite, site_view}
 use Rattle.site_model.specs.Sound.{HasNames}
+use Rattle.site_run.specs.Feeds.{no_lines}
 use Rattle.site_run.proofs.OnSite.{runs_alone}
 use Rattle.turn_engine.specs.Ready.{Held, IsZoneOf}
 use Rattle.turn_engine.specs.Stages.{basis_of_site, stage_of}
@@ -77,7 +78,7 @@ at_last n s k e c over names so_far =
         is_zone = so_far.zone;
         reads = map (turn_read s) (all_turns n);
         read = turns_are_read s (all_turns n) names;
-        run = subst (IsRun (basis_of_site s z) 1 (start s (no_entries s)) (map (turn_read s) (all_turns n))) (sym (logs_last n s z)) (runs_alone s z (no_entries s) (all_turns n));
+        run = subst (IsRun (basis_of_site s z) 1 (start s (no_entries s)) (map (turn_read s) (all_turns n))) (sym (logs_last n s z)) (runs_alone s z no_lines (no_entries s) (all_turns n));
       };
       counts = subst (λ x. c ≡ counts_of (logs_before n s z x)) seven so_far.counts;
     }

@@ -7,7 +7,7 @@ use Rattle.site_model.specs.declared.decision.Decision.{Decision}
 use Rattle.site_model.specs.declared.entry.Entry.{Entry}
 use Rattle.site_model.specs.declared.outcome.Outcome.{Outcome}
 use Rattle.site_model.specs.declared.outcome.Outcome.TheVariants as outcome
-use Rattle.site_run.specs.Logs.{AreLogs}
+use Rattle.site_run.specs.Logs.{AreLogs, nothing_given}
 use Rattle.site_gen.specs.Turns.{all_turns}
 use Rattle.site_gen.specs.declared.counts.Counts.{Counts}
 
@@ -39,5 +39,5 @@ counts_of ls =
 -- they are those of a run of all turns over so many hosts, with one caller
 pub record AreCounts (n : ℕ) (s : PlainSite) (c : Counts) : Type 0 where
   pub logs : List TurnLog
-  pub are : AreLogs 1 s (all_turns n) logs
+  pub are : AreLogs 1 s (nothing_given s) (all_turns n) logs
   pub counts : c ≡ counts_of logs

@@ -17,7 +17,6 @@ use Rattle.turn_engine.specs.Orders.{command_of}
 use Rattle.turn_engine.specs.Stages.{Running, Tells, basis_of_site, stage_of}
 use Rattle.turn_engine.specs.declared.turn_out.TurnOut.{TurnOut}
 use Rattle.turn_engine.specs.Stages.{TellsTurn}
-use Rattle.site_run.specs.Courses.{course_alone, course_of}
 use Rattle.site_run.specs.Feeds.{Changing, Giving, basis_fed, feed_after, feed_of, lines_fed}
 
 -- What a feed gives for the last of some turns.
@@ -91,13 +90,7 @@ takes_alone (Err e) b st t l next tells is after = tt
 
 -- A feed that gives nothing.
 
-none_fed : {F : Type 0} (after : Changing F) (first : F) (begun : List Begun) → lines_fed (λ _ _ _. []) after first begun ≡ []
+pub none_fed : {F : Type 0} (after : Changing F) (first : F) (begun : List Begun) → lines_fed (λ _ _ _. []) after first begun ≡ []
 none_fed after first [] = refl
 none_fed after first (b ∷ []) = refl
 none_fed after first (b ∷ c ∷ bs) = none_fed after (after first b.histories b.moment) (c ∷ bs)
-
--- with it a run goes on as one without a feed
-pub course_is_alone : {F : Type 0} (r : Running) (begun : List Begun) (style : Style) (after : Changing F) (first : F) → course_of r begun style (λ _ _ _. []) after first ≡ course_alone r begun style
-course_is_alone r begun style after first =
-    let s = site_view r.site in
-    λ i. record { basis = basis_of s (holds_in s r.zone) (command_of s) (λ bs. lines_read s (none_fed after first bs i)); stage = stage_of r begun; style = style }

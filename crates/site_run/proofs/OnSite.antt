@@ -1,14 +1,16 @@
--- All that the turns of a run without a feed give is on checkables of the site.
+-- All that the turns of a run give is on checkables of the site.
 use Rattle.std.proofs.Common.{◌≡◌, ◌<◌, ◌≤◌, ◌+◌, ◌⊎◌, inl, inr, ℕ, zero, suc, nat_lt, max, Bool, true, false, cond, List, [], ◌∷◌, ◌++◌, All, filter, length, map, slice_get, Option, Some, None, refl, sym, ap, ◌∙◌, subst, arith}
 use Rattle.std.proofs.lemmas.Bool.{cases_lt}
 use Rattle.std.proofs.lemmas.List.Elements.{All-head, All-nil, All-push, All-tail}
+use Rattle.std.proofs.lemmas.List.{map-append}
 use Rattle.std.proofs.lemmas.Option.{slice_get_within}
+use Rattle.event_text.specs.Reading.{line_read}
 use Rattle.depend_graph.specs.Outlooks.{holds_in}
 use Rattle.jiff_tz.specs.declared.tzif.Tzif.{Tzif}
 use Rattle.run_meaning.specs.Alone.{AreOnSite, IsOnSite, all_events, one_by_one, round_of, run_alone, turn_alone}
 use Rattle.run_meaning.specs.Dealing.{Taken, dealt, dealt_to, goes_to, line_events, lines_to, still, taken_reports, ticks}
 use Rattle.run_meaning.specs.Reachability.{Outlook}
-use Rattle.run_meaning.specs.Runs.{Basis, IsRun, IsRunFrom, IsTurn, Stage, TurnLog, events_of, planned_of, refusals_of, reports_of, stage_after, stage_by, start}
+use Rattle.run_meaning.specs.Runs.{Basis, IsRun, IsRunFrom, IsTurn, Stage, TurnLog, events_of, planned_of, refusals_of, reports_of, begun_by, lines_of, stage_after, stage_by, start}
 use Rattle.run_meaning.specs.Schedule.{Due, Walk, due_from, gets_order, ordering, outlook_after, skipping, walk_from, walk_over, walk_with, watches_after}
 use Rattle.run_meaning.specs.Turns.{Asked, Command, Histories, Ordered, Outstanding, from_on, of_index}
 use Rattle.run_meaning.proofs.Counting.{AreWithin, within_still}
@@ -16,11 +18,11 @@ use Rattle.run_meaning.proofs.Lists.{get_map, get_of_map, length_from_on, length
 use Rattle.run_meaning.proofs.OneLog.{is_log}
 use Rattle.run_meaning.proofs.Parts.{get_kept}
 use Rattle.run_meaning.proofs.Shares.{one_after_another}
-use Rattle.run_text.specs.TurnReading.{lines_read, turn_read}
+use Rattle.run_text.specs.TurnReading.{as_line, lines_read, turn_read}
 use Rattle.site_edge.specs.declared.turn.Turn.{Turn}
 use Rattle.site_model.specs.PlainSite.{PlainCheck, PlainSite}
 use Rattle.turn_engine.specs.Orders.{command_of}
-use Rattle.turn_engine.specs.Stages.{basis_of_site}
+use Rattle.site_run.specs.Feeds.{Fed, basis_with}
 use Rattle.turn_engine.proofs.OnSite.{both_on_site, lines_on_site, reports_on_site, ticks_on_site}
 
 one_of : {A : Type 0} (x y : A) → Some x ≡ Some y → x ≡ y
@@ -66,44 +68,50 @@ both_within n (o ∷ os) ps p q (suc i) x at = both_within n os ps (λ j y there
 
 -- Turns.
 
-module _ (s : PlainSite) (zone : Option Tzif) where
+module _ (s : PlainSite) (zone : Option Tzif) (fed : Fed) where
   abbrev count : ℕ
   count = length s.checkables
 
-  events_on_site : (st : Stage) (t : Turn) (moment : ℕ) → AreWithin count st.plans.outstanding → AreOnSite s (all_events (basis_of_site s zone) st (turn_read s t) moment)
+  -- what its lines ask for, those that are fed and its own
+  asked_on_site : (st : Stage) (t : Turn) (moment : ℕ) → AreOnSite s (line_events (lines_of (basis_with s zone fed) st (turn_read s t) moment))
+  asked_on_site st t moment =
+      let before = fed (begun_by st moment) in
+      subst (λ ls. AreOnSite s (line_events ls)) (map-append (λ line. as_line (line_read s line)) before t.lines) (lines_on_site s (before ++ t.lines))
+
+  events_on_site : (st : Stage) (t : Turn) (moment : ℕ) → AreWithin count st.plans.outstanding → AreOnSite s (all_events (basis_with s zone fed) st (turn_read s t) moment)
   events_on_site st t moment within =
       let os = st.plans.outstanding in
       let reports = reports_of st (turn_read s t) in
-      both_on_site s (line_events (lines_read s t.lines)) (map (λ (x : Taken). x.asked) (taken_reports os reports) ++ ticks s st.histories moment) (lines_on_site s t.lines)
+      both_on_site s (line_events (lines_of (basis_with s zone fed) st (turn_read s t) moment)) (map (λ (x : Taken). x.asked) (taken_reports os reports) ++ ticks s st.histories moment) (asked_on_site st t moment)
       (both_on_site s (map (λ (x : Taken). x.asked) (taken_reports os reports)) (ticks s st.histories moment) (reports_on_site s os reports within) (ticks_on_site s st.histories moment))
 
   -- whatever round it has, what a turn orders is on checkables of the site
-  planned_within : (st : Stage) (moment : ℕ) (round : Histories) → AreOrdersWithin count (planned_of (basis_of_site s zone) st moment round).orders
+  planned_within : (st : Stage) (moment : ℕ) (round : Histories) → AreOrdersWithin count (planned_of (basis_with s zone fed) st moment round).orders
   planned_within st moment round =
       let o = outlook_after s (holds_in s zone) moment st.histories round in
       let watches = watches_after s st.plans st.histories round in
       walked (command_of s) o (due_from moment 0 watches) (walk_from st.plans watches) (All-nil (λ (x : Ordered). x.checkable < count))
 
   -- and so is what is outstanding behind it
-  within_after : (st : Stage) (t : Turn) (l : TurnLog) → AreOrdersWithin count l.orders → AreWithin count st.plans.outstanding → AreWithin count (stage_after (basis_of_site s zone) st (turn_read s t) l).plans.outstanding
+  within_after : (st : Stage) (t : Turn) (l : TurnLog) → AreOrdersWithin count l.orders → AreWithin count st.plans.outstanding → AreWithin count (stage_after (basis_with s zone fed) st (turn_read s t) l).plans.outstanding
   within_after st t l orders within =
       let reports = reports_of st (turn_read s t) in
       both_within count (still reports st.plans.outstanding) (map outstanding_of l.orders) (within_still count reports st.plans.outstanding within) (new_within count l.orders orders)
 
-  turns_on_site : (ts : List Turn) (st : Stage) → AreWithin count st.plans.outstanding → IsOnSite (basis_of_site s zone) st (map (turn_read s) ts)
+  turns_on_site : (ts : List Turn) (st : Stage) → AreWithin count st.plans.outstanding → IsOnSite (basis_with s zone fed) st (map (turn_read s) ts)
   turns_on_site [] st within = tt
   turns_on_site (t ∷ ts) st within =
       let read = turn_read s t in
-      let l = turn_alone (basis_of_site s zone) st read in (
+      let l = turn_alone (basis_with s zone fed) st read in (
         events_on_site st t (max st.moment t.moment) within,
-        turns_on_site ts (stage_after (basis_of_site s zone) st read l) (within_after st t l (planned_within st l.moment l.round) within),
+        turns_on_site ts (stage_after (basis_with s zone fed) st read l) (within_after st t l (planned_within st l.moment l.round) within),
       )
 
   -- Turns of several callers.
 
   module _ (callers : ℕ) where
     abbrev b : Basis
-    b = basis_of_site s zone
+    b = basis_with s zone fed
 
     kept_on_site : (test : Asked → Bool) (xs : List Asked) → AreOnSite s xs → AreOnSite s (filter test xs)
     kept_on_site test xs p i a at = let (j, there, is) = get_kept test xs i a at in p j a there
@@ -126,7 +134,7 @@ module _ (s : PlainSite) (zone : Option Tzif) where
         os = st.plans.outstanding
 
         lines : List Asked
-        lines = line_events (lines_read s t.lines)
+        lines = line_events (lines_of b st (turn_read s t) moment)
 
         reports : List Taken
         reports = taken_reports st.plans.outstanding (reports_of st (turn_read s t))
@@ -137,7 +145,7 @@ module _ (s : PlainSite) (zone : Option Tzif) where
         each : AreOnSite s (dealt_to callers lines reports looks k)
         each =
             both_on_site s (lines_to k lines) (map (λ (x : Taken). x.asked) (filter (λ (x : Taken). goes_to callers k x.order) reports) ++ filter (λ (a : Asked). goes_to callers k a.checkable) looks)
-            (own_lines k lines (lines_on_site s t.lines))
+            (own_lines k lines (asked_on_site st t moment))
             (both_on_site s (map (λ (x : Taken). x.asked) (filter (λ (x : Taken). goes_to callers k x.order) reports)) (filter (λ (a : Asked). goes_to callers k a.checkable) looks)
             (taken_on_site (λ (x : Taken). goes_to callers k x.order) reports (reports_on_site s st.plans.outstanding (reports_of st (turn_read s t)) within))
             (kept_on_site (λ (a : Asked). goes_to callers k a.checkable) looks (ticks_on_site s st.histories moment)))
@@ -195,5 +203,6 @@ module _ (s : PlainSite) (zone : Option Tzif) where
     more_logs given done ls run more = some_logs more (stage_by b (start s given) (map (turn_read s) done) ls) (within_by done ls (start s given) run (λ i o at. absurd cc))
 
 -- the logs that turns have one after the other are those of a run with one caller
-pub runs_alone : (s : PlainSite) (zone : Option Tzif) (given : Histories) (ts : List Turn) → IsRun (basis_of_site s zone) 1 (start s given) (map (turn_read s) ts) (run_alone (basis_of_site s zone) (start s given) (map (turn_read s) ts))
-runs_alone s zone given ts = is_log (basis_of_site s zone) (start s given) (map (turn_read s) ts) (turns_on_site s zone ts (start s given) (λ i o at. absurd cc))
+pub runs_alone : (s : PlainSite) (zone : Option Tzif) (fed : Fed) (given : Histories) (ts : List Turn)
+    → IsRun (basis_with s zone fed) 1 (start s given) (map (turn_read s) ts) (run_alone (basis_with s zone fed) (start s given) (map (turn_read s) ts))
+runs_alone s zone fed given ts = is_log (basis_with s zone fed) (start s given) (map (turn_read s) ts) (turns_on_site s zone fed ts (start s given) (λ i o at. absurd cc))

@@ -32,7 +32,7 @@ use Rattle.turn_engine.specs.Ready.{IsZoneOf}
 
 -- Rules that say the same.
 
-same_day_time : (a b : DayTime) → a.date ≡ b.date → a.time ≡ b.time → a ≡ b
+pub same_day_time : (a b : DayTime) → a.date ≡ b.date → a.time ≡ b.time → a ≡ b
 same_day_time a b d t = λ i. record {
   date = d i;
   time = t i;
@@ -86,7 +86,7 @@ counted s (x ∷ xs) (y ∷ ys) e =
     let rest = counted s xs ys others in
     λ i. cond (int_le (second i) s) (1 + rest i) 0
 
-got : (xs ys : List Transition) (d e : Transition) → map transition_text xs ≡ map transition_text ys → transition_text d ≡ transition_text e → (i : ℕ) → transition_text (get_or xs i d) ≡ transition_text (get_or ys i e)
+pub got : (xs ys : List Transition) (d e : Transition) → map transition_text xs ≡ map transition_text ys → transition_text d ≡ transition_text e → (i : ℕ) → transition_text (get_or xs i d) ≡ transition_text (get_or ys i e)
 got [] [] d e same none i = none
 got [] (y ∷ ys) d e same none i = absurd cc
 got (x ∷ xs) [] d e same none i = absurd cc
@@ -94,27 +94,27 @@ got (x ∷ xs) (y ∷ ys) d e same none zero = cc
 got (x ∷ xs) (y ∷ ys) d e same none (suc i) = let others : map transition_text xs ≡ map transition_text ys = cc in got xs ys d e others none i
 
 module _ (x y : Tzif) (same : tzif_view x ≡ tzif_view y) where
-  rows : map transition_text x.transitions.items ≡ map transition_text y.transitions.items
+  pub rows : map transition_text x.transitions.items ≡ map transition_text y.transitions.items
   rows = ap (λ t. t.transitions) same
 
   first : type_view x.first ≡ type_view y.first
   first = ap (λ t. t.first) same
 
-  no_row : transition_text (no_transition x) ≡ transition_text (no_transition y)
+  pub no_row : transition_text (no_transition x) ≡ transition_text (no_transition y)
   no_row = λ i. record { second = pos 0; before = (first i).seconds; after = first i }
 
   as_long : vec_len x.transitions ≡ vec_len y.transitions
   as_long =
       x.transitions.ok.0 ∙ sym (length-map x.transitions.items transition_text) ∙ ap length rows ∙ length-map y.transitions.items transition_text ∙ sym y.transitions.ok.0
 
-  typed : (count : ℕ) → type_view (type_after x count) ≡ type_view (type_after y count)
+  pub typed : (count : ℕ) → type_view (type_after x count) ≡ type_view (type_after y count)
   typed count = by (count == 0)
     where
       by : (b : Bool) → type_view (cond b x.first (transition_at x (count - 1)).after) ≡ type_view (cond b y.first (transition_at y (count - 1)).after)
       by true = first
       by false = ap (λ t. t.after) (got x.transitions.items y.transitions.items (no_transition x) (no_transition y) rows no_row (count - 1))
 
-  rules : (count : ℕ) → option_map tz_view (rule_after x count) ≡ option_map tz_view (rule_after y count)
+  pub rules : (count : ℕ) → option_map tz_view (rule_after x count) ≡ option_map tz_view (rule_after y count)
   rules count = by (count == vec_len x.transitions) (count == vec_len y.transitions) (ap (λ n. count == n) as_long)
     where
       by : (b c : Bool) → b ≡ c → option_map tz_view (cond b x.posix_tz None) ≡ option_map tz_view (cond c y.posix_tz None)

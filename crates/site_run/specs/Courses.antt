@@ -10,7 +10,7 @@ use Rattle.run_text.specs.declared.style.Style.{Style}
 use Rattle.site_edge.specs.declared.order.Order.{Order}
 use Rattle.site_edge.specs.declared.turn.Turn.{Turn}
 use Rattle.site_model.specs.PlainSite.{site_view}
-use Rattle.turn_engine.specs.Stages.{Running, basis_of_site, stage_of}
+use Rattle.turn_engine.specs.Stages.{Running, stage_of}
 use Rattle.site_run.specs.Feeds.{Changing, Giving, basis_fed}
 use Rattle.site_run.specs.Starts.{calls_with, started_of}
 
@@ -24,10 +24,6 @@ pub record Course : Type 0 where
 abbrev pub course_of : {F : Type 0} → Running → List Begun → Style → Giving F → Changing F → F → Course
 course_of r begun style gives after first =
     record { basis = basis_fed (site_view r.site) r.zone gives after first; stage = stage_of r begun; style = style }
-
--- that of an engine without a feed
-abbrev pub course_alone : Running → List Begun → Style → Course
-course_alone r begun style = record { basis = basis_of_site (site_view r.site) r.zone; stage = stage_of r begun; style = style }
 
 -- the text of a log
 abbrev pub text_of : Course → TurnLog → List ℕ

@@ -40,6 +40,18 @@ lines_fed gives after feed (b ∷ c ∷ bs) = lines_fed gives after (after feed 
 abbrev pub feed_of : {F : Type 0} → PlainSite → Giving F → Changing F → F → Feed
 feed_of s gives after feed begun = lines_read s (lines_fed gives after feed begun)
 
--- what a run over a site in a zone stands on whose turns are fed so
+-- the lines that stand before a turn's own, by what stood when each turn began, this one last
+abbrev pub Fed : Type 0
+Fed = List Begun → List (List ℕ)
+
+-- none stand before those of any turn
+abbrev pub no_lines : Fed
+no_lines begun = []
+
+-- what a run over a site in a zone stands on before whose turns these lines stand
+abbrev pub basis_with : PlainSite → Option Tzif → Fed → Basis
+basis_with s zone fed = basis_of s (holds_in s zone) (command_of s) (λ begun. lines_read s (fed begun))
+
+-- the same by what a feed gives
 abbrev pub basis_fed : {F : Type 0} → PlainSite → Option Tzif → Giving F → Changing F → F → Basis
 basis_fed s zone gives after feed = basis_of s (holds_in s zone) (command_of s) (feed_of s gives after feed)

@@ -3,7 +3,7 @@ use Rattle.std.specs.Prelude.{ℕ, ◌≡◌, ◌⊎◌, nat_lt, List, [], lengt
 use Rattle.std.specs.List.{concat}
 use Rattle.jiff_tz.specs.declared.tzif.Tzif.{Tzif}
 use Rattle.run_meaning.specs.Runs.{IsRun, TurnLog, no_entries, start}
-use Rattle.run_meaning.specs.Turns.{ReadTurn}
+use Rattle.run_meaning.specs.Turns.{Histories, ReadTurn}
 use Rattle.run_text.specs.LogText.{first_lines, log_text}
 use Rattle.run_text.specs.ReadTurns.{AreTurnsRead}
 use Rattle.run_text.specs.declared.style.Style.{Style}
@@ -11,21 +11,34 @@ use Rattle.site_edge.specs.Lists.{Adds, AddsPart}
 use Rattle.site_edge.specs.declared.turn.Turn.{Turn}
 use Rattle.site_model.specs.PlainSite.{PlainSite}
 use Rattle.turn_engine.specs.Ready.{IsZoneOf}
-use Rattle.turn_engine.specs.Stages.{basis_of_site}
 use Rattle.site_run.specs.Courses.{Course}
+use Rattle.site_run.specs.Feeds.{Changing, Fed, Giving, basis_with, lines_fed, no_lines}
 use Rattle.site_run.specs.Ends.{Came, Ends, IsAt, IsPartWritten, Outside}
 use Rattle.site_run.specs.declared.status.Status.{Status}
 use Rattle.site_run.specs.declared.status.Status.TheVariants as status
 
 -- What is written.
 
+-- what is given before the first turn: the entries so far, and the lines that stand before each turn's own
+pub record Given : Type 0 where
+  pub histories : Histories
+  pub fed : Fed
+
+-- neither
+abbrev pub nothing_given : PlainSite → Given
+nothing_given s = record { histories = no_entries s; fed = no_lines }
+
+-- these entries, and what a feed gives that stands so at first
+abbrev pub given_by : {F : Type 0} → Histories → Giving F → Changing F → F → Given
+given_by histories gives after first = record { histories = histories; fed = lines_fed gives after first }
+
 -- the logs of a run of these turns over a site, as they are read, with so many callers
-pub record AreLogs (callers : ℕ) (s : PlainSite) (turns : List Turn) (logs : List TurnLog) : Type 0 where
+pub record AreLogs (callers : ℕ) (s : PlainSite) (given : Given) (turns : List Turn) (logs : List TurnLog) : Type 0 where
   pub zone : Option Tzif
   pub is_zone : IsZoneOf s.zone zone
   pub reads : List ReadTurn
   pub read : AreTurnsRead s turns reads
-  pub run : IsRun (basis_of_site s zone) callers (start s (no_entries s)) reads logs
+  pub run : IsRun (basis_with s zone given.fed) callers (start s given.histories) reads logs
 
 -- what a run writes in which nothing fails, and how it ends
 pub record Whole : Type 0 where
@@ -33,17 +46,17 @@ pub record Whole : Type 0 where
   pub ends : Status
 
 -- the log of the first so many of these turns
-pub record IsLog (callers : ℕ) (style : Style) (limit : ℕ) (s : PlainSite) (turns : List Turn) (w : Whole) : Type 0 where
+pub record IsLog (callers : ℕ) (style : Style) (limit : ℕ) (s : PlainSite) (given : Given) (turns : List Turn) (w : Whole) : Type 0 where
   pub logs : List TurnLog
-  pub are : AreLogs callers s (take limit turns) logs
+  pub are : AreLogs callers s given (take limit turns) logs
   pub text : w.text ≡ log_text style s logs
   pub ends : w.ends ≡ (if nat_lt limit (length turns) then status.TurnsSpent else status.Done)
 
 -- that of the world's turns: of those that are told, and else of some
-pub record AnswersWorld (callers : ℕ) (style : Style) (limit : ℕ) (turns : Option (List Turn)) (s : PlainSite) (w : Whole) : Type 0 where
+pub record AnswersWorld (callers : ℕ) (style : Style) (limit : ℕ) (given : Given) (turns : Option (List Turn)) (s : PlainSite) (w : Whole) : Type 0 where
   pub came : List Turn
   pub told : Came turns came
-  pub log : IsLog callers style limit s came w
+  pub log : IsLog callers style limit s given came w
 
 -- what was written, by the status: all of it where the run ends so where nothing fails, and a prefix after a fault
 abbrev pub EndsWhole : Status → Whole → Option (List ℕ) → Option (List ℕ) → Type 0
@@ -68,28 +81,24 @@ EndsRun s Is old new = EndsOne s Is old new
 
 -- How far it came.
 
--- nowhere: there was no memory for the engine
-pub record IsNowhere (s : Status) (old new : Outside) : Type 0 where
-  pub cause : s ≡ status.OutOfMemory
-  pub same : new ≡ old
-
 -- into what stands before the first turn
 pub record IsAtFirst (s : Status) (style : Style) (old new : Outside) : Type 0 where
   pub cause : (s ≡ status.WriteFault) ⊎ (s ≡ status.OutOfMemory)
   pub at : IsPartWritten [] [] (concat (first_lines style)) [] [] old new
 
 -- the run over a site from its start
-abbrev pub course_from_start : PlainSite → Option Tzif → Style → Course
-course_from_start s zone style = record { basis = basis_of_site s zone; stage = start s (no_entries s); style = style }
+abbrev pub course_from_start : PlainSite → Option Tzif → Given → Style → Course
+course_from_start s zone given style = record { basis = basis_with s zone given.fed; stage = start s given.histories; style = style }
 
 -- behind that, which is handed on, over turns
-pub record IsOverTurns (s : Status) (callers : ℕ) (style : Style) (limit : ℕ) (site : PlainSite) (old new : Outside) : Type 0 where
+pub record IsOverTurns (s : Status) (callers : ℕ) (style : Style) (limit : ℕ) (site : PlainSite) (given : Given) (old new : Outside) : Type 0 where
   pub zone : Option Tzif
   pub is_zone : IsZoneOf site.zone zone
   pub begun : Outside
   pub first : IsAt [] (concat (first_lines style)) [] [] old begun
   pub through : begun.kept_back ≡ 0
-  pub ends : Ends s callers (course_from_start site zone style) limit (λ _ _. Unit {0}) begun new
+  pub ends : Ends s callers (course_from_start site zone given style) limit (λ _ _. Unit {0}) begun new
 
-abbrev pub Went : Status → ℕ → Style → ℕ → PlainSite → Outside → Outside → Type 0
-Went s callers style limit site old new = IsNowhere s old new ⊎ (IsAtFirst s style old new ⊎ IsOverTurns s callers style limit site old new)
+abbrev pub Went : Status → ℕ → Style → ℕ → PlainSite → Given → Outside → Outside → Type 0
+Went s callers style limit site given old new =
+    IsAtFirst s style old new ⊎ IsOverTurns s callers style limit site given old new

@@ -1,52 +1,58 @@
 // The log of a world's turns over a site.
-ghost use Rattle.std.specs.Prelude.{◌≡◌, ◌≢◌, ◌<◌, ◌≤◌, ◌-◌, ◌^◌, length, All, Err, OnOk, OnErr, IsErrOf, MatchOption};
+ghost use Rattle.std.specs.Prelude.{◌≡◌, ◌≢◌, ◌≤◌, ◌+◌, ◌^◌, [], false, Err, OnOk, OnErr, IsErrOf};
 ghost use Rattle.std.specs.List.{concat};
-ghost use Rattle.depend_graph.specs.Cycles.{IsOnCycle};
+ghost use Rattle.run_meaning.specs.Runs.{start};
+ghost use Rattle.run_meaning.specs.Turns.{Histories};
 ghost use Rattle.run_text.specs.LogText.{first_lines};
 ghost use Rattle.site_edge.specs.Lists.{Adds, AddsPart};
 ghost use Rattle.site_edge.specs.Told.{Rose};
 ghost use Rattle.site_model.specs.PlainSite.{site_view};
 ghost use Rattle.site_model.specs.Sound.{IsSound};
-ghost use Rattle.time_range.specs.Zone.{IsBadFile};
+ghost use Rattle.turn_engine.specs.Ready.{IsZoneOf};
+ghost use Rattle.turn_engine.specs.Stages.{stage_of};
 ghost use Rattle.site_run.specs.Callers.{AreCallers};
 ghost use Rattle.site_run.specs.Ends.{HandsOn, outside};
-ghost use Rattle.site_run.specs.Logs.{AnswersWorld, EndsRun, Went};
+ghost use Rattle.site_run.specs.Logs.{AnswersWorld, EndsRun, Went, given_by};
 
 use crate::driving::drive_part;
-use crate::feed::NoFeed;
+use crate::feed::Feed;
 use crate::status::Status;
 use crate::workers::Workers;
 use log_text::version_line;
 use run_text::Style;
 use site_edge::{Sink, SinkFault, World};
-use site_model::Site;
 use std::alloc::Global;
 use turn_engine::Engine;
 
-/// Writes the log of the world's turns over a site, whose events these workers take, and lets the world start the checks that they
-/// order. The site is one that an engine can be made of, the workers are 1 to 64, and the limit is at most 2^40. What was kept back before
-/// is handed on first.
+/// Writes the log of the world's turns by an engine before its first turn, whose events these workers take, and lets the world start the
+/// checks that they order. The lines of the feed stand before a turn's own. What was kept back before is handed on first.
+///
+/// The engine isn't spent, its turns and the limit are together at most 2^40, its site is sound, and the feed is made for it. The workers are
+/// 1 to 64.
 ///
 /// It ends as [`crate::drive_part`] does over these turns, of which it takes no more than the limit; with `WriteFault` or
 /// `OutOfMemory` it may have come to no turn.
-pub fn write_log<W: World, S: Sink, C: Workers>(
+pub fn write_log<W: World, S: Sink, F: Feed, C: Workers>(
     alloc: Global,
     workers: &C,
     style: Style,
-    site: Site,
+    engine: &mut Engine,
+    feed: &mut F,
     world: &mut W,
     out: &mut S,
     limit: u64,
 ) -> Status
     requires callers { AreCallers (C.callers workers.now) }
     requires apt { C.apt workers.now }
-    requires sound { IsSound (site_view site) }
-    requires few { length (site_view site).checkables < 2 ^ 32 - 1 }
-    requires free { All (λ d. IsOnCycle (site_view site) d → ⊥) (site_view site).depends }
-    requires zone { MatchOption (site_view site).zone (Unit {0}) (λ bytes. IsBadFile bytes → ⊥) }
-    requires limit { limit ≤ 2 ^ 40 }
-    ensures went { Went result (C.callers workers.now) style limit (site_view site) (outside (W.turns world.old) (W.started world.old) (W.calls world.old) (S.written out.old) (S.kept_back out.old)) (outside (W.turns world.new) (W.started world.new) (W.calls world.new) (S.written out.new) (S.kept_back out.new)) }
-    ensures written { EndsRun result (AnswersWorld (C.callers workers.now) style limit (W.turns world.old) (site_view site)) (S.written out.old) (S.written out.new) }
+    requires fresh { engine.old.spent ≡ false }
+    requires few { engine.old.run.turns + limit ≤ 2 ^ 40 }
+    requires sound { IsSound (site_view engine.old.run.site) }
+    requires zone { IsZoneOf (site_view engine.old.run.site).zone engine.old.run.zone }
+    requires made { F.made_for feed.old (site_view engine.old.run.site) }
+    ensures went { (histories : Histories) → stage_of engine.old.run [] ≡ start (site_view engine.old.run.site) histories →
+        Went result (C.callers workers.now) style limit (site_view engine.old.run.site) (given_by histories F.gives F.after feed.old) (outside (W.turns world.old) (W.started world.old) (W.calls world.old) (S.written out.old) (S.kept_back out.old)) (outside (W.turns world.new) (W.started world.new) (W.calls world.new) (S.written out.new) (S.kept_back out.new)) }
+    ensures written { (histories : Histories) → stage_of engine.old.run [] ≡ start (site_view engine.old.run.site) histories →
+        EndsRun result (AnswersWorld (C.callers workers.now) style limit (given_by histories F.gives F.after feed.old) (W.turns world.old) (site_view engine.old.run.site)) (S.written out.old) (S.written out.new) }
     ensures through { HandsOn result (S.kept_back out.new) }
     ensures never_usage { result ≢ Status.Usage }
     ensures no_read_fault { result ≢ Status.ReadFault }
@@ -56,23 +62,8 @@ pub fn write_log<W: World, S: Sink, C: Workers>(
     ensures calm_sink { S.calm out.old → result ≢ Status.WriteFault }
     ensures calm_world { W.calm world.old → result ≢ Status.WorldFault }
 {
-    let Ok(mut engine) = Engine::new(alloc, site) else {
-        return Status::OutOfMemory;
-    };
     match begin_log(style, out) {
-        Ok(()) => {
-            let mut feed = NoFeed::new(alloc);
-            drive_part(
-                alloc,
-                &mut engine,
-                world,
-                out,
-                &mut feed,
-                workers,
-                style,
-                limit,
-            )
-        }
+        Ok(()) => drive_part(alloc, engine, world, out, feed, workers, style, limit),
         Err(SinkFault::Failed) => Status::WriteFault,
         Err(SinkFault::OutOfMemory) => Status::OutOfMemory,
     }

@@ -1,7 +1,7 @@
 // The checkables of a site before any entry.
 ghost use Rattle.std.specs.Prelude.{◌<◌, ◌^◌, IfOk, length};
 ghost use Rattle.site_model.specs.PlainSite.{site_view};
-ghost use Rattle.notify_rules.specs.Sent.{TellOnce};
+ghost use Rattle.site_model.specs.Sound.{IsSound};
 ghost use Rattle.turn_engine.specs.Checkables.{AreEmpty};
 
 use checkable_core::Checkable;
@@ -10,10 +10,13 @@ use site_base::OutOfMemory;
 use site_model::Site;
 use std::alloc::Global;
 
-/// The checkables of a site, one each by index, without entries.
-pub(crate) fn books_of(alloc: Global, site: &Site) -> Result<Vec<Checkable>, OutOfMemory>
-    requires once { TellOnce (site_view site.now) }
-    requires notifies { length site.now.notifies < 2 ^ 32 }
+/// The checkables of a site, which is sound, one each by index, without entries.
+///
+/// # Errors
+///
+/// `OutOfMemory` where there is none for them.
+pub fn books_of(alloc: Global, site: &Site) -> Result<Vec<Checkable>, OutOfMemory>
+    requires sound { IsSound (site_view site.now) }
     requires few { length site.now.checkables < 2 ^ 32 }
     ensures { IfOk result (λ books. AreEmpty (site_view site.now) books.items) }
 {

@@ -233,8 +233,13 @@ impl Engine {
     }
 }
 
-/// The zone of a site; UTC where it has none.
-fn zone_of(alloc: Global, site: &Site) -> Result<Zone, OutOfMemory>
+/// The zone of a site; UTC where it has none. Its file, if it has one, is one that the reader of `jiff` takes.
+///
+/// # Errors
+///
+/// `OutOfMemory` where there is none for the table of its file.
+pub fn zone_of(alloc: Global, site: &Site) -> Result<Zone, OutOfMemory>
+    requires { MatchOption (site_view site.now).zone (Unit {0}) (λ bytes. IsBadFile bytes → ⊥) }
     ensures { IfOk result (IsZoneOf (site_view site.now).zone) }
 {
     let Some(bytes) = &site.zone else {

@@ -16,7 +16,8 @@ mod turn_out;
 mod turns;
 mod works;
 
-pub use engine::Engine;
+pub use books::books_of;
+pub use engine::{Engine, zone_of};
 pub use moments::later_of;
 pub use order_out::OrderOut;
 pub use turn_out::TurnOut;
