@@ -1,0 +1,11 @@
+pub mod PlaceLaws
+pub mod NewlineLaws
+pub mod ShapeLaws
+pub mod ReadBack
+pub mod LineLaws
+pub mod StateLaws
+pub mod SaveLaws
+pub mod GivenLaws
+pub mod SlotLaws
+pub mod FillLaws
+pub mod WriteLaws
