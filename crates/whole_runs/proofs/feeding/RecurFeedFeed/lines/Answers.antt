@@ -4,7 +4,7 @@ use Rattle.std.specs.Result.{OnOk}
 use Rattle.down_recur.specs.Contents.{Contents, after}
 use Rattle.site_model.specs.PlainSite.{site_view}
 use Rattle.site_posts.specs.Books.{histories_of}
-use Rattle.recur_feed.proofs.feeding.RecurFeedFeed.lines.Goals as goal
+use Rattle.whole_runs.proofs.feeding.RecurFeedFeed.lines.Goals as goal
 
 on_ok : {T E : Type 0} (r : Result T E) (X Y : Type 0) → (X → Y) → OnOk r X → OnOk r Y
 on_ok (Ok x) X Y f h = f h

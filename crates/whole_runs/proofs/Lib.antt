@@ -1,0 +1,5 @@
+pub mod Ending
+pub mod Zones
+pub mod Recurring
+pub mod Given
+pub mod Queried
