@@ -1,0 +1,8 @@
+pub mod Cutting
+pub mod LineLaws
+pub mod WordLoops
+pub mod Ordering
+pub mod Pairing
+pub mod AgreeLaws
+pub mod HearLaws
+pub mod Naming

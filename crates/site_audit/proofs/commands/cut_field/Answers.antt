@@ -1,0 +1,6 @@
+use Rattle.std.proofs.Common.{lit<}
+use Rattle.event_text.proofs.CutLaws.{byte_split}
+use Rattle.site_audit.proofs.commands.cut_field.Goals as goal
+
+pub returns : goal.returns
+returns c = byte_split 59 c.args.text.now c.split_once.result (c.split_once.ensures.byte (lit< tt) (λ w o h. h))

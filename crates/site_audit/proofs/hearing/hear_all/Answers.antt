@@ -1,0 +1,9 @@
+use Rattle.std.proofs.Common.{map, sym, ◌∙◌}
+use Rattle.site_model.specs.PlainSite.{check_view}
+use Rattle.site_audit.proofs.HearLaws.{more_heard}
+use Rattle.site_audit.proofs.hearing.hear_all.Goals as goal
+
+pub loop-entry-preserved : goal.loop-entry-preserved
+loop-entry-preserved c =
+    more_heard (map (λ x. x.name) (map check_view c.args.checks.now)) c.loop-entry.orders.items c.in-Some.entry _ _ c.loop-entry.all _ c.in-Some.ensures.steps.0 c.loop-entry.invariant c.in-Some-2.more c.hear.new.orders.items
+    (sym c.in-Some-2.is ∙ c.in_ok-more.ensures.heard) c.in_ok-more.ensures.orders

@@ -1,0 +1,10 @@
+use Rattle.std.proofs.Common.{◌≡◌, map}
+use Rattle.std.specs.Vec.Iter.{into_iter_items}
+use Rattle.site_model.specs.PlainSite.{check_view}
+use Rattle.site_audit.specs.Hearing.{entries_heard}
+use Rattle.site_audit.proofs.hearing.hear_all.Given as goal
+
+-- what the rest tells behind what is heard is what all tell
+abbrev pub invariant-loop-entry : goal.invariant-loop-entry
+invariant-loop-entry l =
+    entries_heard (map (λ c. c.name) (map check_view l.checks)) l.orders.items (into_iter_items l.entry-iterator) l.all ≡ entries_heard (map (λ c. c.name) (map check_view l.fn.checks)) l.fn.orders.items l.fn.entries.items l.fn.heard

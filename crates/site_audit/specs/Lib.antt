@@ -1,0 +1,10 @@
+pub mod Blocks
+pub mod LineReading
+pub mod LogLines
+pub mod BlockReading
+pub mod Commands
+pub mod Telling
+pub mod Order
+pub mod Pairs
+pub mod Hearing
+pub mod Agreeing
