@@ -1,0 +1,4 @@
+pub mod Slots
+pub mod Keeping
+pub mod Waiting
+pub mod Zipped
