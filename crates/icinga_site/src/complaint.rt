@@ -6,10 +6,11 @@ use std::alloc::Global;
 
 /// Words that may stand behind the first words of a command line. If one that the program takes begins with these, one of these
 /// ends it.
-const ENDS: [&[&str]; 5] = [
+const ENDS: [&[&str]; 6] = [
     &[],
     &["1"],
     &["1", "1"],
+    &["1", "1", "1"],
     &["daemon", "1"],
     &["1", "daemon", "1"],
 ];

@@ -26,24 +26,6 @@ ended status.WorldFault Is old new h = h
 ended status.OutOfMemory Is old new h = inr h
 ended status.TurnsSpent Is old new h = h
 
-one_as : (end : Status) (P Q : Whole → Type 0) (old new : Option (List ℕ)) → ((w : Whole) → P w → Q w) → EndsOne end P old new → EndsOne end Q old new
-one_as end P Q old new f h = (h.0, f h.0 h.1, h.2)
-
-either_as : (P Q : Whole → Type 0) (old new : Option (List ℕ)) → ((w : Whole) → P w → Q w) → (new ≡ old) ⊎ EndsOne status.OutOfMemory P old new → (new ≡ old) ⊎ EndsOne status.OutOfMemory Q old new
-either_as P Q old new f (inl h) = inl h
-either_as P Q old new f (inr h) = inr (one_as status.OutOfMemory P Q old new f h)
-
--- what is one of these is one of those
-pub ended_as : (end : Status) (P Q : Whole → Type 0) (old new : Option (List ℕ)) → ((w : Whole) → P w → Q w) → EndsRun end P old new → EndsRun end Q old new
-ended_as status.Done P Q old new f h = one_as status.Done P Q old new f h
-ended_as status.Diagnosed P Q old new f h = one_as status.Diagnosed P Q old new f h
-ended_as status.Usage P Q old new f h = one_as status.Usage P Q old new f h
-ended_as status.ReadFault P Q old new f h = h
-ended_as status.WriteFault P Q old new f h = one_as status.WriteFault P Q old new f h
-ended_as status.WorldFault P Q old new f h = one_as status.WorldFault P Q old new f h
-ended_as status.OutOfMemory P Q old new f h = either_as P Q old new f h
-ended_as status.TurnsSpent P Q old new f h = one_as status.TurnsSpent P Q old new f h
-
 -- files that can't be read leave nothing written
 pub unread : (fault : LoadFault) (end : Status) (Is : Whole → Type 0) (old : Option (List ℕ)) → end ≡ status_by fault → EndsRun end Is old old
 unread load.Failed end Is old e = subst (λ s. EndsRun s Is old old) (sym e) refl

@@ -1,5 +1,5 @@
 // The objects of a configuration.
-ghost use Rattle.std.specs.Prelude.{◌≡◌, ◌≢◌, IfSome};
+ghost use Rattle.std.specs.Prelude.{◌≡◌, ◌≢◌, false, IfSome};
 ghost use Rattle.site_edge.specs.Told.{Rose};
 ghost use Rattle.site_program.specs.Runs.{status_by};
 ghost use Rattle.site_run.specs.Ends.{HandsOn};
@@ -27,7 +27,7 @@ pub fn count_objects<F: Files, S: Sink, N: Remarks>(
 ) -> Status
     ensures never_usage { result ≢ Status.Usage }
     ensures written { EndsRun result (λ w. IfSome (F.told files.old) (λ all. AnswersShown all shown_as.Count root.now w)) (S.written out.old) (S.written out.new) }
-    ensures remarked { RemarkedOf result root.now (F.told files.old) (N.remarked remarks.old) (N.remarked remarks.new) }
+    ensures remarked { RemarkedOf result false root.now (F.told files.old) (N.remarked remarks.old) (N.remarked remarks.new) }
     ensures through { HandsOn result (S.kept_back out.new) }
     ensures told { F.told files.new ≡ F.told files.old }
     ensures read_fault { result ≡ Status.ReadFault → Rose (F.faults files.old) (F.faults files.new) }
@@ -36,7 +36,7 @@ pub fn count_objects<F: Files, S: Sink, N: Remarks>(
     ensures calm_sink { S.calm out.old → result ≢ Status.WriteFault }
     ensures no_world_fault { result ≢ Status.WorldFault }
 {
-    match answer_remarked(alloc, files, root, remarks) {
+    match answer_remarked(alloc, false, files, root, remarks) {
         Ok(answer) => write_made(reply_to_config(alloc, answer, Shown::Count), out),
         Err(fault) => status_of(fault),
     }

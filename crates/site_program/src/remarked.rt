@@ -16,10 +16,11 @@ use site_phases::Answer;
 use site_replies::{Remarks, remarks_of, tell_all};
 use std::alloc::Global;
 
-/// The same as `config_answer` (site_load), once it is told what is remarked of the site, where there is one, and how many of its checks may
-/// be outstanding.
+/// The same as `config_answer` (site_load), once it is told what is remarked of the site, where there is one, whose downtimes recur or don't, and
+/// how many of its checks may be outstanding.
 pub(crate) fn answer_remarked<F: Files, N: Remarks>(
     alloc: Global,
+    recur: bool,
     files: &mut F,
     root: &str,
     remarks: &mut N,
@@ -29,7 +30,7 @@ pub(crate) fn answer_remarked<F: Files, N: Remarks>(
     ensures files { (all : Told) → F.told files.old ≡ Some all → IfOk result (FilesStay (names_of (load_outcome all root.now))) }
     ensures ready { IfOk result (λ a. IfSite a IsReady) }
     ensures remarked { (all : Told) → F.told files.old ≡ Some all
-        → IfOk result (λ a. N.remarked remarks.new ≡ with_remarks (N.remarked remarks.old) (remarks_for (answer_view a) (idle_by (rules_of (load_outcome all root.now)) (answer_view a)))) }
+        → IfOk result (λ a. N.remarked remarks.new ≡ with_remarks (N.remarked remarks.old) (remarks_for recur (answer_view a) (idle_by (rules_of (load_outcome all root.now)) (answer_view a)))) }
     ensures same { F.told files.new ≡ F.told files.old }
     ensures cause { IsErrOf result LoadFault.Failed → Rose (F.faults files.old) (F.faults files.new) }
     ensures counts { F.faults files.old ≤ F.faults files.new }
@@ -37,7 +38,7 @@ pub(crate) fn answer_remarked<F: Files, N: Remarks>(
     ensures unfailing { F.calm files.old → result ≢ Err LoadFault.Failed }
 {
     let Made { answer, idle } = config_made(alloc, files, root)?;
-    let list = remarks_of(alloc, &answer, idle.as_slice())?;
+    let list = remarks_of(alloc, recur, &answer, idle.as_slice())?;
     tell_all(&list, remarks)?;
     if let Answer::Site(site) = &answer {
         remarks.limit(site.max_orders);

@@ -11,6 +11,7 @@ ghost use Rattle.site_program.specs.TaskAnswers.{Answers, AskForMany, Came, Rema
 use crate::config::{count_objects, list_objects};
 use crate::daemon::watch;
 use crate::generate::generate;
+use crate::query::answer_query;
 use crate::replay::replay;
 use site_base::Text;
 use site_edge::{Files, Sink, World};
@@ -104,12 +105,39 @@ pub(crate) fn run_task<F: Files, W: World, S: Sink, N: Remarks, C: Workers>(
         Task::Objects { root } => list_objects(alloc, root, files, out),
         Task::Replay {
             style,
+            recur,
             root,
             script,
-        } => replay(alloc, workers, style, root, script, files, out),
-        Task::Daemon { style, root } => {
-            watch(alloc, workers, style, root, files, world, out, remarks)
-        }
+        } => replay(alloc, workers, style, recur, root, None, script, files, out),
+        Task::Daemon {
+            style,
+            recur,
+            root,
+            state,
+        } => watch(
+            alloc, workers, style, recur, root, state, files, world, out, remarks,
+        ),
         Task::Generate { hosts } => generate(alloc, hosts, out),
+        Task::Query {
+            root,
+            script,
+            query,
+        } => answer_query(alloc, workers, root, script, query, files, out),
+        Task::Resume {
+            style,
+            root,
+            state,
+            script,
+        } => replay(
+            alloc,
+            workers,
+            style,
+            false,
+            root,
+            Some(state),
+            script,
+            files,
+            out,
+        ),
     }
 }

@@ -1,5 +1,5 @@
 -- What is remarked of a site that can be run.
-use Rattle.std.specs.Prelude.{ℕ, Bool, not, ◌&&◌, ◌||◌, List, [], ◌∷◌, ◌++◌, map, length, get_or, nat_eq, Option, Some, None, is_some, if◌then◌else◌}
+use Rattle.std.specs.Prelude.{ℕ, Bool, true, false, not, ◌&&◌, ◌||◌, List, [], ◌∷◌, ◌++◌, map, length, get_or, nat_eq, Option, Some, None, is_some, if◌then◌else◌}
 use Rattle.std.specs.List.{filter, flat_map}
 use Rattle.std.specs.Str.{bytes_eq}
 use Rattle.site_base.specs.declared.place.Place.{Place}
@@ -53,8 +53,14 @@ is_listed_of t o = not o.builtin && is_of t o
 abbrev pub of_some : ℕ → Remark → List Remark
 of_some n r = if nat_eq n 0 then [] else r ∷ []
 
+-- what the program never does
 abbrev pub lacks : List Lack
-lacks = lack.Environment ∷ lack.Timeout ∷ lack.CheckTimeout ∷ lack.CommandEndpoint ∷ lack.EventCommand ∷ lack.NotificationCommand ∷ lack.ScheduledDowntime ∷ []
+lacks = lack.Environment ∷ lack.Timeout ∷ lack.CheckTimeout ∷ lack.CommandEndpoint ∷ lack.EventCommand ∷ lack.NotificationCommand ∷ []
+
+-- and what it does where downtimes recur
+abbrev pub without_recur : Bool → List Lack
+without_recur true = []
+without_recur false = lack.ScheduledDowntime ∷ []
 
 abbrev pub lack_remarked : List PlainObject → Lack → List Remark
 lack_remarked os l = let n = length (filter (is_asking l) os) in of_some n (remark.Lack l n)
@@ -62,8 +68,8 @@ lack_remarked os l = let n = length (filter (is_asking l) os) in of_some n (rema
 abbrev pub lacks_remarked : List Lack → List PlainObject → List Remark
 lacks_remarked ls os = flat_map (lack_remarked os) ls
 
-abbrev pub lack_remarks : List PlainObject → List Remark
-lack_remarks os = lacks_remarked lacks os
+abbrev pub lack_remarks : Bool → List PlainObject → List Remark
+lack_remarks recur os = lacks_remarked lacks os ++ lacks_remarked (without_recur recur) os
 
 -- without a zone all days are those of UTC
 abbrev pub zone_remarks_of : Option (List ℕ) → ℕ → List Remark
@@ -77,13 +83,13 @@ zone_remarks s = zone_remarks_of s.zone (length (filter (is_listed_of object.Tim
 abbrev pub idle_remark : List (List ℕ) → Place → Remark
 idle_remark files p = remark.IdleRule (get_or files p.file []) p.line p.col
 
--- what is remarked of a site of which the rules at these places make no object
-abbrev pub remarks_in : PlainSite → List Place → List Remark
-remarks_in s idle = lack_remarks s.objects ++ (zone_remarks s ++ map (idle_remark s.files) idle)
+-- what is remarked of a site whose downtimes recur or don't, of which the rules at these places make no object
+abbrev pub remarks_in : Bool → PlainSite → List Place → List Remark
+remarks_in recur s idle = lack_remarks recur s.objects ++ (zone_remarks s ++ map (idle_remark s.files) idle)
 
-abbrev pub remarks_of : Committed PlainSite → List Place → List Remark
-remarks_of (site s) idle = remarks_in s idle
-remarks_of (refused list) idle = []
+abbrev pub remarks_of : Bool → Committed PlainSite → List Place → List Remark
+remarks_of recur (site s) idle = remarks_in recur s idle
+remarks_of recur (refused list) idle = []
 
 -- Telling.
 

@@ -5,7 +5,7 @@ use Rattle.std.specs.List.{filter}
 use Rattle.site_base.specs.Quoted.{quoted}
 use Rattle.site_base.specs.declared.diag.Diag.{Diag}
 use Rattle.site_base.specs.declared.diag_kind.DiagKind.{DiagKind}
-use Rattle.site_base.specs.declared.diag_kind.DiagKind.TheVariants.{NoFile, BadScript}
+use Rattle.site_base.specs.declared.diag_kind.DiagKind.TheVariants.{NoFile, BadScript, BadQuery, BadState}
 use Rattle.site_model.specs.PlainSite.{PlainObject, PlainSite}
 use Rattle.site_text.specs.Diags.{diag_text, diag_line, kind_text}
 use Rattle.site_text.specs.Listing.{listing_line}
@@ -33,13 +33,21 @@ diagnoses files list = record { lines = map (diag_line files) list; diagnosed = 
 abbrev pub fault_at : List ℕ → ℕ → DiagKind → List ℕ → PlainReply
 fault_at name line kind detail = record { lines = diag_text name line 1 (kind_text kind) detail ∷ []; diagnosed = true }
 
--- a script that isn't there
-abbrev pub no_script : List ℕ → PlainReply
-no_script name = fault_at name 1 NoFile (quoted name)
+-- a file that isn't there
+abbrev pub no_file : List ℕ → PlainReply
+no_file name = fault_at name 1 NoFile (quoted name)
 
 -- a script whose first line that is none is this one
 abbrev pub bad_script : List ℕ → ℕ → PlainReply
 bad_script name line = fault_at name line BadScript []
+
+-- the same of a query
+abbrev pub bad_query : List ℕ → ℕ → PlainReply
+bad_query name line = fault_at name line BadQuery []
+
+-- a state file that is none, or that the site doesn't fit
+abbrev pub bad_state : List ℕ → PlainReply
+bad_state name = fault_at name 1 BadState []
 
 -- Objects.
 

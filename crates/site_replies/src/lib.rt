@@ -9,5 +9,8 @@ mod replies;
 mod telling;
 
 pub use remarks::{Lack, Remark, remarks_of};
-pub use replies::{Reply, Shown, bad_script, count_listed, diagnoses, no_script, reply_to_config};
+pub use replies::{
+    Reply, Shown, bad_query, bad_script, bad_state, count_listed, diagnoses, no_file,
+    reply_to_config,
+};
 pub use telling::{Remarks, tell_all};

@@ -32,20 +32,22 @@ pub enum Lack {
     EventCommand,
     /// A `NotificationCommand`.
     NotificationCommand,
-    /// A `ScheduledDowntime`.
+    /// A `ScheduledDowntime`, where downtimes don't recur.
     ScheduledDowntime,
 }
 
-/// All of them, in the order in which they are remarked.
-const LACKS: [Lack; 7] = [
+/// What it never does, in the order in which it is remarked.
+const LACKS: [Lack; 6] = [
     Lack::Environment,
     Lack::Timeout,
     Lack::CheckTimeout,
     Lack::CommandEndpoint,
     Lack::EventCommand,
     Lack::NotificationCommand,
-    Lack::ScheduledDowntime,
 ];
+
+/// What it does where downtimes recur.
+const WITHOUT_RECUR: [Lack; 1] = [Lack::ScheduledDowntime];
 
 /// What is remarked of a site.
 #[derive(Drop)]
@@ -60,36 +62,46 @@ pub enum Remark {
 
 /// What is remarked of what a configuration comes to, whose apply rules at these places make no object; nothing where there is no site.
 ///
-/// For each lack of the program how many objects ask for it, where some do; how many time periods there are, where there are some and no
+/// For each lack of the program how many objects ask for it, where some do, with `ScheduledDowntime` only where downtimes don't recur; how many time periods there are, where there are some and no
 /// zone; and each of those rules. Objects of the built-in library aren't counted.
 pub fn remarks_of(
     alloc: Global,
+    recur: bool,
     answer: &Answer,
     idle: &[Place],
 ) -> Result<Vec<Remark>, OutOfMemory>
-    ensures { IfOk result (λ remarks. remarks.items ≡ remarks_for (answer_view answer.now) idle.now) }
+    ensures { IfOk result (λ remarks. remarks.items ≡ remarks_for recur (answer_view answer.now) idle.now) }
 {
     match answer {
-        Answer::Site(site) => site_remarks(alloc, site, idle),
+        Answer::Site(site) => site_remarks(alloc, recur, site, idle),
         Answer::Diags { .. } => Ok(Vec::new(alloc)),
     }
 }
 
-fn site_remarks(alloc: Global, site: &Site, idle: &[Place]) -> Result<Vec<Remark>, OutOfMemory>
-    ensures { IfOk result (λ remarks. remarks.items ≡ remarks_in (site_view site.now) idle.now) }
+fn site_remarks(
+    alloc: Global,
+    recur: bool,
+    site: &Site,
+    idle: &[Place],
+) -> Result<Vec<Remark>, OutOfMemory>
+    ensures { IfOk result (λ remarks. remarks.items ≡ remarks_in recur (site_view site.now) idle.now) }
 {
     let mut remarks = Vec::new(alloc);
-    push_lacks(&mut remarks, site.objects.as_slice())?;
+    push_lacks(&mut remarks, recur, site.objects.as_slice())?;
     push_zone(&mut remarks, site)?;
     push_idle(alloc, &mut remarks, site.files.as_slice(), idle)?;
     Ok(remarks)
 }
 
 /// Adds each lack that some object asks for.
-fn push_lacks(remarks: &mut Vec<Remark>, objects: &[Object]) -> Result<(), OutOfMemory>
-    ensures { OnOk result (remarks.new.items ≡ remarks.old.items ++ lack_remarks (map object_view objects.now)) }
+fn push_lacks(remarks: &mut Vec<Remark>, recur: bool, objects: &[Object]) -> Result<(), OutOfMemory>
+    ensures { OnOk result (remarks.new.items ≡ remarks.old.items ++ lack_remarks recur (map object_view objects.now)) }
 {
-    push_those(remarks, &LACKS, objects)
+    push_those(remarks, &LACKS, objects)?;
+    if recur {
+        return Ok(());
+    }
+    push_those(remarks, &WITHOUT_RECUR, objects)
 }
 
 /// Adds each of these lacks that some object asks for.
@@ -261,6 +273,6 @@ fn words_of(lack: Lack) -> &'static str {
         Lack::NotificationCommand => {
             "NotificationCommand objects are never run: the log alone tells who is notified"
         }
-        Lack::ScheduledDowntime => "ScheduledDowntime objects do nothing",
+        Lack::ScheduledDowntime => "ScheduledDowntime objects do nothing without --recur",
     }
 }

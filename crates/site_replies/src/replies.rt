@@ -4,7 +4,7 @@ ghost use Rattle.site_model.specs.PlainSite.{object_view};
 ghost use Rattle.site_conf.specs.Sound.{AreIn};
 ghost use Rattle.site_phases.specs.Phases.{answer_view};
 ghost use Rattle.site_text.specs.Diags.{diag_line};
-ghost use Rattle.site_replies.specs.Replies.{reply_view, bad_script as bad_script_of, config_reply, count as count_of, count_line as line_of_count, diagnoses as diagnoses_of, fault_at as fault_of, files_in, listed, listing as listing_of, no_script as no_script_of, plain_line, shown_as};
+ghost use Rattle.site_replies.specs.Replies.{reply_view, bad_query as bad_query_of, bad_state as bad_state_of, bad_script as bad_script_of, config_reply, count as count_of, count_line as line_of_count, diagnoses as diagnoses_of, fault_at as fault_of, files_in, listed, listing as listing_of, no_file as no_file_of, plain_line, shown_as};
 
 use site_base::{Diag, DiagKind, ItemNo, OutOfMemory, Place, Row, TargetNo, Text, Texts, quote};
 use site_model::Object;
@@ -148,9 +148,9 @@ fn push_diags(
     Ok(())
 }
 
-/// The diagnostic of a script that isn't there.
-pub fn no_script(alloc: Global, name: &str) -> Result<Reply, OutOfMemory>
-    ensures { IfOk result (λ r. reply_view r ≡ no_script_of name.now) }
+/// The diagnostic of a named file that isn't there.
+pub fn no_file(alloc: Global, name: &str) -> Result<Reply, OutOfMemory>
+    ensures { IfOk result (λ r. reply_view r ≡ no_file_of name.now) }
 {
     fault_at(alloc, name, 1, DiagKind::NoFile, quote(alloc, name)?)
 }
@@ -160,6 +160,20 @@ pub fn bad_script(alloc: Global, name: &str, line: u32) -> Result<Reply, OutOfMe
     ensures { IfOk result (λ r. reply_view r ≡ bad_script_of name.now line) }
 {
     fault_at(alloc, name, line, DiagKind::BadScript, Text::new(alloc))
+}
+
+/// The diagnostic of a query of which this line is none.
+pub fn bad_query(alloc: Global, name: &str, line: u32) -> Result<Reply, OutOfMemory>
+    ensures { IfOk result (λ r. reply_view r ≡ bad_query_of name.now line) }
+{
+    fault_at(alloc, name, line, DiagKind::BadQuery, Text::new(alloc))
+}
+
+/// The diagnostic of a state file that is none, or that the site doesn't fit.
+pub fn bad_state(alloc: Global, name: &str) -> Result<Reply, OutOfMemory>
+    ensures { IfOk result (λ r. reply_view r ≡ bad_state_of name.now) }
+{
+    fault_at(alloc, name, 1, DiagKind::BadState, Text::new(alloc))
 }
 
 /// One fault of a file, at the head of a line.

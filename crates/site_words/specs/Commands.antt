@@ -1,5 +1,6 @@
 -- What a command line asks for, with its options.
-use Rattle.std.specs.Prelude.{ℕ, ◌≤◌, ◌&&◌, ◌||◌, nat_le, Bool, List, [], ◌∷◌, take, drop, Option, Some, None, IfSome, if◌then◌else◌, option_map, unwrap_or, codes}
+use Rattle.std.specs.Prelude.{ℕ, ◌≤◌, ◌&&◌, ◌||◌, ◌+◌, nat_le, Bool, true, false, List, [], ◌∷◌, length, take, drop, Option, Some, None, IfSome, if◌then◌else◌, option_map, unwrap_or, codes}
+use Rattle.std.specs.List.{position}
 use Rattle.std.specs.Option.{option_and_then}
 use Rattle.std.specs.Str.{bytes_eq}
 use Rattle.run_text.specs.declared.style.Style.{Style}
@@ -18,10 +19,14 @@ pub record Command : Type 0 where
 abbrev pub command_view : declared.Command → Command
 command_view c = record { task = task_view c.task; workers = c.workers }
 
--- Options: `--log V` and `--workers K`, each once.
+-- Options: `--log V`, `--workers K` and `--recur`, each once.
+
+-- that downtimes are to recur, which has no value behind it
+abbrev pub is_recur : List ℕ → Bool
+is_recur w = bytes_eq w (codes "--recur")
 
 abbrev pub is_option : List ℕ → Bool
-is_option w = bytes_eq w (codes "--log") || bytes_eq w (codes "--workers")
+is_option w = bytes_eq w (codes "--log") || (bytes_eq w (codes "--workers") || is_recur w)
 
 -- a version of the log: 1 or 2
 abbrev pub version_in : List ℕ → Option Style
@@ -55,39 +60,52 @@ with_option os o v =
     else if bytes_eq o (codes "--workers") then option_map (λ x. record os { workers = Some x }) (once os.workers (workers_in v))
     else None
 
+-- with downtimes that recur
+abbrev pub with_recur : Options → Option Options
+with_recur os = if os.recur then None else Some (record os { recur = true })
+
 -- how many workers there are, if that is told
 abbrev pub AreFew : Options → Type 0
 AreFew os = IfSome os.workers AreWorkers
 
 abbrev pub no_options : Options
-no_options = record { style = None; workers = None }
+no_options = record { style = None; workers = None; recur = false }
 
 -- Command lines: options, a command's own words, and options.
 
 -- a command's own words, with all options
 abbrev pub command_by : Options → List (List ℕ) → Option Command
-command_by os own = option_map (λ t. record { task = t; workers = unwrap_or os.workers 1 }) (task_of os.style own)
+command_by os own = option_map (λ t. record { task = t; workers = unwrap_or os.workers 1 }) (task_of os.style os.recur own)
 
 -- with options to the end behind them
 abbrev pub command_behind : List (List ℕ) → Options → List (List ℕ) → Option Command
 command_behind own os [] = command_by os own
-command_behind own os (o ∷ []) = None
-command_behind own os (o ∷ v ∷ ws) = option_and_then (λ more. command_behind own more ws) (with_option os o v)
+command_behind own os (o ∷ []) = if is_recur o then option_and_then (λ more. command_by more own) (with_recur os) else None
+command_behind own os (o ∷ v ∷ ws) =
+    if is_recur o then option_and_then (λ more. command_behind own more (v ∷ ws)) (with_recur os)
+    else option_and_then (λ more. command_behind own more ws) (with_option os o v)
 
--- they are two, or three where the third is no option
-abbrev pub own_many : List ℕ → ℕ
-own_many third = if is_option third then 2 else 3
+-- the place of the first option
+abbrev pub first_option : List (List ℕ) → Option ℕ
+first_option ws = position is_option ws
+
+-- a command's own words are the first two, and those behind them up to an option
+abbrev pub own_many : List (List ℕ) → ℕ
+own_many [] = 0
+own_many (w ∷ []) = 1
+own_many (w ∷ x ∷ ws) = 2 + unwrap_or (first_option ws) (length ws)
 
 abbrev pub command_own : Options → List (List ℕ) → Option Command
-command_own os (w ∷ x ∷ []) = command_by os (w ∷ x ∷ [])
-command_own os (w ∷ x ∷ y ∷ ws) = command_behind (take (own_many y) (w ∷ x ∷ y ∷ ws)) os (drop (own_many y) (w ∷ x ∷ y ∷ ws))
-command_own os ws = None
+command_own os ws = command_behind (take (own_many ws) ws) os (drop (own_many ws) ws)
 
 -- with options before them
 abbrev pub command_from : Options → List (List ℕ) → Option Command
 command_from os [] = None
 command_from os (w ∷ []) = None
-command_from os (o ∷ v ∷ ws) = if is_option o then option_and_then (λ more. command_from more ws) (with_option os o v) else command_own os (o ∷ v ∷ ws)
+command_from os (o ∷ v ∷ ws) =
+    if is_recur o then option_and_then (λ more. command_from more (v ∷ ws)) (with_recur os)
+    else if is_option o then option_and_then (λ more. command_from more ws) (with_option os o v)
+    else command_own os (o ∷ v ∷ ws)
 
 abbrev pub command_of : List (List ℕ) → Option Command
 command_of ws = command_from no_options ws

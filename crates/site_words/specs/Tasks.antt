@@ -1,31 +1,37 @@
 -- What the program is asked to do.
-use Rattle.std.specs.Prelude.{ℕ, ◌==◌, ◌&&◌, nat_le, not, Bool, false, List, [], ◌∷◌, Option, Some, None, if◌then◌else◌, option_map, codes}
+use Rattle.std.specs.Prelude.{ℕ, ◌==◌, ◌&&◌, nat_le, not, Bool, true, false, List, [], ◌∷◌, Option, Some, None, if◌then◌else◌, option_map, codes}
 use Rattle.std.specs.Str.{bytes_eq}
 use Rattle.run_text.specs.declared.style.Style.{Style}
 use Rattle.run_text.specs.declared.style.Style.TheVariants as style
 use Rattle.site_text.specs.ScriptReading.{Read, bad, got}
 use Rattle.site_text.specs.Wholes.{whole_at}
 use Rattle.site_words.specs.declared.words.Task as declared
-use Rattle.site_words.specs.declared.words.Task.TheVariants.{Check, Daemon, Generate, Objects, Replay}
+use Rattle.site_words.specs.declared.words.Task.TheVariants.{Check, Daemon, Generate, Objects, Query, Replay, Resume}
 
 -- what words ask for, by the names of files or the number of hosts
 pub data Task : Type 0 where
   -- of a root
   check : List ℕ → Task
   objects : List ℕ → Task
-  -- in a version of the log, of a root and a script
-  replay : Style → List ℕ → List ℕ → Task
-  -- in a version of the log, of a root
-  daemon : Style → List ℕ → Task
+  -- in a version of the log, with downtimes that recur or don't, of a root and a script
+  replay : Style → Bool → List ℕ → List ℕ → Task
+  -- the same of a root, and of a state file, if one is named
+  daemon : Style → Bool → List ℕ → Option (List ℕ) → Task
   -- of a generated site of so many hosts
   generate : ℕ → Task
+  -- of a root, a script and a query
+  query : List ℕ → List ℕ → List ℕ → Task
+  -- in a version of the log, of a root, a state file and a script
+  resume : Style → List ℕ → List ℕ → List ℕ → Task
 
 abbrev pub task_view : declared.Task → Task
 task_view (Check root) = check root.now
 task_view (Objects root) = objects root.now
-task_view (Replay style root script) = replay style root.now script.now
-task_view (Daemon style root) = daemon style root.now
+task_view (Replay style recur root script) = replay style recur root.now script.now
+task_view (Daemon style recur root state) = daemon style recur root.now (option_map (λ name. name.now) state)
 task_view (Generate hosts) = generate hosts
+task_view (Query root script asked) = query root.now script.now asked.now
+task_view (Resume style root state script) = resume style root.now state.now script.now
 
 -- a file's name: it isn't empty and doesn't begin with `-`
 abbrev pub is_file_word : List ℕ → Bool
@@ -40,13 +46,26 @@ plain_task w x =
     else None
 
 -- `replay ROOT SCRIPT`
-abbrev pub replay_task : Style → List ℕ → List ℕ → List ℕ → Option Task
-replay_task version w root script =
-    if bytes_eq w (codes "replay") && (is_file_word root && is_file_word script) then Some (replay version root script) else None
+abbrev pub replay_task : Style → Bool → List ℕ → List ℕ → List ℕ → Option Task
+replay_task version recur w root script =
+    if bytes_eq w (codes "replay") && (is_file_word root && is_file_word script) then Some (replay version recur root script) else None
 
 -- `daemon ROOT`
-abbrev pub daemon_task : Style → List ℕ → List ℕ → Option Task
-daemon_task version w root = if bytes_eq w (codes "daemon") && is_file_word root then Some (daemon version root) else None
+abbrev pub daemon_task : Style → Bool → List ℕ → List ℕ → Option Task
+daemon_task version recur w root =
+    if bytes_eq w (codes "daemon") && is_file_word root then Some (daemon version recur root None) else None
+
+-- `daemon ROOT STATE`
+abbrev pub daemon_on : Style → Bool → List ℕ → List ℕ → Option Task
+daemon_on version recur root state =
+    if is_file_word root && is_file_word state then Some (daemon version recur root (Some state)) else None
+
+-- `query ROOT SCRIPT QUERY`
+abbrev pub query_task : List ℕ → List ℕ → List ℕ → List ℕ → Option Task
+query_task w root script asked =
+    if bytes_eq w (codes "query") && (is_file_word root && (is_file_word script && is_file_word asked))
+    then Some (query root script asked)
+    else None
 
 -- a number of hosts: from 1 to 10,000, and nothing stands behind its digits
 abbrev pub few_hosts : Read ℕ → Option ℕ
@@ -61,25 +80,42 @@ hosts_in w = few_hosts (whole_at w)
 abbrev pub generate_task : List ℕ → Option Task
 generate_task w = option_map generate (hosts_in w)
 
--- words that ask for a log in this version
-abbrev pub logged_task : Style → List (List ℕ) → Option Task
-logged_task version (w ∷ root ∷ []) = daemon_task version w root
-logged_task version (w ∷ root ∷ script ∷ []) = replay_task version w root script
-logged_task version ws = None
+-- `resume ROOT STATE SCRIPT`
+abbrev pub resume_task : Style → List ℕ → List ℕ → List ℕ → List ℕ → Option Task
+resume_task version w root state script =
+    if bytes_eq w (codes "resume") && (is_file_word root && (is_file_word state && is_file_word script))
+    then Some (resume version root state script)
+    else None
+
+abbrev pub three_words : Style → Bool → List ℕ → List ℕ → List ℕ → Option Task
+three_words version recur w x y =
+    if bytes_eq w (codes "daemon") then daemon_on version recur x y else replay_task version recur w x y
+
+abbrev pub four_words : List ℕ → List ℕ → List ℕ → List ℕ → Option Task
+four_words w x y z = if bytes_eq w (codes "resume") then resume_task style.One w x y z else query_task w x y z
+
+-- words that ask for a log in this version, with downtimes that recur or don't
+abbrev pub logged_task : Style → Bool → List (List ℕ) → Option Task
+logged_task version recur (w ∷ root ∷ []) = daemon_task version recur w root
+logged_task version recur (w ∷ x ∷ y ∷ []) = three_words version recur w x y
+logged_task version recur (w ∷ x ∷ y ∷ z ∷ []) = if recur then None else resume_task version w x y z
+logged_task version recur ws = None
 
 abbrev pub two_words : List ℕ → List ℕ → Option Task
 two_words w x =
-    if bytes_eq w (codes "daemon") then daemon_task style.One w x
+    if bytes_eq w (codes "daemon") then daemon_task style.One false w x
     else if bytes_eq w (codes "gen") then generate_task x
     else plain_task w x
 
--- words that ask for no version of the log
+-- words that ask for no version of the log, and for no downtimes that recur
 abbrev pub plain_words : List (List ℕ) → Option Task
 plain_words (w ∷ x ∷ []) = two_words w x
-plain_words (w ∷ x ∷ y ∷ []) = replay_task style.One w x y
+plain_words (w ∷ x ∷ y ∷ []) = three_words style.One false w x y
+plain_words (w ∷ x ∷ y ∷ z ∷ []) = four_words w x y z
 plain_words ws = None
 
--- what a command's own words ask for, by the version that is asked for
-abbrev pub task_of : Option Style → List (List ℕ) → Option Task
-task_of None ws = plain_words ws
-task_of (Some version) ws = logged_task version ws
+-- what a command's own words ask for, by the version that is asked for, and whether downtimes are to recur
+abbrev pub task_of : Option Style → Bool → List (List ℕ) → Option Task
+task_of None false ws = plain_words ws
+task_of None true ws = logged_task style.One true ws
+task_of (Some version) recur ws = logged_task version recur ws

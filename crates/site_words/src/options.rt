@@ -1,6 +1,6 @@
 // The options of a command line.
 ghost use Rattle.std.specs.Prelude.{◌≡◌, Some, IfSome, option_map};
-ghost use Rattle.site_words.specs.Commands.{AreFew, AreWorkers, is_option as is_option_word, no_options, once, version_in, with_option, workers_in};
+ghost use Rattle.site_words.specs.Commands.{AreFew, AreWorkers, is_option as is_option_word, is_recur as is_recur_word, no_options, once, version_in, with_option, with_recur as recurring, workers_in};
 
 use run_text::Style;
 use site_base::Text;
@@ -16,6 +16,8 @@ pub(crate) struct Options {
     pub(crate) style: Option<Style>,
     /// How many workers there are.
     pub(crate) workers: Option<u32>,
+    /// Whether downtimes are to recur.
+    pub(crate) recur: bool,
 }
 
 impl Options {
@@ -25,10 +27,11 @@ impl Options {
         Options {
             style: None,
             workers: None,
+            recur: false,
         }
     }
 
-    /// With one option more; `None` where it isn't one, its value is none of its values, or it was given before.
+    /// With one option more that has a value; `None` where it isn't one, its value is none of its values, or it was given before.
     pub(crate) fn with(self, option: &Text, value: &Text) -> Option<Options>
         ensures value { result ≡ with_option self option.now value.now }
         ensures few { AreFew self → IfSome result AreFew }
@@ -40,6 +43,21 @@ impl Options {
         }
     }
 
+    /// With downtimes that recur; `None` where that was asked for before.
+    pub(crate) fn with_recur(self) -> Option<Options>
+        ensures value { result ≡ recurring self }
+        ensures few { AreFew self → IfSome result AreFew }
+    {
+        if self.recur {
+            return None;
+        }
+        Some(Options {
+            style: self.style,
+            workers: self.workers,
+            recur: true,
+        })
+    }
+
     fn with_style(self, value: &Text) -> Option<Options>
         ensures value { result ≡ option_map (λ x. record self { style = Some x }) (once self.style (version_in value.now)) }
         ensures few { AreFew self → IfSome result AreFew }
@@ -48,6 +66,7 @@ impl Options {
             (None, Some(style)) => Some(Options {
                 style: Some(style),
                 workers: self.workers,
+                recur: self.recur,
             }),
             _ => None,
         }
@@ -61,6 +80,7 @@ impl Options {
             (None, Some(workers)) => Some(Options {
                 style: self.style,
                 workers: Some(workers),
+                recur: self.recur,
             }),
             _ => None,
         }
@@ -70,7 +90,14 @@ impl Options {
 pub(crate) fn is_option(word: &Text) -> bool
     ensures { result ≡ is_option_word word.now }
 {
-    word.as_str() == "--log" || word.as_str() == "--workers"
+    word.as_str() == "--log" || word.as_str() == "--workers" || is_recur(word)
+}
+
+/// Whether a word is the option that has no value.
+pub(crate) fn is_recur(word: &Text) -> bool
+    ensures { result ≡ is_recur_word word.now }
+{
+    word.as_str() == "--recur"
 }
 
 /// The version of the log that a word tells.

@@ -1,6 +1,6 @@
 // What a command's own words ask for.
 ghost use Rattle.std.specs.Prelude.{◌≡◌, ◌&&◌, option_map};
-ghost use Rattle.site_words.specs.Tasks.{daemon_task as task_of_daemon, generate_task as task_of_generate, hosts_in, is_file_word as names_file, logged_task as task_logged, plain_task as task_plain, plain_words as words_plain, replay_task as task_of_replay, task_of as task_in, task_view, two_words as task_of_two};
+ghost use Rattle.site_words.specs.Tasks.{daemon_on as daemon_with, daemon_task as task_of_daemon, four_words as task_of_four, generate_task as task_of_generate, hosts_in, is_file_word as names_file, logged_task as task_logged, plain_task as task_plain, plain_words as words_plain, query_task as task_of_query, replay_task as task_of_replay, resume_task as task_of_resume, task_of as task_in, task_view, three_words as task_of_three, two_words as task_of_two};
 
 use run_text::Style;
 use site_base::Text;
@@ -20,52 +20,72 @@ pub enum Task<'a> {
     Objects {
         root: &'a str,
     },
-    /// `replay ROOT SCRIPT`: the log of the script's turns over the site that they make, in a version.
+    /// `replay ROOT SCRIPT`: the log of the script's turns over the site that they make, in a version, with downtimes that recur or don't.
     Replay {
         style: Style,
+        recur: bool,
         root: &'a str,
         script: &'a str,
     },
-    /// `daemon ROOT`: the log of the world's turns over the site that they make, in a version.
+    /// `daemon ROOT` or `daemon ROOT STATE`: the same of the world's turns, behind the entries of a state file, if one is named.
     Daemon {
         style: Style,
+        recur: bool,
         root: &'a str,
+        state: Option<&'a str>,
     },
     /// `gen N`: what is counted of the run of a generated site of so many hosts.
     Generate {
         hosts: u32,
     },
+    /// `query ROOT SCRIPT QUERY`: what the query is answered once the script's turns are over.
+    Query {
+        root: &'a str,
+        script: &'a str,
+        query: &'a str,
+    },
+    /// `resume ROOT STATE SCRIPT`: the log of the script's turns behind the entries of a state file, in a version.
+    Resume {
+        style: Style,
+        root: &'a str,
+        state: &'a str,
+        script: &'a str,
+    },
 }
 
-/// What a command's own words ask for, by the version of the log that is asked for, if one is; `None` for all words that ask for nothing
-/// that the program does. Of a log only `replay` and `daemon` can be asked.
-pub(crate) fn task_of(style: Option<Style>, words: &[Text]) -> Option<Task<'_>>
-    ensures { option_map task_view result ≡ task_in style words.now }
+/// What a command's own words ask for, by the version of the log that is asked for, if one is, and whether downtimes are to recur; `None` for all
+/// words that ask for nothing that the program does. A version can be asked of `replay`, `daemon` and `resume` alone, and downtimes that recur of the
+/// first two.
+pub(crate) fn task_of(style: Option<Style>, recur: bool, words: &[Text]) -> Option<Task<'_>>
+    ensures { option_map task_view result ≡ task_in style recur words.now }
 {
-    match style {
-        None => plain_words(words),
-        Some(style) => logged_task(style, words),
+    match (style, recur) {
+        (None, false) => plain_words(words),
+        (None, true) => logged_task(Style::One, true, words),
+        (Some(style), recur) => logged_task(style, recur, words),
     }
 }
 
-/// What words ask for that ask for no version of the log.
+/// What words ask for that ask for no version of the log, and for no downtimes that recur.
 fn plain_words(words: &[Text]) -> Option<Task<'_>>
     ensures { option_map task_view result ≡ words_plain words.now }
 {
     match words {
         [word, named] => two_words(word, named),
-        [word, root, script] => replay_task(Style::One, word, root, script),
+        [word, root, other] => three_words(Style::One, false, word, root, other),
+        [word, root, other, last] => four_words(word, root, other, last),
         _ => None,
     }
 }
 
-/// What words ask for that ask for a log in this version.
-fn logged_task(style: Style, words: &[Text]) -> Option<Task<'_>>
-    ensures { option_map task_view result ≡ task_logged style words.now }
+/// What words ask for that ask for a log in this version, with downtimes that recur or don't.
+fn logged_task(style: Style, recur: bool, words: &[Text]) -> Option<Task<'_>>
+    ensures { option_map task_view result ≡ task_logged style recur words.now }
 {
     match words {
-        [word, root] => daemon_task(style, word, root),
-        [word, root, script] => replay_task(style, word, root, script),
+        [word, root] => daemon_task(style, recur, word, root),
+        [word, root, other] => three_words(style, recur, word, root, other),
+        [word, root, state, script] if !recur => resume_task(style, word, root, state, script),
         _ => None,
     }
 }
@@ -74,7 +94,7 @@ fn two_words<'a>(word: &'a Text, named: &'a Text) -> Option<Task<'a>>
     ensures { option_map task_view result ≡ task_of_two word.now named.now }
 {
     match word.as_str() {
-        "daemon" => daemon_task(Style::One, word, named),
+        "daemon" => daemon_task(Style::One, false, word, named),
         "gen" => generate_task(named),
         _ => plain_task(word, named),
     }
@@ -109,29 +129,127 @@ fn plain_task<'a>(word: &'a Text, named: &'a Text) -> Option<Task<'a>>
     }
 }
 
-fn daemon_task<'a>(style: Style, word: &'a Text, root: &'a Text) -> Option<Task<'a>>
-    ensures { option_map task_view result ≡ task_of_daemon style word.now root.now }
+fn daemon_task<'a>(style: Style, recur: bool, word: &'a Text, root: &'a Text) -> Option<Task<'a>>
+    ensures { option_map task_view result ≡ task_of_daemon style recur word.now root.now }
 {
     if word.as_str() == "daemon" && is_file_word(root) {
-        let root = root.as_str();
-        Some(Task::Daemon { style, root })
+        Some(Task::Daemon {
+            style,
+            recur,
+            root: root.as_str(),
+            state: None,
+        })
     } else {
         None
     }
 }
 
+fn daemon_on<'a>(style: Style, recur: bool, root: &'a Text, state: &'a Text) -> Option<Task<'a>>
+    ensures { option_map task_view result ≡ daemon_with style recur root.now state.now }
+{
+    if is_file_word(root) && is_file_word(state) {
+        Some(Task::Daemon {
+            style,
+            recur,
+            root: root.as_str(),
+            state: Some(state.as_str()),
+        })
+    } else {
+        None
+    }
+}
+
+fn three_words<'a>(
+    style: Style,
+    recur: bool,
+    word: &'a Text,
+    root: &'a Text,
+    other: &'a Text,
+) -> Option<Task<'a>>
+    ensures { option_map task_view result ≡ task_of_three style recur word.now root.now other.now }
+{
+    match word.as_str() {
+        "daemon" => daemon_on(style, recur, root, other),
+        _ => replay_task(style, recur, word, root, other),
+    }
+}
+
+fn four_words<'a>(
+    word: &'a Text,
+    root: &'a Text,
+    other: &'a Text,
+    last: &'a Text,
+) -> Option<Task<'a>>
+    ensures { option_map task_view result ≡ task_of_four word.now root.now other.now last.now }
+{
+    match word.as_str() {
+        "resume" => resume_task(Style::One, word, root, other, last),
+        _ => query_task(word, root, other, last),
+    }
+}
+
 fn replay_task<'a>(
     style: Style,
+    recur: bool,
     word: &'a Text,
     root: &'a Text,
     script: &'a Text,
 ) -> Option<Task<'a>>
-    ensures { option_map task_view result ≡ task_of_replay style word.now root.now script.now }
+    ensures { option_map task_view result ≡ task_of_replay style recur word.now root.now script.now }
 {
     if word.as_str() == "replay" && is_file_word(root) && is_file_word(script) {
         Some(Task::Replay {
             style,
+            recur,
             root: root.as_str(),
+            script: script.as_str(),
+        })
+    } else {
+        None
+    }
+}
+
+fn query_task<'a>(
+    word: &'a Text,
+    root: &'a Text,
+    script: &'a Text,
+    query: &'a Text,
+) -> Option<Task<'a>>
+    ensures { option_map task_view result ≡ task_of_query word.now root.now script.now query.now }
+{
+    if word.as_str() == "query"
+        && is_file_word(root)
+        && is_file_word(script)
+        && is_file_word(query)
+    {
+        Some(Task::Query {
+            root: root.as_str(),
+            script: script.as_str(),
+            query: query.as_str(),
+        })
+    } else {
+        None
+    }
+}
+
+fn resume_task<'a>(
+    style: Style,
+    word: &'a Text,
+    root: &'a Text,
+    state: &'a Text,
+    script: &'a Text,
+) -> Option<Task<'a>>
+    ensures { option_map task_view result ≡ task_of_resume style word.now root.now state.now script.now }
+{
+    if word.as_str() == "resume"
+        && is_file_word(root)
+        && is_file_word(state)
+        && is_file_word(script)
+    {
+        Some(Task::Resume {
+            style,
+            root: root.as_str(),
+            state: state.as_str(),
             script: script.as_str(),
         })
     } else {

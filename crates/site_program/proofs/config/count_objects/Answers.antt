@@ -1,4 +1,4 @@
-use Rattle.std.proofs.Common.{IfSome}
+use Rattle.std.proofs.Common.{false, IfSome}
 use Rattle.site_phases.specs.Phases.{answer_view}
 use Rattle.site_program.specs.Runs.{replied}
 use Rattle.site_program.specs.TaskAnswers.{AnswersShown}
@@ -30,8 +30,8 @@ returns-in-Err-clause-through g c = unread_through c.in-Err.fault c.status_of.re
 pub returns-in-Ok-clause-remarked : goal.returns-in-Ok-clause-remarked
 returns-in-Ok-clause-remarked g c =
     let a = c.in-Ok.answer in
-    remarked_on _ c.args.root.now (g.F.Files.told c.args.files.now) a (g.N.Remarks.remarked c.args.remarks.now) (g.N.Remarks.remarked c.answer_remarked.new.remarks)
+    remarked_on _ false c.args.root.now (g.F.Files.told c.args.files.now) a (g.N.Remarks.remarked c.args.remarks.now) (g.N.Remarks.remarked c.answer_remarked.new.remarks)
     (λ files h. c.in-Ok.ensures.remarked files h) (λ files h. λ bad decided. c.in-Ok.ensures.value files bad h decided)
 
 pub returns-in-Err-clause-remarked : goal.returns-in-Err-clause-remarked
-returns-in-Err-clause-remarked g c = unread_unremarked c.in-Err.fault c.status_of.result c.args.root.now (g.F.Files.told c.args.files.now) _ _ c.status_of.ensures
+returns-in-Err-clause-remarked g c = unread_unremarked c.in-Err.fault c.status_of.result false c.args.root.now (g.F.Files.told c.args.files.now) _ _ c.status_of.ensures

@@ -1,34 +1,34 @@
-use Rattle.std.proofs.Common.{◌≡◌, IfOk, IfSome, Option, rules, subst}
-use Rattle.site_edge.specs.Told.{find_file}
+use Rattle.std.proofs.Common.{◌≡◌, IfOk, IfSome, Option, option_map, rules, subst}
 use Rattle.site_model.specs.PlainSite.{site_view}
 use Rattle.site_program.specs.Runs.{replied}
-use Rattle.site_program.specs.TaskAnswers.{AnswersBytes, AnswersSite, Files}
+use Rattle.site_program.specs.TaskAnswers.{AnswersReplayed, AnswersSite, Files}
 use Rattle.site_replies.specs.Replies.{diagnoses, reply_view}
 use Rattle.site_program.proofs.Answering.{diags_answer, site_answers}
-use Rattle.site_program.proofs.Ending.{ended, ended_as, unread_through}
+use Rattle.whole_runs.proofs.Ending.{ended_as}
+use Rattle.site_program.proofs.Ending.{ended, unread_through}
 use Rattle.site_program.proofs.replay.replay.Goals as goal
 
 pub returns-in-Ok-Site-clause-written : goal.returns-in-Ok-Site-clause-written
 returns-in-Ok-Site-clause-written g c =
     let told = g.F.Files.told c.args.files.now in
     let a = c.in-Ok-Site in
-    let script = c.args.script.now in
-    ended_as c.replay_over.result (λ w. IfSome (g.F.Files.told c.config_answer.new.files) (λ all. AnswersBytes (g.C.Workers.callers c.args.workers.now) c.args.style script (site_view a.site) (find_file script all) w))
-    (λ w. IfSome told (λ all. AnswersSite all c.args.root.now (λ s. AnswersBytes (g.C.Workers.callers c.args.workers.now) c.args.style script s (find_file script all)) w)) (g.S.Sink.written c.args.out.now) (g.S.Sink.written c.replay_over.new.out)
-    (λ w is. site_answers (λ all s. AnswersBytes (g.C.Workers.callers c.args.workers.now) c.args.style script s (find_file script all)) c.args.root.now told a.field-0 a.site a.field-0-is (λ files h. (a.ensures.files files h, λ bad decided. a.ensures.value files bad h decided)) w
-    (subst (λ (t : Option Files). IfSome t (λ all. AnswersBytes (g.C.Workers.callers c.args.workers.now) c.args.style script (site_view a.site) (find_file script all) w)) c.config_answer.ensures.same is))
-    c.replay_over.ensures.written
+    let asked = λ (all : Files). AnswersReplayed (g.C.Workers.callers c.args.workers.now) c.args.style c.args.recur (option_map (λ name. name.now) c.args.state) c.args.script.now all in
+    ended_as c.replay_behind.result (λ w. IfSome (g.F.Files.told c.config_answer.new.files) (λ all. asked all (site_view a.site) w))
+    (λ w. IfSome told (λ all. AnswersSite all c.args.root.now (asked all) w)) (g.S.Sink.written c.args.out.now) (g.S.Sink.written c.replay_behind.new.out)
+    (λ w is. site_answers asked c.args.root.now told a.field-0 a.site a.field-0-is (λ files h. (a.ensures.files files h, λ bad decided. a.ensures.value files bad h decided)) w
+    (subst (λ (t : Option Files). IfSome t (λ all. asked all (site_view a.site) w)) c.config_answer.ensures.same is))
+    c.replay_behind.ensures.written
 
 pub returns-in-Ok-Diags-clause-written : goal.returns-in-Ok-Diags-clause-written
 returns-in-Ok-Diags-clause-written g c =
     let told = g.F.Files.told c.args.files.now in
     let a = c.in-Ok-Diags in
-    let script = c.args.script.now in
+    let asked = λ (all : Files). AnswersReplayed (g.C.Workers.callers c.args.workers.now) c.args.style c.args.recur (option_map (λ name. name.now) c.args.state) c.args.script.now all in
     let reply = diagnoses a.files a.list in
     let made : IfOk c.diagnoses.result (λ x. reply_view x ≡ reply) = search rules in
-    ended c.write_made.result (λ w. IfSome told (λ all. AnswersSite all c.args.root.now (λ s. AnswersBytes (g.C.Workers.callers c.args.workers.now) c.args.style script s (find_file script all)) w)) (g.S.Sink.written c.args.out.now) (g.S.Sink.written c.write_made.new.out) (
+    ended c.write_made.result (λ w. IfSome told (λ all. AnswersSite all c.args.root.now (asked all) w)) (g.S.Sink.written c.args.out.now) (g.S.Sink.written c.write_made.new.out) (
       replied reply,
-      diags_answer (λ all s. AnswersBytes (g.C.Workers.callers c.args.workers.now) c.args.style script s (find_file script all)) c.args.root.now told a.field-0 a.files a.list a.field-0-is (λ files h. (a.ensures.files files h, λ bad decided. a.ensures.value files bad h decided)),
+      diags_answer asked c.args.root.now told a.field-0 a.files a.list a.field-0-is (λ files h. (a.ensures.files files h, λ bad decided. a.ensures.value files bad h decided)),
       c.write_made.ensures.written reply made,
     )
 

@@ -24,3 +24,13 @@ pub returns-in-Check-clause-remarked : goal.returns-in-Check-clause-remarked
 returns-in-Check-clause-remarked g c =
     subst (λ (t : Task). Remarked c.count_objects.result t (g.F.Files.told c.args.files.now) (g.N.Remarks.remarked c.args.remarks.now) (g.N.Remarks.remarked c.count_objects.new.remarks))
     (sym (ap task_view c.in-Check.is)) c.count_objects.ensures.remarked
+
+pub returns-in-Query-clause-written : goal.returns-in-Query-clause-written
+returns-in-Query-clause-written g c =
+    subst (λ (t : Task). EndsRun c.answer_query.result (Answers (g.C.Workers.callers c.args.workers.now) t (g.F.Files.told c.args.files.now) (g.W.World.turns c.args.world.now)) (g.S.Sink.written c.args.out.now) (g.S.Sink.written c.answer_query.new.out))
+    (sym (ap task_view c.in-Query.is)) c.answer_query.ensures.written
+
+pub returns-in-Resume-clause-written : goal.returns-in-Resume-clause-written
+returns-in-Resume-clause-written g c =
+    subst (λ (t : Task). EndsRun c.replay-in-Resume.result (Answers (g.C.Workers.callers c.args.workers.now) t (g.F.Files.told c.args.files.now) (g.W.World.turns c.args.world.now)) (g.S.Sink.written c.args.out.now) (g.S.Sink.written c.replay-in-Resume.new.out))
+    (sym (ap task_view c.in-Resume.is)) c.replay-in-Resume.ensures.written

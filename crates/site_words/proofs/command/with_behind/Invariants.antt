@@ -5,7 +5,7 @@ use Rattle.site_words.proofs.command.with_behind.Given as goal
 
 abbrev pub invariant-loop-rest : goal.invariant-loop-rest
 invariant-loop-rest l = record {
-  all : command_behind l.own l.options l.rest ≡ command_behind l.own l.fn.before l.behind;
+  all : command_behind l.own l.options l.rest ≡ command_behind l.own l.fn.before l.others;
   few : AreFew l.options;
 }
 
