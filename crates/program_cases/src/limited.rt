@@ -6,10 +6,11 @@ use site_base::{OutOfMemory, Text};
 use site_edge::{Files, MemFiles, MemSink, MemWorld, Sink, World};
 use site_load::config_answer;
 use site_phases::Answer;
-use site_run::{OneWorker, Status, write_log};
+use site_run::{NoFeed, OneWorker, Status, write_log};
 use site_text::{ScriptError, read_script};
 use std::alloc::Global;
 use std::str;
+use turn_engine::Engine;
 
 /// No row takes more turns.
 const MOST: u64 = 1_000;
@@ -72,15 +73,22 @@ fn limited<F: Files, W: World, S: Sink>(
 ) -> Option<Status> {
     let limit = limit.min(MOST);
     match config_answer(alloc, files, root) {
-        Ok(Answer::Site(site)) => Some(write_log(
-            alloc,
-            &OneWorker,
-            Style::One,
-            site,
-            world,
-            sink,
-            limit,
-        )),
+        Ok(Answer::Site(site)) => {
+            let Ok(mut engine) = Engine::new(alloc, site) else {
+                return Some(Status::OutOfMemory);
+            };
+            let mut feed = NoFeed::new(alloc);
+            Some(write_log(
+                alloc,
+                &OneWorker,
+                Style::One,
+                &mut engine,
+                &mut feed,
+                world,
+                sink,
+                limit,
+            ))
+        }
         Ok(Answer::Diags { .. }) => None,
         Err(_) => None,
     }
