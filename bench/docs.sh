@@ -5,7 +5,7 @@
 #
 # A fenced block ```conf NAME writes the file NAME, and ```conf +NAME adds to it; so does ```script NAME. A block ```console has lines
 # `$ COMMAND`, each with the output that it has to give below it; a line `...` stands for any lines. The commands of one document run
-# in one folder that holds its files, examples/ and library/, with icinga_site, icinga_site-explain and icinga_site-now on the path and
+# in one folder that holds its files, examples/ and library/, with icinga_site and its tools (as icinga_site-now) on the path and
 # UTC as the time zone. Other blocks aren't run.
 #
 # Two kinds of tables are run as well. In one with a column `input` and a column `answer` each input is a file, with a `⏎` for each
@@ -115,7 +115,7 @@ def folder_for(scratch):
     os.symlink(program, f"{tools}/icinga_site")
     os.makedirs(f"{room}/bin")
     os.symlink(program, f"{room}/bin/icinga_site")
-    for name in ("explain", "now", "on-sent"):
+    for name in ("explain", "now", "on-sent", "state"):
         if os.path.exists(f"{top}/bin/{name}"):
             os.symlink(f"{top}/bin/{name}", f"{tools}/icinga_site-{name}")
             os.symlink(f"{top}/bin/{name}", f"{room}/bin/{name}")
