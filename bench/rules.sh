@@ -2,6 +2,9 @@
 # Times rules and groups on one core: twenty rules, and then twenty groups, at so many hosts with thirty values each, where none takes,
 # as the built program checks a site of them; the time of the same site without them is taken off. Wanted: 10,000 hosts below 0.3 s for
 # rules and for groups, below 1 us for each rule or group at each host, and less than 2.3 times as long for twice as many hosts.
+#
+# Then an `apply Service for` over the elements of a dictionary of one host: none is kept, then each. Wanted: 20,000 elements below 0.2 s
+# where none is kept and below 0.5 s where each is, and less than 2.3 times as long for twice as many.
 set -eu
 top=$(cd "$(dirname "$(readlink -f "${BASH_SOURCE[0]}")")/.." && pwd)
 work=$(mktemp -d)
@@ -26,7 +29,7 @@ make_site() {
 # run FILE: the seconds of a check, the least of five runs
 run() {
     for _ in 1 2 3 4 5; do
-        /usr/bin/time -f '%U %S' -o "$work/time" taskset -c 0 "$top/bin/icinga_site" check "$1" >"$work/told"
+        /usr/bin/time -f '%U %S' -o "$work/time" taskset -c 0 "$top/bin/icinga_site" check "$1" --quiet >"$work/told"
         awk '{ print $1 + $2 }' "$work/time"
     done | sort -n | head -1
 }
@@ -38,5 +41,28 @@ for word in rules groups; do
         make_site "$work/without.conf" "$count" ''
         awk -v n="$count" -v w="$word" -v s="$(run "$work/with.conf")" -v e="$(run "$work/without.conf")" \
             'BEGIN { printf "20 %s at %d hosts: %.0f ms, %.2f us each\n", w, n, (s - e) * 1e3, (s - e) * 1e6 / n / 20 }'
+    done
+done
+
+# make_elements FILE COUNT CONDITION: one host with so many elements, and a rule over them
+make_elements() {
+    awk -v count="$2" -v condition="$3" 'BEGIN {
+        print "object CheckCommand \"c\" { command = \"true\" }"
+        print "object Host \"h\" {\n  check_command = \"c\""
+        for (n = 0; n < count; n++)
+            printf "  vars.of[\"element %d\"] = { port = %d; kind = \"plain\" }\n", n, n
+        print "}"
+        if (condition != "")
+            printf "apply Service \"s\" for (name => element in host.vars.of) { check_command = \"c\"; assign where %s }\n", condition
+    }' >"$1"
+}
+
+for condition in 'element.kind == "other"' true; do
+    [ "$condition" = true ] && word=each counts='1000 2000 4000' || word=none counts='5000 10000 20000'
+    for count in $counts; do
+        make_elements "$work/with.conf" "$count" "$condition"
+        make_elements "$work/without.conf" "$count" ''
+        awk -v n="$count" -v w="$word" -v s="$(run "$work/with.conf")" -v e="$(run "$work/without.conf")" \
+            'BEGIN { printf "%d elements, %s kept: %.0f ms\n", n, w, (s - e) * 1e3 }'
     done
 done
