@@ -1,5 +1,5 @@
 -- What answers to a root.
-use Rattle.std.proofs.Common.{◌≡◌, ℕ, List, Bool, Option, Some, None, IfSome, refl, sym, ap, ◌∙◌, subst}
+use Rattle.std.proofs.Common.{◌≡◌, ℕ, List, Bool, Option, Some, None, IfSome, refl, subst}
 use Rattle.std.specs.Bool.{Decides}
 use Rattle.commit_meaning.specs.Commits as commits
 use Rattle.commit_meaning.specs.Commits.{Committed}
@@ -11,14 +11,10 @@ use Rattle.site_model.specs.declared.site.Site.{Site}
 use Rattle.site_phases.specs.Phases.{FilesStay, answer_view}
 use Rattle.site_phases.specs.declared.answer.Answer.{Answer}
 use Rattle.site_phases.specs.declared.answer.Answer.TheVariants as answer
-use Rattle.site_program.specs.Runs.{replied}
-use Rattle.site_run.specs.Logs.{AnswersWorld, IsLog, Whole}
-use Rattle.whole_runs.specs.Logs.{AnswersTurns, IsSiteLog}
-use Rattle.run_meaning.specs.Turns.{Histories}
-use Rattle.run_text.specs.declared.style.Style.{Style}
-use Rattle.site_edge.specs.Told.{ReadsFile, find_file}
-use Rattle.site_edge.specs.declared.turn.Turn.{Turn}
-use Rattle.site_program.specs.TaskAnswers.{AnswersOver, AnswersRoot, AnswersShown, AnswersSite, Files, HasNoSite, IsSiteOf, most_turns}
+use Rattle.site_answers.specs.Runs.{replied}
+use Rattle.site_run.specs.Logs.{Whole}
+use Rattle.site_answers.specs.SiteAnswers.{Files}
+use Rattle.site_program.specs.TaskAnswers.{AnswersOver, AnswersRoot, AnswersShown, AnswersSite, HasNoSite, IsSiteOf}
 use Rattle.site_replies.specs.Replies.{config_reply, diagnoses, files_in}
 use Rattle.site_replies.specs.declared.replies.Shown.{Shown}
 
@@ -81,29 +77,3 @@ by_diags Is root (Some files) names list h =
 pub diags_answer : (Is : Files → PlainSite → Whole → Type 0) (root : List ℕ) (told : Option Files) (a : Answer) (names : List (List ℕ)) (list : List Diag) → a ≡ answer.Diags names list → IsTold told root a
     → IfSome told (λ all. AnswersSite all root (Is all) (replied (diagnoses names list)))
 diags_answer Is root told a names list e h = by_diags Is root told names list (subst (IsTold told root) e h)
-
--- what holds without files holds with them
-pub always : (o : Option Files) (P : Type 0) → P → IfSome o (λ all. P)
-always None P h = tt
-always (Some files) P h = h
-
--- what was read is what is there
-pub as_found : (told : Option Files) (name : List ℕ) (found : Option (List ℕ)) (P : Option (List ℕ) → Type 0) → ReadsFile name told found → P found → IfSome told (λ all. P (find_file name all))
-as_found None name found P e p = tt
-as_found (Some files) name found P e p = subst P e p
-
--- a world of told turns gives their log
-pub log_as : (callers : ℕ) (style : Style) (recur : Bool) (s : PlainSite) (histories : Histories) (turns : List Turn) (w : Whole) → AnswersTurns callers style recur most_turns (Some turns) s histories w → IsSiteLog callers style recur most_turns s histories turns w
-log_as callers style recur s histories turns w a = (a.0, a.1, subst (λ ts. IsLog callers style most_turns s a.0 ts w) a.2.told a.2.log)
-
-pub script_log : (callers : ℕ) (style : Style) (recur : Bool) (s : PlainSite) (histories : Histories) (turns : List Turn) (told : Option (List Turn)) (w : Whole) → told ≡ Some turns → AnswersTurns callers style recur most_turns told s histories w → IsSiteLog callers style recur most_turns s histories turns w
-script_log callers style recur s histories turns told w e a = log_as callers style recur s histories turns w (subst (λ t. AnswersTurns callers style recur most_turns t s histories w) e a)
-
--- the same where more of the files is asked
-pub found_among : (told : Option Files) (name : List ℕ) (found : Option (List ℕ)) (P : Files → Option (List ℕ) → Type 0) → ReadsFile name told found → IfSome told (λ all. P all found) → IfSome told (λ all. P all (find_file name all))
-found_among None name found P e p = tt
-found_among (Some files) name found P e p = subst (P files) e p
-
-pub on_some : (o : Option Files) (P Q : Files → Type 0) → ((files : Files) → P files → Q files) → IfSome o P → IfSome o Q
-on_some None P Q f p = tt
-on_some (Some files) P Q f p = f files p

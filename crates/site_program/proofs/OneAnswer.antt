@@ -1,5 +1,5 @@
 -- With one worker one answer is right.
-use Rattle.std.proofs.Common.{◌≡◌, ℕ, ◌⊎◌, inl, inr, List, [], ◌∷◌, ◌++◌, length, map, nat_eq, cond, Bool, true, false, Option, Some, None, refl, sym, ap, ◌∙◌, subst, arith}
+use Rattle.std.proofs.Common.{◌≡◌, ℕ, ◌⊎◌, inl, inr, List, [], ◌∷◌, ◌++◌, length, map, nat_eq, cond, Bool, true, false, Option, Some, None, refl, sym, ap, ◌∙◌, subst}
 use Rattle.std.specs.Bool.{Decides}
 use Rattle.std.specs.Str.{bytes_eq}
 use Rattle.std.proofs.lemmas.Slice.Eq.{bytes_eq-Decides}
@@ -7,8 +7,6 @@ use Rattle.commit_meaning.specs.Commits as commits
 use Rattle.commit_meaning.specs.Commits.{Committed, commit, committed, first_told, unless_told, waves}
 use Rattle.commit_meaning.specs.Waves.{diags_of}
 use Rattle.commit_waves.specs.Globals.{globals_of}
-use Rattle.run_meaning.specs.Turns.{Histories}
-use Rattle.run_text.specs.declared.style.Style.{Style}
 use Rattle.site_base.specs.declared.diag.Diag.{Diag}
 use Rattle.site_edge.specs.Told.{find_file}
 use Rattle.site_edge.specs.declared.turn.Turn.{Turn}
@@ -21,29 +19,21 @@ use Rattle.site_model.specs.PlainSite.{PlainObject, PlainSite}
 use Rattle.site_model.specs.Sound.{HasNames}
 use Rattle.site_phases.specs.Constants.{PlainGlobals, settings_of}
 use Rattle.site_phases.specs.Phases.{phases, site_made}
-use Rattle.site_program.specs.Runs.{replied}
-use Rattle.site_program.specs.TaskAnswers as tasks
-use Rattle.site_program.specs.TaskAnswers.{Answers, AnswersAsked, AnswersBytes, AnswersOver, AnswersQueried, AnswersReplayed, AnswersShown, AnswersSite, AnswersRoot, AnswersWatched, Before, Files, IsCounted, OnBefore, OnQuery, OnScript, OnTurns, answered, before, files_of, most_turns, root_name}
-use Rattle.site_program.proofs.Answering.{log_as}
+use Rattle.site_answers.specs.Runs.{replied}
+use Rattle.site_answers.specs.SiteAnswers.{AnswersQueried, AnswersReplayed, AnswersWatched, Files}
+use Rattle.site_program.specs.TaskAnswers.{Answers, AnswersOver, AnswersShown, AnswersSite, IsCounted, files_of, root_name}
 use Rattle.site_replies.specs.Replies.{listed}
 use Rattle.site_replies.specs.declared.replies.Shown.{Shown}
 use Rattle.site_replies.specs.declared.replies.Shown.TheVariants as shown
-use Rattle.site_query.specs.Lines as query_lines
-use Rattle.site_query.specs.declared.query.Query.{Query}
-use Rattle.site_query.proofs.QueryLaws.{has_read as query_is}
 use Rattle.site_run.proofs.OneLog.{one_run}
 use Rattle.site_run.specs.Logs.{EndsRun, EndsWhole, Whole, nothing_given}
-use Rattle.whole_runs.specs.Logs.{AnswersTurns, IsSiteLog}
-use Rattle.whole_runs.specs.Queried.{AnswersQuery}
-use Rattle.whole_runs.proofs.Given.{one_site_log}
-use Rattle.whole_runs.proofs.Queried.{one_answer as one_query}
 use Rattle.site_run.specs.Statuses.{number_of}
 use Rattle.site_run.specs.declared.status.Status.{Status}
 use Rattle.site_run.specs.declared.status.Status.TheVariants as status
-use Rattle.site_text.specs.Scripts.{Answer, Has, bad_line, told}
-use Rattle.site_text.proofs.ScriptLaws.{has_read}
+use Rattle.site_text.specs.Scripts.{told}
 use Rattle.site_words.specs.Tasks.{Task, check, daemon, generate, objects, query, replay, resume}
 use Rattle.typed_site.proofs.SoundLaws.{has_names}
+use Rattle.site_answers.proofs.OneAnswer.{IsOne, queried_one, replayed_one, watched_one}
 
 -- What can't be otherwise is so: texts and statuses are told apart.
 
@@ -108,10 +98,6 @@ configured bad (refuses names list) s e = absurd cc
 
 -- Answers over a root.
 
--- what is asked of a site has one answer
-abbrev IsOne : (PlainSite → Whole → Type 0) → Type 0
-IsOne Is = (s : PlainSite) → HasNames s → (v w : Whole) → Is s v → Is s w → v ≡ w
-
 over_one : (Is : PlainSite → Whole → Type 0) → IsOne Is → (names : List (List ℕ)) (c : Committed PlainSite) → ((s : PlainSite) → c ≡ commits.site s → HasNames s)
     → (v w : Whole) → AnswersOver Is v names c → AnswersOver Is w names c → v ≡ w
 over_one Is one names (commits.site s) named v w p q = one s (named s refl) v w p q
@@ -125,62 +111,6 @@ site_one files root Is one v w p q =
 shown_one : (files : Files) (how : Shown) (root : List ℕ) (v w : Whole) → AnswersShown files how root v → AnswersShown files how root w → v ≡ w
 shown_one files how root v w p q =
     same_whole v w (λ no. undecided (IsBadZone (load_outcome files root)) (λ bad d. no (p bad d ∙ sym (q bad d))))
-
--- Logs.
-
-turns_one : (Is : List Turn → Whole → Type 0) (script : List ℕ) → ((turns : List Turn) (v w : Whole) → Is turns v → Is turns w → v ≡ w) → (a : Answer) (v w : Whole) → OnTurns Is script a v → OnTurns Is script a w → v ≡ w
-turns_one Is script one (told turns) v w p q = one turns v w p q
-turns_one Is script one (bad_line n) v w p q = p ∙ sym q
-
-script_one : (Is : List Turn → Whole → Type 0) (script : List ℕ) → ((turns : List Turn) (v w : Whole) → Is turns v → Is turns w → v ≡ w) → (found : Option (List ℕ)) (v w : Whole) → OnScript Is script found v → OnScript Is script found w → v ≡ w
-script_one Is script one None v w p q = p ∙ sym q
-script_one Is script one (Some bytes) v w p q =
-    let same = sym (has_read bytes q.0 q.1) ∙ has_read bytes p.0 p.1 in
-    turns_one Is script one p.0 v w p.2 (subst (λ a. OnTurns Is script a w) same q.2)
-
-bytes_one : (style : Style) (recur : Bool) (script : List ℕ) (found : Option (List ℕ)) (s : PlainSite) → HasNames s → (histories : Histories) (v w : Whole) → AnswersBytes 1 style recur script s histories found v → AnswersBytes 1 style recur script s histories found w → v ≡ w
-bytes_one style recur script found s names histories v w p q =
-    script_one (IsSiteLog 1 style recur most_turns s histories) script (λ turns x y a b. one_site_log style recur most_turns s histories turns x y names a b) found v w p q
-
-before_one : (Is : PlainSite → Histories → Whole → Type 0) → ((s : PlainSite) → HasNames s → (hs : Histories) (v w : Whole) → Is s hs v → Is s hs w → v ≡ w) → (state : Option (List ℕ)) (at : PlainSite → Before) → IsOne (λ s w. OnBefore (Is s) state (at s) w)
-before_one Is one state at s names v w p q = by (at s) p q
-  where
-    by : (b : Before) → OnBefore (Is s) state b v → OnBefore (Is s) state b w → v ≡ w
-    by (tasks.has hs) x y = one s names hs v w x y
-    by tasks.absent x y = x ∙ sym y
-    by tasks.bad x y = x ∙ sym y
-
-replayed_one : (style : Style) (recur : Bool) (state : Option (List ℕ)) (script : List ℕ) (all : Files) → IsOne (AnswersReplayed 1 style recur state script all)
-replayed_one style recur state script all =
-    before_one (λ s histories. AnswersBytes 1 style recur script s histories (find_file script all)) (bytes_one style recur script (find_file script all)) state (λ s. before state s all)
-
-world_one : (style : Style) (recur : Bool) (turns : List Turn) (s : PlainSite) → HasNames s → (histories : Histories) (v w : Whole) → AnswersTurns 1 style recur most_turns (Some turns) s histories v → AnswersTurns 1 style recur most_turns (Some turns) s histories w → v ≡ w
-world_one style recur turns s names histories v w p q = one_site_log style recur most_turns s histories turns v w names (log_as 1 style recur s histories turns v p) (log_as 1 style recur s histories turns w q)
-
-watched_one : (style : Style) (recur : Bool) (state : Option (List ℕ)) (turns : List Turn) (all : Files) → IsOne (AnswersWatched 1 style recur state (Some turns) all)
-watched_one style recur state turns all = before_one (AnswersTurns 1 style recur most_turns (Some turns)) (world_one style recur turns) state (λ s. before state s all)
-
--- Queries.
-
--- a run doesn't take more turns than may be, and so many at most
-answer_one : (s : PlainSite) → HasNames s → (turns : List Turn) (q : Query) (a b : Option (List ℕ)) → AnswersQuery 1 most_turns s turns q a → AnswersQuery 1 most_turns s turns q b → a ≡ b
-answer_one s names turns q None None h k = refl
-answer_one s names turns q (Some t) (Some u) h k = ap Some (one_query s (nothing_given s) turns q t u names h.1 k.1)
-answer_one s names turns q None (Some u) h k = absurd (let many = h in let few = k.0 in omega (arith, many, few))
-answer_one s names turns q (Some t) None h k = absurd (let many = k in let few = h.0 in omega (arith, many, few))
-
-query_one : (name : List ℕ) (s : PlainSite) → HasNames s → (turns : List Turn) (a : query_lines.Answer) (v w : Whole) → OnQuery 1 name s turns a v → OnQuery 1 name s turns a w → v ≡ w
-query_one name s names turns (query_lines.told q) v w h k = h.2 ∙ ap answered (answer_one s names turns q h.0 k.0 h.1 k.1) ∙ sym k.2
-query_one name s names turns (query_lines.bad_line n) v w h k = h ∙ sym k
-
-asked_one : (name : List ℕ) (asked : Option (List ℕ)) (s : PlainSite) → HasNames s → (turns : List Turn) (v w : Whole) → AnswersAsked 1 name asked s turns v → AnswersAsked 1 name asked s turns w → v ≡ w
-asked_one name None s names turns v w p q = p ∙ sym q
-asked_one name (Some bytes) s names turns v w p q =
-    let same = sym (query_is bytes q.0 q.1) ∙ query_is bytes p.0 p.1 in
-    query_one name s names turns p.0 v w p.2 (subst (λ a. OnQuery 1 name s turns a w) same q.2)
-
-queried_one : (script name : List ℕ) (found asked : Option (List ℕ)) → IsOne (λ s w. AnswersQueried 1 script name s found asked w)
-queried_one script name found asked s names v w p q = script_one (AnswersAsked 1 name asked s) script (λ turns x y a b. asked_one name asked s names turns x y a b) found v w p q
 
 -- Counts.
 

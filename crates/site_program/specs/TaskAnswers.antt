@@ -1,10 +1,8 @@
 -- What a run writes for a task over files and the turns of the world.
-use Rattle.std.specs.Prelude.{ℕ, ◌≡◌, ◌≢◌, ◌≤◌, ◌⊎◌, Bool, true, false, List, [], ◌∷◌, codes, length, Option, Some, None, IfSome, unwrap_or}
+use Rattle.std.specs.Prelude.{ℕ, ◌≡◌, ◌≢◌, ◌≤◌, ◌⊎◌, Bool, true, false, List, [], ◌∷◌, codes, length, Option, Some, None, IfSome}
 use Rattle.std.specs.Bool.{Decides}
 use Rattle.commit_meaning.specs.Commits as commits
 use Rattle.commit_meaning.specs.Commits.{Committed}
-use Rattle.run_meaning.specs.Runs.{no_entries}
-use Rattle.run_meaning.specs.Turns.{Histories}
 use Rattle.run_text.specs.declared.style.Style.{Style}
 use Rattle.site_base.specs.declared.diag.Diag.{Diag}
 use Rattle.site_edge.specs.Told.{find_file}
@@ -17,12 +15,10 @@ use Rattle.site_load.specs.Configs.{IsBadZone, config_outcome, names_of}
 use Rattle.site_load.specs.Idle.{idle_by, rules_of}
 use Rattle.site_load.specs.Loads.{load_outcome}
 use Rattle.site_model.specs.PlainSite.{PlainSite}
-use Rattle.site_program.specs.Runs.{replied}
+use Rattle.site_answers.specs.Runs.{replied}
+use Rattle.site_answers.specs.SiteAnswers.{Files, AnswersReplayed, AnswersWatched, AnswersQueried, IsUnanswered, CameBehind}
 use Rattle.site_replies.specs.Remarks.{remarks_of, with_remarks}
-use Rattle.site_keep.specs.Reading.{state_read}
-use Rattle.site_query.specs.Lines as query_lines
-use Rattle.site_query.specs.declared.query.Query.{Query}
-use Rattle.site_replies.specs.Replies.{bad_query, bad_script, bad_state, config_reply, diagnoses, listed, no_file}
+use Rattle.site_replies.specs.Replies.{config_reply, diagnoses, listed}
 use Rattle.site_replies.specs.declared.remarks.Remark.{Remark}
 use Rattle.site_replies.specs.declared.replies.Shown.{Shown}
 use Rattle.site_replies.specs.declared.replies.Shown.TheVariants as shown
@@ -30,14 +26,8 @@ use Rattle.site_run.specs.Ends.{Outside}
 use Rattle.site_run.specs.Logs.{Whole}
 use Rattle.site_run.specs.declared.status.Status.{Status}
 use Rattle.site_run.specs.declared.status.Status.TheVariants as status
-use Rattle.site_text.specs.Scripts.{Answer, Has, told, bad_line}
 use Rattle.site_words.specs.Commands.{Command}
 use Rattle.site_words.specs.Tasks.{Task, check, daemon, generate, objects, query, replay, resume}
-use Rattle.whole_runs.specs.Logs.{AnswersTurns, IsSiteLog, WentOver}
-use Rattle.whole_runs.specs.Queried.{AnswersQuery}
-
-abbrev pub Files : Type 0
-Files = List (List ℕ × List ℕ)
 
 -- Configurations.
 
@@ -57,87 +47,6 @@ AnswersOver Is w names (commits.refused list) = w ≡ replied (diagnoses names l
 
 abbrev pub AnswersSite : Files → List ℕ → (PlainSite → Whole → Type 0) → Whole → Type 0
 AnswersSite files root Is w = AnswersRoot files root (AnswersOver Is w)
-
--- Logs.
-
--- how many turns are taken at most
-abbrev pub most_turns : ℕ
-most_turns = 100000000
-
--- what is asked of the turns of a script, or that its first line that is none is this one
-abbrev pub OnTurns : (List Turn → Whole → Type 0) → List ℕ → Answer → Whole → Type 0
-OnTurns Is script (told turns) w = Is turns w
-OnTurns Is script (bad_line n) w = w ≡ replied (bad_script script n)
-
--- of those that the bytes of its file tell, or that there is none
-abbrev pub OnScript : (List Turn → Whole → Type 0) → List ℕ → Option (List ℕ) → Whole → Type 0
-OnScript Is script None w = w ≡ replied (no_file script)
-OnScript Is script (Some bytes) w = (a : Answer) × Has bytes a × OnTurns Is script a w
-
--- the log of a script's turns with so many callers behind these entries, where downtimes recur or don't
-abbrev pub AnswersBytes : ℕ → Style → Bool → List ℕ → PlainSite → Histories → Option (List ℕ) → Whole → Type 0
-AnswersBytes callers style recur script s histories found w = OnScript (IsSiteLog callers style recur most_turns s histories) script found w
-
--- Entries before the first turn.
-
--- some, perhaps none; or that the state file that is named isn't there, or is none of the site
-pub data Before : Type 0 where
-  has : Histories → Before
-  absent : Before
-  bad : Before
-
-abbrev pub restored : Option Histories → Before
-restored (Some histories) = has histories
-restored None = bad
-
-abbrev pub before_in : PlainSite → Option (List ℕ) → Before
-before_in s None = absent
-before_in s (Some bytes) = restored (state_read s bytes)
-
--- by the name of the state file, if one is named
-abbrev pub before : Option (List ℕ) → PlainSite → Files → Before
-before None s files = has (no_entries s)
-before (Some name) s files = before_in s (find_file name files)
-
-abbrev pub name_of : Option (List ℕ) → List ℕ
-name_of state = unwrap_or state []
-
--- what is asked of them
-abbrev pub OnBefore : (Histories → Whole → Type 0) → Option (List ℕ) → Before → Whole → Type 0
-OnBefore Is state (has histories) w = Is histories w
-OnBefore Is state absent w = w ≡ replied (no_file (name_of state))
-OnBefore Is state bad w = w ≡ replied (bad_state (name_of state))
-
--- the log of a script's turns behind them
-abbrev pub AnswersReplayed : ℕ → Style → Bool → Option (List ℕ) → List ℕ → Files → PlainSite → Whole → Type 0
-AnswersReplayed callers style recur state script all s w =
-    OnBefore (λ histories. AnswersBytes callers style recur script s histories (find_file script all)) state (before state s all) w
-
--- that of the world's turns
-abbrev pub AnswersWatched : ℕ → Style → Bool → Option (List ℕ) → Option (List Turn) → Files → PlainSite → Whole → Type 0
-AnswersWatched callers style recur state turns all s w =
-    OnBefore (AnswersTurns callers style recur most_turns turns s) state (before state s all) w
-
--- Queries.
-
--- the text of an answer; nothing where there were more turns than may be taken
-abbrev pub answered : Option (List ℕ) → Whole
-answered (Some text) = record { text = text; ends = status.Done }
-answered None = record { text = []; ends = status.TurnsSpent }
-
--- what a query is answered once these turns are over, or that its first line that is none is this one
-abbrev pub OnQuery : ℕ → List ℕ → PlainSite → List Turn → query_lines.Answer → Whole → Type 0
-OnQuery callers name s turns (query_lines.told q) w = (answer : Option (List ℕ)) × AnswersQuery callers most_turns s turns q answer × (w ≡ answered answer)
-OnQuery callers name s turns (query_lines.bad_line n) w = w ≡ replied (bad_query name n)
-
--- of the one that the bytes of its file tell, or that there is none
-abbrev pub AnswersAsked : ℕ → List ℕ → Option (List ℕ) → PlainSite → List Turn → Whole → Type 0
-AnswersAsked callers name None s turns w = w ≡ replied (no_file name)
-AnswersAsked callers name (Some bytes) s turns w = (a : query_lines.Answer) × query_lines.Has bytes a × OnQuery callers name s turns a w
-
--- once the turns of a script are over
-abbrev pub AnswersQueried : ℕ → List ℕ → List ℕ → PlainSite → Option (List ℕ) → Option (List ℕ) → Whole → Type 0
-AnswersQueried callers script name s found asked w = OnScript (AnswersAsked callers name asked s) script found w
 
 -- Generated sites.
 
@@ -184,18 +93,8 @@ is_generate task = false
 
 -- How far a daemon came: to no answer of its files, to no site or no entries before its first turn, or over the site of its root.
 
--- the files could not be read, or there was no memory for what they come to; nothing was taken, started or written
-pub record IsUnanswered (end : Status) (old new : Outside) : Type 0 where
-  pub cause : (end ≡ status.ReadFault) ⊎ (end ≡ status.OutOfMemory)
-  pub same : new ≡ old
-
 abbrev pub HasNoSite : Files → List ℕ → Type 0
 HasNoSite files root = AnswersRoot files root (λ names c. (list : List Diag) × (c ≡ commits.refused list))
-
-abbrev pub has_none : Before → Bool
-has_none (has histories) = false
-has_none absent = true
-has_none bad = true
 
 -- they make no site; nothing was taken or started
 pub record IsRefused (root : List ℕ) (files : Option Files) (old new : Outside) : Type 0 where
@@ -206,24 +105,6 @@ pub record IsRefused (root : List ℕ) (files : Option Files) (old new : Outside
 
 abbrev pub IsSiteOf : Files → List ℕ → PlainSite → Type 0
 IsSiteOf files root s = AnswersRoot files root (λ names c. c ≡ commits.site s)
-
--- the state file that is named has no entries of this site; nothing was taken or started
-pub record IsStateless (state : Option (List ℕ)) (files : Option Files) (s : PlainSite) (old new : Outside) : Type 0 where
-  pub is : IfSome files (λ all. has_none (before state s all) ≡ true)
-  pub turns : new.turns ≡ old.turns
-  pub started : new.started ≡ old.started
-  pub calls : new.calls ≡ old.calls
-
--- there are entries before the first turn, and it went so far behind them
-pub record IsBehind (end : Status) (callers : ℕ) (style : Style) (recur : Bool) (state : Option (List ℕ)) (files : Option Files) (s : PlainSite) (old new : Outside) : Type 0 where
-  pub histories : Histories
-  pub are : IfSome files (λ all. before state s all ≡ has histories)
-  pub went : WentOver end callers style recur most_turns s histories old new
-
--- over a site
-abbrev pub CameBehind : Status → ℕ → Style → Bool → Option (List ℕ) → Option Files → PlainSite → Outside → Outside → Type 0
-CameBehind end callers style recur state files s old new =
-    IsUnanswered end old new ⊎ (IsStateless state files s old new ⊎ IsBehind end callers style recur state files s old new)
 
 pub record IsOverSite (end : Status) (callers : ℕ) (style : Style) (recur : Bool) (root : List ℕ) (state : Option (List ℕ)) (files : Option Files) (old new : Outside) : Type 0 where
   pub site : PlainSite

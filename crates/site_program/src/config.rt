@@ -7,8 +7,8 @@ ghost use Rattle.site_run.specs.Logs.{EndsRun};
 ghost use Rattle.site_program.specs.TaskAnswers.{AnswersShown, RemarkedOf};
 ghost use Rattle.site_replies.specs.declared.replies.Shown.TheVariants as shown_as;
 
-use crate::output::write_made;
 use crate::remarked::answer_remarked;
+use site_answers::write_made;
 use site_conf::LoadFault;
 use site_edge::{Files, Sink};
 use site_load::config_answer;

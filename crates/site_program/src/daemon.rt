@@ -1,26 +1,21 @@
 // The log of the world.
 ghost use Rattle.std.specs.Prelude.{◌≡◌, ◌≢◌, IfSome, option_map};
 ghost use Rattle.site_edge.specs.Told.{Rose};
-ghost use Rattle.site_model.specs.PlainSite.{site_view};
-ghost use Rattle.site_phases.specs.Phases.{IsReady};
 ghost use Rattle.site_run.specs.Callers.{AreCallers};
 ghost use Rattle.site_run.specs.Logs.{EndsRun};
 ghost use Rattle.site_run.specs.Ends.{HandsOn, outside};
-ghost use Rattle.site_program.specs.TaskAnswers.{AnswersSite, AnswersWatched, CameBehind, CameFar, RemarkedOf};
+ghost use Rattle.site_answers.specs.SiteAnswers.{AnswersWatched};
+ghost use Rattle.site_program.specs.TaskAnswers.{AnswersSite, CameFar, RemarkedOf};
 
-use crate::before::{books_before, write_lost};
 use crate::config::status_of;
-use crate::output::write_made;
 use crate::remarked::answer_remarked;
-use crate::replay::MOST_TURNS;
 use run_text::Style;
+use site_answers::{watch_site, write_made};
 use site_edge::{Files, Sink, World};
-use site_model::Site;
 use site_phases::Answer;
 use site_replies::{Remarks, diagnoses};
 use site_run::{Status, Workers};
 use std::alloc::Global;
-use whole_runs::write_site_log;
 
 /// Writes the log of the world's turns, whose events these workers take, over the site that the files from the root on make, or why there
 /// is none, behind the entries of a state file, if one is named, and tells what is remarked of that site before. Its downtimes recur or don't. No turn is
@@ -54,47 +49,12 @@ pub fn watch<F: Files, W: World, S: Sink, N: Remarks, C: Workers>(
     ensures calm_world { W.calm world.old → result ≢ Status.WorldFault }
 {
     match answer_remarked(alloc, recur, files, root, remarks) {
-        Ok(Answer::Site(site)) => watch_behind(
+        Ok(Answer::Site(site)) => watch_site(
             alloc, workers, style, recur, state, site, files, world, out,
         ),
         Ok(Answer::Diags { files, list }) => {
             write_made(diagnoses(alloc, &files, list.as_slice()), out)
         }
         Err(fault) => status_of(fault),
-    }
-}
-
-/// Reads the state file, if one is named, and writes the log of the world's turns behind its entries.
-fn watch_behind<F: Files, W: World, S: Sink, C: Workers>(
-    alloc: Global,
-    workers: &C,
-    style: Style,
-    recur: bool,
-    state: Option<&str>,
-    site: Site,
-    files: &mut F,
-    world: &mut W,
-    out: &mut S,
-) -> Status
-    requires callers { AreCallers (C.callers workers.now) }
-    requires apt { C.apt workers.now }
-    requires ready { IsReady (site_view site) }
-    ensures never_usage { result ≢ Status.Usage }
-    ensures written { EndsRun result (λ w. IfSome (F.told files.old) (λ all. AnswersWatched (C.callers workers.now) style recur (option_map (λ name. name.now) state.entry) (W.turns world.old) all (site_view site) w)) (S.written out.old) (S.written out.new) }
-    ensures came { CameBehind result (C.callers workers.now) style recur (option_map (λ name. name.now) state.entry) (F.told files.old) (site_view site) (outside (W.turns world.old) (W.started world.old) (W.calls world.old) (S.written out.old) (S.kept_back out.old)) (outside (W.turns world.new) (W.started world.new) (W.calls world.new) (S.written out.new) (S.kept_back out.new)) }
-    ensures through { HandsOn result (S.kept_back out.new) }
-    ensures told { F.told files.new ≡ F.told files.old }
-    ensures read_fault { result ≡ Status.ReadFault → Rose (F.faults files.old) (F.faults files.new) }
-    ensures write_fault { result ≡ Status.WriteFault → Rose (S.faults out.old) (S.faults out.new) }
-    ensures world_fault { result ≡ Status.WorldFault → Rose (W.faults world.old) (W.faults world.new) }
-    ensures calm_files { F.calm files.old → result ≢ Status.ReadFault }
-    ensures calm_sink { S.calm out.old → result ≢ Status.WriteFault }
-    ensures calm_world { W.calm world.old → result ≢ Status.WorldFault }
-{
-    match books_before(alloc, state, &site, files) {
-        Ok(books) => write_site_log(
-            alloc, workers, style, recur, site, books, world, out, MOST_TURNS,
-        ),
-        Err(lost) => write_lost(alloc, lost, state, out),
     }
 }

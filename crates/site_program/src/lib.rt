@@ -1,18 +1,15 @@
 //! The program over any files, world and sink: what is written for the words of a command line.
 //!
-//! In reading order: how replies are written (`output`), what is remarked of a site (`remarked`), the objects of a
-//! configuration (`config`), the entries before the first turn (`before`), the log of a script (`replay`)
-//! and of the world (`daemon`), the counts of a generated site (`generate`), and the answer to a query (`query`). `running` does what is asked for with one worker, `many`
-//! with as many as are asked for, and both end with a `Status`; `laws` says what is known of that.
+//! In reading order: what is remarked of a site (`remarked`), the objects of a configuration (`config`), the log of a script (`replay`) and of
+//! the world (`daemon`), the answer to a query (`query`), and the counts of a generated site (`generate`). `running` does what is asked for
+//! with one worker, `many` with as many as are asked for, and both end with a `Status`; `laws` says what is known of that.
 #![tactic(auto)]
 
-mod before;
 mod config;
 mod daemon;
 mod generate;
 mod laws;
 mod many;
-mod output;
 mod query;
 mod remarked;
 mod replay;

@@ -1,12 +1,14 @@
 use Rattle.std.proofs.Common.{◌≡◌, IfOk, IfSome, Option, rules, subst}
 use Rattle.site_edge.specs.Told.{find_file}
 use Rattle.site_model.specs.PlainSite.{site_view}
-use Rattle.site_program.specs.Runs.{replied}
-use Rattle.site_program.specs.TaskAnswers.{AnswersQueried, AnswersSite, Files}
+use Rattle.site_answers.specs.Runs.{replied}
+use Rattle.site_answers.specs.SiteAnswers.{AnswersQueried, Files}
+use Rattle.site_program.specs.TaskAnswers.{AnswersSite}
 use Rattle.site_replies.specs.Replies.{diagnoses, reply_view}
 use Rattle.site_program.proofs.Answering.{diags_answer, site_answers}
 use Rattle.whole_runs.proofs.Ending.{ended_as}
-use Rattle.site_program.proofs.Ending.{ended, unread_through}
+use Rattle.site_answers.proofs.Ending.{ended}
+use Rattle.site_program.proofs.Ending.{unread_through}
 use Rattle.site_program.proofs.query.answer_query.Goals as goal
 
 pub returns-in-Ok-Site-clause-written : goal.returns-in-Ok-Site-clause-written
@@ -16,11 +18,11 @@ returns-in-Ok-Site-clause-written g c =
     let script = c.args.script.now in
     let query = c.args.query.now in
     let callers = g.C.Workers.callers c.args.workers.now in
-    ended_as c.after_script.result (λ w. IfSome (g.F.Files.told c.config_answer.new.files) (λ all. AnswersQueried callers script query (site_view a.site) (find_file script all) (find_file query all) w))
-    (λ w. IfSome told (λ all. AnswersSite all c.args.root.now (λ s. AnswersQueried callers script query s (find_file script all) (find_file query all)) w)) (g.S.Sink.written c.args.out.now) (g.S.Sink.written c.after_script.new.out)
+    ended_as c.query_site.result (λ w. IfSome (g.F.Files.told c.config_answer.new.files) (λ all. AnswersQueried callers script query (site_view a.site) (find_file script all) (find_file query all) w))
+    (λ w. IfSome told (λ all. AnswersSite all c.args.root.now (λ s. AnswersQueried callers script query s (find_file script all) (find_file query all)) w)) (g.S.Sink.written c.args.out.now) (g.S.Sink.written c.query_site.new.out)
     (λ w is. site_answers (λ all s. AnswersQueried callers script query s (find_file script all) (find_file query all)) c.args.root.now told a.field-0 a.site a.field-0-is (λ files h. (a.ensures.files files h, λ bad decided. a.ensures.value files bad h decided)) w
     (subst (λ (t : Option Files). IfSome t (λ all. AnswersQueried callers script query (site_view a.site) (find_file script all) (find_file query all) w)) c.config_answer.ensures.same is))
-    c.after_script.ensures.written
+    c.query_site.ensures.written
 
 pub returns-in-Ok-Diags-clause-written : goal.returns-in-Ok-Diags-clause-written
 returns-in-Ok-Diags-clause-written g c =

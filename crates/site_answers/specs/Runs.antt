@@ -1,0 +1,15 @@
+-- Replies as what a run writes.
+use Rattle.std.specs.Prelude.{Bool, true, false}
+use Rattle.std.specs.List.{concat}
+use Rattle.site_replies.specs.Replies.{PlainReply}
+use Rattle.site_run.specs.Logs.{Whole}
+use Rattle.site_run.specs.declared.status.Status.{Status}
+use Rattle.site_run.specs.declared.status.Status.TheVariants.{Done, Diagnosed}
+
+abbrev pub ends_by : Bool → Status
+ends_by true = Diagnosed
+ends_by false = Done
+
+-- the run that writes a reply
+abbrev pub replied : PlainReply → Whole
+replied r = record { text = concat r.lines; ends = ends_by r.diagnosed }
