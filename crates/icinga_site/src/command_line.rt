@@ -23,16 +23,16 @@ usage:
   icinga_site objects ROOT                lists them
   icinga_site replay ROOT SCRIPT          writes the log of the turns of SCRIPT over the site of ROOT
   icinga_site daemon ROOT                 runs the checks of that site, takes command lines from standard input, and writes the log
-  icinga_site daemon ROOT STATE           the same, going on behind the entries of the state file STATE
+  icinga_site daemon ROOT STATE           the same, and goes on after the entries of the state file STATE
   icinga_site query ROOT SCRIPT QUERY     answers the query in QUERY once the turns of SCRIPT are over
-  icinga_site resume ROOT STATE SCRIPT    writes the log of the turns of SCRIPT behind the entries of the state file STATE
+  icinga_site resume ROOT STATE SCRIPT    writes the log of the turns of SCRIPT after the entries of the state file STATE
   icinga_site gen N                       runs a generated site of N hosts, from 1 to 10000, and writes five counts
   icinga_site --help                      prints this text, as do -h and help
   icinga_site --version                   prints the program's version
 
---log 1 or --log 2, before or behind the words of replay, daemon and resume, chooses the version of the log.
---recur, before or behind those of the first two, has ScheduledDowntime objects make their downtimes.
---workers K, before or behind any words, has K workers, from 1 to 64, take the events of a turn at the same time.
+--log 1 or --log 2, before or after the words of replay, daemon and resume, chooses the version of the log.
+--recur, before or after those of the first two, has ScheduledDowntime objects make their downtimes.
+--workers K, before or after any words, has K workers, from 1 to 64, take the events of a turn at the same time.
 --quiet, anywhere among them, leaves out what check and daemon remark of a site on standard error.
 ";
 

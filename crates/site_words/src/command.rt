@@ -15,7 +15,7 @@ pub struct Command<'a> {
 }
 
 /// What the words ask for; `None` for all words that ask for nothing that the program does. `--workers K`, with K from 1 to 64, may stand
-/// before or behind the words of each command, and `--log V`, with V 1 or 2, and `--recur` before or behind those of `replay` and `daemon`: each at
+/// before or after the words of each command, and `--log V`, with V 1 or 2, and `--recur` before or after those of `replay` and `daemon`: each at
 /// most once, in any order.
 pub fn command_of(words: &[Text]) -> Option<Command<'_>>
     ensures value { option_map command_view result ≡ command_in words.now }
