@@ -58,8 +58,8 @@ make_elements() {
 }
 
 for condition in 'element.kind == "other"' true; do
-    [ "$condition" = true ] && word=each counts='1000 2000 4000' || word=none counts='5000 10000 20000'
-    for count in $counts; do
+    [ "$condition" = true ] && word=each || word=none
+    for count in 5000 10000 20000; do
         make_elements "$work/with.conf" "$count" "$condition"
         make_elements "$work/without.conf" "$count" ''
         awk -v n="$count" -v w="$word" -v s="$(run "$work/with.conf")" -v e="$(run "$work/without.conf")" \

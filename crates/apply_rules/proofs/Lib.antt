@@ -1,3 +1,4 @@
 pub mod Behind
 pub mod Lasting
 pub mod Running
+pub mod Shared

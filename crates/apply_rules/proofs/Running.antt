@@ -52,7 +52,7 @@ ready_entered this locals in_file (Ok x) v w mid new h l d e f = record { fit = 
 ready_entered this locals in_file (Err x) v w mid new h l d e f = tt
 
 -- names behind others
-bound_behind : (ts us : Trees) (ps : Pairs) (cs : List PlainCell) → bound_in (ts ++ us) ps cs ≡ bound_in us (bound_in ts ps cs).pairs (bound_in ts ps cs).cells
+pub bound_behind : (ts us : Trees) (ps : Pairs) (cs : List PlainCell) → bound_in (ts ++ us) ps cs ≡ bound_in us (bound_in ts ps cs).pairs (bound_in ts ps cs).cells
 bound_behind [] us ps cs = refl
 bound_behind (t ∷ ts) us ps cs = bound_behind ts us (ps ++ (t.0, given 0 cs (load t.1)) ∷ []) (grown 0 cs (load t.1))
 

@@ -3,3 +3,4 @@ pub mod Keys
 pub mod Lawful
 pub mod Plain
 pub mod Preparations
+pub mod Sharing

@@ -1,6 +1,7 @@
 // The evaluation of a rule at a target.
-ghost use Rattle.std.specs.Prelude.{◌≡◌, ◌+◌, ◌++◌, [], false, OnOk, IfOk, IfErr, None, Some, map};
+ghost use Rattle.std.specs.Prelude.{◌≡◌, ◌+◌, ◌++◌, [], false, OnOk, IfOk, IfErr, IfSome, None, Some, map};
 ghost use Rattle.dsl_syntax.specs.SyntaxView.{each_view};
+ghost use Rattle.dsl_value.specs.Contents.{Contents};
 ghost use Rattle.dsl_value.specs.PlainStores.{plain_store};
 ghost use Rattle.eval_meaning.specs.States.{rule as rule_task};
 ghost use Rattle.eval_work.specs.Works.{state_of, view_of, plain_rule, Gives};
@@ -17,8 +18,11 @@ ghost use Rattle.rule_expressions.specs.Plain.{plain_element};
 ghost use Rattle.apply_rules.specs.Judging.{judged_element, looped_items, unframed};
 ghost use Rattle.apply_rules.specs.Lawful.{IsApplicable};
 ghost use Rattle.apply_rules.specs.Plain.{plain_target, plain_instance, plain_items, plain_kept};
+ghost use Rattle.apply_rules.specs.Preparations.{IsPreparedTarget};
+ghost use Rattle.apply_rules.specs.Sharing.{AreLike, AreSharedIn};
 
 use crate::keeping::{element_item, judged_item};
+use crate::sharing::Share;
 use crate::target::subject_of;
 use crate::{Instance, PreparedTarget, Target};
 use dsl_syntax::Each;
@@ -38,7 +42,8 @@ pub(crate) fn run_rule<'a>(
     spare: &mut Locals,
 ) -> Result<Vec<Instance<'a>>, Stop>
     requires { IsApplicable view.now rule.now target.now }
-    ensures { Answers plain_items (pair_number (plain_rule rule.now) (plain_target target.now.target)) result (answered (pair_number (plain_rule rule.now) (plain_target target.now.target)) (rule_run (view_of view.now) (plain_rule rule.now) (plain_target target.now.target))) }
+    ensures answer { Answers plain_items (pair_number (plain_rule rule.now) (plain_target target.now.target)) result (answered (pair_number (plain_rule rule.now) (plain_target target.now.target)) (rule_run (view_of view.now) (plain_rule rule.now) (plain_target target.now.target))) }
+    ensures shared { IfOk result (λ is. AreSharedIn view.now.store.now is.items) }
 {
     match &rule.each {
         Some(each) => run_loop(alloc, view, rule, each, target, spare),
@@ -56,7 +61,8 @@ fn run_once<'a>(
 ) -> Result<Vec<Instance<'a>>, Stop>
     requires applicable { IsApplicable view.now rule.now target.now }
     requires once { (plain_rule rule.now).loop ≡ None }
-    ensures { Answers plain_items (pair_number (plain_rule rule.now) (plain_target target.now.target)) result (answered (pair_number (plain_rule rule.now) (plain_target target.now.target)) (rule_run (view_of view.now) (plain_rule rule.now) (plain_target target.now.target))) }
+    ensures answer { Answers plain_items (pair_number (plain_rule rule.now) (plain_target target.now.target)) result (answered (pair_number (plain_rule rule.now) (plain_target target.now.target)) (rule_run (view_of view.now) (plain_rule rule.now) (plain_target target.now.target))) }
+    ensures shared { IfOk result (λ is. AreSharedIn view.now.store.now is.items) }
 {
     let mut work = begin_rule(alloc, view, rule, target, spare)?;
     let items = one_item(view, rule, &target.target, &mut work);
@@ -71,13 +77,18 @@ fn one_item<'a>(
     work: &mut Work,
 ) -> Result<Vec<Instance<'a>>, Stop>
     requires { IsReady view.now work.old }
-    ensures { Gives plain_items result (state_of work.new) (judged_element (view_of view.now) (plain_rule rule.now) (plain_target target.now) 0 [] (target_names (plain_target target.now) ++ []) (state_of work.old)) }
+    ensures gives { Gives plain_items result (state_of work.new) (judged_element (view_of view.now) (plain_rule rule.now) (plain_target target.now) 0 [] (target_names (plain_target target.now) ++ []) (state_of work.old)) }
+    ensures shared { (s : Contents) → IfOk result (λ is. AreSharedIn s is.items) }
 {
     let key = Text::new(work.alloc);
     let own = Vec::new(work.alloc);
     let mut items = Vec::new(work.alloc);
+    let share = Share {
+        target: *target,
+        values: None,
+    };
     let kept = judged_item(view, rule, target, 0, &key, own, work)?;
-    keep(&mut items, kept)?;
+    keep(&mut items, kept, &share)?;
     Ok(items)
 }
 
@@ -92,10 +103,11 @@ fn run_loop<'a>(
 ) -> Result<Vec<Instance<'a>>, Stop>
     requires applicable { IsApplicable view.now rule.now target.now }
     requires each { (plain_rule rule.now).loop ≡ Some (each_view each.now) }
-    ensures { Answers plain_items (pair_number (plain_rule rule.now) (plain_target target.now.target)) result (answered (pair_number (plain_rule rule.now) (plain_target target.now.target)) (rule_run (view_of view.now) (plain_rule rule.now) (plain_target target.now.target))) }
+    ensures answer { Answers plain_items (pair_number (plain_rule rule.now) (plain_target target.now.target)) result (answered (pair_number (plain_rule rule.now) (plain_target target.now.target)) (rule_run (view_of view.now) (plain_rule rule.now) (plain_target target.now.target))) }
+    ensures shared { IfOk result (λ is. AreSharedIn view.now.store.now is.items) }
 {
     let mut work = begin_rule(alloc, view, rule, target, spare)?;
-    let items = loop_items(view, rule, each, &target.target, &mut work);
+    let items = loop_items(view, rule, each, target, &mut work);
     *spare = work.locals;
     items
 }
@@ -104,16 +116,18 @@ fn loop_items<'a>(
     view: &WorldView,
     rule: &'a Rule,
     each: &Each,
-    target: &Target<'a>,
+    target: &PreparedTarget<'a>,
     work: &mut Work,
 ) -> Result<Vec<Instance<'a>>, Stop>
     requires ready { IsReady view.now work.old }
     requires captured { PairsNamed work.old.store rule.now.captured.items }
     requires task { work.old.task ≡ Task.Rule }
-    ensures { Gives plain_items result (state_of work.new) (looped_items (view_of view.now) (plain_rule rule.now) (each_view each.now) (plain_target target.now) (state_of work.old)) }
+    ensures gives { Gives plain_items result (state_of work.new) (looped_items (view_of view.now) (plain_rule rule.now) (each_view each.now) (plain_target target.now.target) (state_of work.old)) }
+    ensures shared { (s : Contents) → IsPreparedTarget s target.now → IfOk result (λ is. AreSharedIn s is.items) }
 {
     let elements = elements(view, each, work)?;
-    run_elements(view, rule, target, &elements, work)
+    let share = target.share(work.alloc, elements.len())?;
+    run_elements(view, rule, &share, &elements, work)
 }
 
 /// The work on which the expressions of a rule are evaluated.
@@ -146,7 +160,7 @@ fn begin_rule(
 fn run_elements<'a>(
     view: &WorldView,
     rule: &'a Rule,
-    target: &Target<'a>,
+    share: &Share<'a>,
     elements: &[Element],
     work: &mut Work,
 ) -> Result<Vec<Instance<'a>>, Stop>
@@ -154,20 +168,21 @@ fn run_elements<'a>(
     requires captured { PairsNamed work.old.store rule.now.captured.items }
     requires elements { ElementsNamed work.old.store (map plain_element elements.now) }
     requires task { work.old.task ≡ Task.Rule }
-    ensures { Gives plain_items result (state_of work.new) (elements_run (view_of view.now) (plain_rule rule.now) (plain_target target.now) (unframed (state_of work.old)) 1 (map plain_element elements.now) [] (state_of work.old)) }
+    ensures gives { Gives plain_items result (state_of work.new) (elements_run (view_of view.now) (plain_rule rule.now) (plain_target share.now.target) (unframed (state_of work.old)) 1 (map plain_element elements.now) [] (state_of work.old)) }
+    ensures like { IfOk result (λ is. AreLike share.now is.items) }
 {
     let mut items = Vec::new(work.alloc);
     if elements.is_empty() {
         return Ok(items);
     }
     let before = work.store.fork()?;
-    let prepared = prepare_for_many(work.alloc, &before, subject_of(target))?;
+    let prepared = prepare_for_many(work.alloc, &before, subject_of(&share.target))?;
     let mut number = 0;
     for element in elements {
         number = next_number(number)?;
         begin_again(&before, work)?;
-        let kept = element_item(view, rule, target, &prepared, number, element, work)?;
-        keep(&mut items, kept)?;
+        let kept = element_item(view, rule, &share.target, &prepared, number, element, work)?;
+        keep(&mut items, kept, share)?;
     }
     Ok(items)
 }
@@ -193,12 +208,23 @@ fn begin_again(before: &Store, work: &mut Work) -> Result<(), OutOfMemory>
     Ok(())
 }
 
-/// Adds an instance that is kept.
-fn keep<'a>(made: &mut Vec<Instance<'a>>, kept: Option<Instance<'a>>) -> Result<(), OutOfMemory>
-    ensures { OnOk result (map plain_instance made.new.items ≡ map plain_instance made.old.items ++ plain_kept kept.entry) }
+/// Adds an instance that is kept, which shares what others at its target do.
+fn keep<'a>(
+    made: &mut Vec<Instance<'a>>,
+    kept: Option<Instance<'a>>,
+    share: &Share<'a>,
+) -> Result<(), OutOfMemory>
+    requires target { IfSome kept (λ i. i.target ≡ share.now.target) }
+    requires like { AreLike share.now made.old.items }
+    ensures items { OnOk result (map plain_instance made.new.items ≡ map plain_instance made.old.items ++ plain_kept kept.entry) }
+    ensures like { OnOk result (AreLike share.now made.new.items) }
 {
     match kept {
-        Some(instance) => Ok(made.push(instance)?),
+        Some(instance) => {
+            let instance = instance.sharing(&share.values)?;
+            made.push(instance)?;
+            Ok(())
+        }
         None => Ok(()),
     }
 }

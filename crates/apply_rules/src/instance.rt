@@ -1,10 +1,10 @@
 // The instances of elements that are kept, and their items.
-ghost use Rattle.std.specs.Prelude.{◌≡◌, ◌++◌, IfOk, OnOk, map};
+ghost use Rattle.std.specs.Prelude.{◌≡◌, ◌++◌, IfOk, IfSome, OnOk, map};
 ghost use Rattle.eval_work.specs.Works.{state_of, plain_item, plain_pair, plain_rule, Gives};
 ghost use Rattle.commit_meaning.specs.Names.{target_names};
 ghost use Rattle.commit_meaning.specs.Rules.{instance as instance_of, named_instance as named_by, prefix, place_by};
 ghost use Rattle.apply_rules.specs.Keys.{AreKeys};
-ghost use Rattle.apply_rules.specs.Plain.{item_at, plain_instance, plain_kept, plain_target};
+ghost use Rattle.apply_rules.specs.Plain.{plain_instance, plain_kept, plain_target};
 
 use crate::presets::presets;
 use crate::target::{subject_of, target_no};
@@ -13,9 +13,10 @@ use dsl_value::Value;
 use eval_work::{Item, Rule, Stop, Work};
 use load_work::is_good_name;
 use name_work::named_fault;
-use rule_expressions::named_trees;
+use rule_expressions::{Prepared, named_trees};
 use site_base::{DiagKind, ItemNo, OutOfMemory, Place, Text, Tree};
 use std::alloc::Global;
+use std::sync::Arc;
 
 /// An item that a rule makes at a target, before it has copies of what it takes from both.
 #[derive(Drop)]
@@ -23,6 +24,8 @@ pub struct Instance<'a> {
     pub(crate) number: ItemNo,
     pub(crate) rule: &'a Rule,
     pub(crate) target: Target<'a>,
+    /// The target's names with values that it shares with other instances at the target.
+    pub(crate) shared: Option<Arc<Prepared<'a>>>,
     pub(crate) name: Text,
     /// The names of the `for`, with their trees.
     pub(crate) own: Vec<(Text, Tree)>,
@@ -43,19 +46,47 @@ impl<'a> Instance<'a> {
         self.rule.place
     }
 
+    /// The type of the rule's objects.
+    pub fn kind(&self) -> &str
+        ensures { result.now ≡ (plain_instance self.now).kind }
+    {
+        self.rule.kind.as_str()
+    }
+
+    /// The names of the `for`, with their trees. They are bound behind those of the target.
+    pub fn own(&self) -> &[(Text, Tree)]
+        ensures { result.now ≡ self.now.own.items }
+    {
+        &self.own
+    }
+
     /// The item, with copies of the target's trees. It shares the rule's body, and its presets share these keys.
     pub fn into_item(self, alloc: Global, keys: &PresetKeys) -> Result<Item, OutOfMemory>
         requires { AreKeys keys.now }
         ensures { IfOk result (λ i. plain_item i ≡ plain_instance self.entry) }
     {
-        let Instance {
-            number,
-            rule,
-            target,
-            name,
-            own,
-        } = self;
-        whole_item(alloc, keys, number, rule, &target, name, own)
+        let item = self.nameless_item(alloc, keys)?;
+        with_names(alloc, item, &self.target, self.own)
+    }
+
+    /// The item but for the names that are bound in its body, of which it has none. It shares the rule's body, and its presets share
+    /// these keys.
+    pub fn nameless_item(&self, alloc: Global, keys: &PresetKeys) -> Result<Item, OutOfMemory>
+        requires { AreKeys keys.now }
+        ensures { IfOk result (λ i. record (plain_item i) { names = (plain_instance self.now).names } ≡ plain_instance self.now) }
+    {
+        let rule = self.rule;
+        Ok(Item {
+            number: self.number,
+            kind: rule.kind.clone()?,
+            name: self.name.clone()?,
+            place: rule.place,
+            presets: presets(alloc, keys, &rule.kind, &self.name, &self.target)?,
+            names: Vec::new(alloc),
+            captured: copy_pairs(alloc, &rule.captured)?,
+            body: rule.body.clone()?,
+            builtin: false,
+        })
     }
 }
 
@@ -69,7 +100,8 @@ pub(crate) fn named_instance<'a>(
     key: &Text,
     own: Vec<(Text, Tree)>,
 ) -> Result<Option<Instance<'a>>, Stop>
-    ensures { Gives plain_kept result (state_of work.now) (named_by (plain_rule rule.now) (plain_target target.now) number (prefix (plain_rule rule.now).name ++ key.now) (target_names (plain_target target.now) ++ map plain_pair own.items) (state_of work.now)) }
+    ensures gives { Gives plain_kept result (state_of work.now) (named_by (plain_rule rule.now) (plain_target target.now) number (prefix (plain_rule rule.now).name ++ key.now) (target_names (plain_target target.now) ++ map plain_pair own.items) (state_of work.now)) }
+    ensures target { IfOk result (λ o. IfSome o (λ i. i.target ≡ target.now)) }
 {
     let name = instance_name(work.alloc, rule, key)?;
     if is_good_name(&name) {
@@ -114,7 +146,8 @@ fn of_element<'a>(
     name: Text,
     own: Vec<(Text, Tree)>,
 ) -> Instance<'a>
-    ensures { plain_instance result ≡ instance_of (plain_rule rule.now) (plain_target target.now) number name (target_names (plain_target target.now) ++ map plain_pair own.items) }
+    ensures item { plain_instance result ≡ instance_of (plain_rule rule.now) (plain_target target.now) number name (target_names (plain_target target.now) ++ map plain_pair own.items) }
+    ensures target { result.target ≡ target.now }
 {
     Instance {
         number: ItemNo {
@@ -124,37 +157,27 @@ fn of_element<'a>(
         },
         rule,
         target: *target,
+        shared: None,
         name,
         own,
     }
 }
 
-/// The item of a rule at a target, with this number and name.
-fn whole_item(
+/// An item in whose body the names of a target are bound and then these.
+fn with_names(
     alloc: Global,
-    keys: &PresetKeys,
-    number: ItemNo,
-    rule: &Rule,
+    item: Item,
     target: &Target,
-    name: Text,
-    mut own: Vec<(Text, Tree)>,
+    own: Vec<(Text, Tree)>,
 ) -> Result<Item, OutOfMemory>
-    requires { AreKeys keys.now }
-    ensures { IfOk result (λ i. plain_item i ≡ item_at number (plain_rule rule.now) (plain_target target.now) name (map plain_pair own.items)) }
+    ensures { IfOk result (λ i. plain_item i ≡ record (plain_item item) { names = target_names (plain_target target.now) ++ map plain_pair own.items }) }
 {
+    let mut item = item;
+    let mut own = own;
     let mut names = named_trees(alloc, &subject_of(target))?;
     names.append(&mut own)?;
-    Ok(Item {
-        number,
-        kind: rule.kind.clone()?,
-        presets: presets(alloc, keys, &rule.kind, &name, target)?,
-        name,
-        place: rule.place,
-        names,
-        captured: copy_pairs(alloc, &rule.captured)?,
-        body: rule.body.clone()?,
-        builtin: false,
-    })
+    item.names = names;
+    Ok(item)
 }
 
 /// A copy of these names with their values.

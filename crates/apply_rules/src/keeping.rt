@@ -1,5 +1,5 @@
 // Which elements of a rule are kept.
-ghost use Rattle.std.specs.Prelude.{◌≡◌, ◌++◌, OnOk, IfErr, map};
+ghost use Rattle.std.specs.Prelude.{◌≡◌, ◌++◌, OnOk, IfErr, IfOk, IfSome, map};
 ghost use Rattle.eval_work.specs.Kept.{IsFit, PairsNamed};
 ghost use Rattle.eval_work.specs.Works.{state_of, view_of, plain_pair, plain_rule, Gives};
 ghost use Rattle.commit_meaning.specs.Names.{target_names};
@@ -38,6 +38,7 @@ pub(crate) fn element_item<'a>(
     requires prepared { IsPrepared work.old.store prepared.now }
     requires subject { names_of prepared.now.subject ≡ target_names (plain_target target.now) }
     ensures gives { Gives plain_kept result (state_of work.new) (element_run (view_of view.now) (plain_rule rule.now) (plain_target target.now) number (plain_element element.now) (state_of work.old)) }
+    ensures target { IfOk result (λ o. IfSome o (λ i. i.target ≡ target.now)) }
     ensures ready { OnOk result (IsReady view.now work.new) }
 {
     let own = trees_at(work, rule.place, &element.bound)?;
@@ -79,6 +80,7 @@ pub(crate) fn judged_item<'a>(
 ) -> Result<Option<Instance<'a>>, Stop>
     requires { IsReady view.now work.old }
     ensures gives { Gives plain_kept result (state_of work.new) (judged_element (view_of view.now) (plain_rule rule.now) (plain_target target.now) number key.now (target_names (plain_target target.now) ++ map plain_pair own.items) (state_of work.old)) }
+    ensures target { IfOk result (λ o. IfSome o (λ i. i.target ≡ target.now)) }
     ensures ready { OnOk result (IsReady view.now work.new) }
 {
     let verdict = judge(view, &rule.body, work)?;

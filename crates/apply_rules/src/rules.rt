@@ -6,6 +6,7 @@ ghost use Rattle.commit_meaning.specs.Rules.{instances as instances_of, pair_num
 ghost use Rattle.commit_meaning.specs.Staying.{Stays};
 ghost use Rattle.apply_rules.specs.Lawful.{IsApplicable};
 ghost use Rattle.apply_rules.specs.Plain.{plain_target, rule_answer};
+ghost use Rattle.apply_rules.specs.Sharing.{IsAnswerShared};
 
 use crate::evaluation::run_rule;
 use crate::target::target_no;
@@ -33,6 +34,8 @@ pub fn instances<'a>(
     requires { IsApplicable view.now rule.now target.now }
     ensures answer { IfOk result (λ a. rule_answer a ≡ instances_of (view_of view.now) (plain_rule rule.now) (plain_target target.now.target)) }
     ensures stays { (world : View) → IsPart (view_of view.now) world → IfOk result (λ a. Stays (rule_answer a) (instances_of world (plain_rule rule.now) (plain_target target.now.target))) }
+    // The values that the instances share are those of the view's store.
+    ensures shared { IfOk result (IsAnswerShared view.now.store.now) }
 {
     match run_rule(alloc, view, rule, target, spare) {
         Ok(made) => Ok(RuleAnswer::Instances(made)),

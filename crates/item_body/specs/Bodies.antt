@@ -9,7 +9,7 @@ use Rattle.eval_meaning.specs.Load.{most_open}
 use Rattle.eval_meaning.specs.Registered.{PlainItem}
 use Rattle.eval_meaning.specs.States.{State, Outcome, ◌>>=◌}
 use Rattle.eval_meaning.specs.Views.{View}
-use Rattle.commit_meaning.specs.Starts.{tree_at}
+use Rattle.commit_meaning.specs.Starts.{Trees, tree_at}
 use Rattle.item_start.specs.Bound.{Bound}
 
 -- the cells with a new dictionary of what was bound behind them
@@ -19,3 +19,7 @@ with_this b = b.cells ++ dict (dict_of b.pairs []) ∷ []
 -- what is left of an item's evaluation at the beginning of its body
 abbrev pub body_left : View → PlainItem → Value → State → Outcome Data
 body_left view i this s = body_of view most_open i.body s >>= λ _ s1. tree_at i.place this s1
+
+-- an item in whose body these names are bound in place of its own
+abbrev pub under_names : Trees → PlainItem → PlainItem
+under_names ns i = record i { names = ns }

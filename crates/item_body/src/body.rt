@@ -10,11 +10,12 @@ ghost use Rattle.eval_work.specs.Kept.{HasGlobals, IsKept, IsLater, Named};
 ghost use Rattle.eval_work.specs.Works.{state_of, view_of, plain_item, Gives};
 ghost use Rattle.commit_meaning.specs.Answers.{answered};
 ghost use Rattle.commit_meaning.specs.Items.{item_run};
+ghost use Rattle.commit_meaning.specs.Starts.{Trees};
 ghost use Rattle.item_start.specs.Answers.{Answers};
 ghost use Rattle.item_start.specs.Bound.{bound_in};
 ghost use Rattle.item_start.specs.Ready.{IsReady};
-ghost use Rattle.item_body.specs.Bodies.{body_left, with_this};
-ghost use Rattle.item_body.specs.Lawful.{IsRunnable};
+ghost use Rattle.item_body.specs.Bodies.{body_left, under_names, with_this};
+ghost use Rattle.item_body.specs.Lawful.{AreBound, AreUsable, IsRunnable};
 
 use dsl_eval::eval_body;
 use dsl_syntax::Block;
@@ -24,14 +25,44 @@ use item_start::{begin, bind_trees, enter_frame, tree_at};
 use site_base::{OutOfMemory, Row, Text, Tree};
 use std::alloc::Global;
 
+/// Names that are bound to values, and the store that has these behind the load's cells.
+#[derive(Drop)]
+pub struct BoundNames {
+    pub store: Store,
+    pub names: Vec<(Text, Value)>,
+}
+
 /// The tree of an item's object before it is checked: the body is run with `this` being the presets, and then `this` becomes a
-/// tree. It ends early by a fault of either, by a read that isn't decided, or by want of memory.
-pub(crate) fn object_tree(alloc: Global, view: &WorldView, item: &Item) -> Result<Tree, Stop>
-    requires { IsRunnable view.now item.now }
-    ensures { Answers tree_view item.now.number result (answered item.now.number (item_run (view_of view.now) (plain_item item.now))) }
+/// tree. It ends early by a fault of either, by a read that isn't decided, or by want of memory. These names are bound in the body, in place
+/// of the item's own.
+pub(crate) fn object_tree(
+    alloc: Global,
+    view: &WorldView,
+    item: &Item,
+    bound: BoundNames,
+) -> Result<Tree, Stop>
+    requires runnable { IsRunnable view.now item.now }
+    requires usable { AreUsable view.now.store.now bound }
+    ensures { (ns : Trees) → AreBound view.now.store.now ns bound → Answers tree_view item.now.number result (answered item.now.number (item_run (view_of view.now) (under_names ns (plain_item item.now)))) }
 {
-    let mut work = begin_body(alloc, view, item)?;
+    let mut work = begin_under(alloc, view, item, bound)?;
     run_body(view, item, &mut work)
+}
+
+/// The names of an item with their values, in a fork of the load's store.
+pub(crate) fn bound_names(
+    alloc: Global,
+    view: &WorldView,
+    item: &Item,
+) -> Result<BoundNames, OutOfMemory>
+    requires { IsRunnable view.now item.now }
+    ensures usable { IfOk result (AreUsable view.now.store.now) }
+    ensures bound { IfOk result (AreBound view.now.store.now (plain_item item.now).names) }
+{
+    let mut store = view.store.fork()?;
+    let mut names = Vec::new(alloc);
+    bind_trees(&mut store, &mut names, &item.names)?;
+    Ok(BoundNames { store, names })
 }
 
 /// The work in which an item's body is run, at the body's beginning: in a fork of the load's store, with a whole budget and `this`
@@ -42,16 +73,31 @@ pub fn begin_body(alloc: Global, view: &WorldView, item: &Item) -> Result<Work, 
     ensures ready { IfOk result (IsReady view.now) }
     ensures memory { IfErr result (λ e. e ≡ Stop.Memory) }
 {
-    let mut store = view.store.fork()?;
-    let mut bound = Vec::new(alloc);
-    bind_trees(&mut store, &mut bound, &item.names)?;
+    let bound = bound_names(alloc, view, item)?;
+    begin_under(alloc, view, item, bound)
+}
+
+/// The same with these names in place of the item's own.
+fn begin_under(
+    alloc: Global,
+    view: &WorldView,
+    item: &Item,
+    bound: BoundNames,
+) -> Result<Work, Stop>
+    requires runnable { IsRunnable view.now item.now }
+    requires usable { AreUsable view.now.store.now bound }
+    ensures left { (ns : Trees) → AreBound view.now.store.now ns bound → IfOk result (λ w. item_run (view_of view.now) (under_names ns (plain_item item.now)) ≡ body_left (view_of view.now) (plain_item item.now) w.this (state_of w)) }
+    ensures ready { IfOk result (IsReady view.now) }
+    ensures memory { IfErr result (λ e. e ≡ Stop.Memory) }
+{
+    let BoundNames { mut store, names } = bound;
     let this = new_this(alloc, &mut store, item)?;
     let task = Task::Item {
         kind: item.kind.clone()?,
-        bound: by_name(alloc, &bound)?,
+        bound: by_name(alloc, &names)?,
     };
     let mut work = begin(alloc, store, task, Vec::new(alloc));
-    enter_frame(&mut work, this, &item.captured, &bound)?;
+    enter_frame(&mut work, this, &item.captured, &names)?;
     Ok(work)
 }
 

@@ -6,13 +6,15 @@ ghost use Rattle.eval_meaning.specs.Views.{View, IsPart};
 ghost use Rattle.eval_work.specs.Works.{view_of, plain_item};
 ghost use Rattle.commit_meaning.specs.Answers.{made};
 ghost use Rattle.commit_meaning.specs.Items.{item_answer, object_of as object_made, checked as checked_answer};
+ghost use Rattle.commit_meaning.specs.Starts.{Trees};
 ghost use Rattle.commit_meaning.specs.Staying.{Stays};
-ghost use Rattle.item_body.specs.Lawful.{IsRunnable};
+ghost use Rattle.item_body.specs.Bodies.{under_names};
+ghost use Rattle.item_body.specs.Lawful.{AreBound, AreUsable, IsRunnable};
 ghost use Rattle.item_body.specs.Plain.{plain_answer};
 
-use crate::ItemAnswer;
-use crate::body::object_tree;
+use crate::body::{bound_names, object_tree};
 use crate::full_name::full_name;
+use crate::{BoundNames, ItemAnswer};
 use eval_work::{Item, Stop, WorldView};
 use object_types::check_object;
 use site_base::{Diag, Diags, OutOfMemory, Row, Tree};
@@ -25,13 +27,28 @@ use std::sync::Arc;
 /// First the body is run, with `this` being the presets, and the item's fault is told; then `this` becomes a tree, which
 /// may be `Cyclic`, `FunctionValue` or `SpaceLimit` at the item; then the attributes are checked, as `check_object` (object_types)
 /// says. An answer that isn't blocked stays the same over every view that shows more, as over the whole world.
-#[tactic(auto, unfolding(commit_meaning::specs::Items::item_answer))]
 pub fn run_item(alloc: Global, view: &WorldView, item: &Item) -> Result<ItemAnswer, OutOfMemory>
     requires { IsRunnable view.now item.now }
     ensures answer { IfOk result (λ a. plain_answer a ≡ item_answer (view_of view.now) (plain_item item.now)) }
     ensures stays { (world : View) → IsPart (view_of view.now) world → IfOk result (λ a. Stays (plain_answer a) (item_answer world (plain_item item.now))) }
 {
-    match object_tree(alloc, view, item) {
+    let bound = bound_names(alloc, view, item)?;
+    run_bound(alloc, view, item, bound)
+}
+
+/// What an item comes to, as [`run_item`] says, in whose body these names are bound in place of its own.
+pub fn run_bound(
+    alloc: Global,
+    view: &WorldView,
+    item: &Item,
+    bound: BoundNames,
+) -> Result<ItemAnswer, OutOfMemory>
+    requires runnable { IsRunnable view.now item.now }
+    requires usable { AreUsable view.now.store.now bound }
+    ensures answer { (ns : Trees) → AreBound view.now.store.now ns bound → IfOk result (λ a. plain_answer a ≡ item_answer (view_of view.now) (under_names ns (plain_item item.now))) }
+    ensures stays { (ns : Trees) → AreBound view.now.store.now ns bound → (world : View) → IsPart (view_of view.now) world → IfOk result (λ a. Stays (plain_answer a) (item_answer world (under_names ns (plain_item item.now)))) }
+{
+    match object_tree(alloc, view, item, bound) {
         Ok(tree) => checked(alloc, item, tree),
         Err(Stop::Fault { place, kind, text }) => {
             let number = item.number;

@@ -9,6 +9,6 @@ mod full_name;
 mod item;
 mod item_answer;
 
-pub use body::begin_body;
-pub use item::run_item;
+pub use body::{BoundNames, begin_body};
+pub use item::{run_bound, run_item};
 pub use item_answer::ItemAnswer;

@@ -5,6 +5,7 @@ use Rattle.std.specs.Borrow.{Bor}
 use Rattle.std.specs.Str.{bytes_eq}
 use Rattle.std.proofs.lemmas.List.{drop_more, map-append}
 use Rattle.std.proofs.lemmas.List.Concat.{flat_map-append}
+use Rattle.std.proofs.lemmas.List.Elements.{All-cons, All-nil}
 use Rattle.site_base.specs.declared.diag.Diag.{Diag}
 use Rattle.site_model.specs.PlainSite.{PlainObject, object_view}
 use Rattle.site_model.specs.declared.object.Object.{Object}
@@ -17,7 +18,10 @@ use Rattle.eval_work.specs.declared.rule.Rule.{Rule}
 use Rattle.commit_meaning.specs.Answers.{Answer, all_made, diags_in}
 use Rattle.commit_meaning.specs.Names.{Target}
 use Rattle.commit_meaning.specs.Rules.{instances}
-use Rattle.wave_objects.specs.Applying.{AreApplied, AreGrown, AreNew, IsApplied, IsGrown, AppliedNamed, answers_to, rules_of, faults_by, made_by, applied_rule, targets_in, targets_of_one, wanted}
+use Rattle.apply_rules.specs.Plain.{plain_instance}
+use Rattle.apply_rules.specs.Sharing.{AreSharedIn, IsSharedIn}
+use Rattle.apply_rules.specs.declared.instance.Instance.{Instance}
+use Rattle.wave_objects.specs.Applying.{AreApplied, AreGrown, AreNew, IsApplied, IsGrown, AppliedNamed, AppliedShared, answers_to, rules_of, faults_by, made_by, applied_rule, targets_in, targets_of_one, wanted}
 use Rattle.wave_objects.specs.Steps.{answers_at}
 use Rattle.wave_objects.specs.declared.applying.Applied.{Applied}
 use Rattle.wave_objects.proofs.TargetLaws.{targets_are}
@@ -96,6 +100,15 @@ module _ (view : View) (all : List PlainObject) where
   pub new_applied : (ss : List Applied) → AreNew ss → AreApplied view all all ss
   new_applied [] h = tt
   new_applied (s ∷ ss) h = (record { made = ap (λ xs. xs ++ left all_made s.rule all) h.0.made; faults = ap (λ xs. xs ++ left diags_in s.rule all) h.0.faults }, new_applied ss h.1)
+
+-- what was made shares nothing, where nothing was made
+none_shared : (c : Contents) (is : List Instance) → map plain_instance is ≡ [] → AreSharedIn c is
+none_shared c [] e = All-nil (IsSharedIn c)
+none_shared c (i ∷ is) e = absurd cc
+
+pub new_shared : (c : Contents) (ss : List Applied) → AreNew ss → AppliedShared c ss
+new_shared c [] h = All-nil (λ (s : Applied). AreSharedIn c s.made.items)
+new_shared c (s ∷ ss) h = All-cons (λ (x : Applied). AreSharedIn c x.made.items) s ss (none_shared c s.made.items h.0.made) (new_shared c ss h.1)
 
 pub same_rules : (view : View) (kind : List ℕ) (ts : List Target) (ss us : List Applied) → AreGrown view kind ts ss us → rules_of us ≡ rules_of ss
 same_rules view kind ts [] [] g = refl

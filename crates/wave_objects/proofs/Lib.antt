@@ -5,3 +5,5 @@ pub mod NoGroups
 pub mod JoinLaws
 pub mod NamedRules
 pub mod GatherLaws
+pub mod BoundLaws
+pub mod WaitLaws

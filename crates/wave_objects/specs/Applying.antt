@@ -1,5 +1,5 @@
 -- What the rules of a wave make, target after target.
-use Rattle.std.specs.Prelude.{◌≡◌, ℕ, List, [], ◌∷◌, ◌++◌, codes, map, if◌then◌else◌}
+use Rattle.std.specs.Prelude.{◌≡◌, ℕ, All, List, [], ◌∷◌, ◌++◌, codes, map, if◌then◌else◌}
 use Rattle.std.specs.List.{AllByRecursion, flat_map}
 use Rattle.std.specs.Str.{bytes_eq}
 use Rattle.site_base.specs.declared.diag.Diag.{Diag}
@@ -14,6 +14,9 @@ use Rattle.commit_meaning.specs.Names.{Target, host}
 use Rattle.commit_meaning.specs.Rules.{instances}
 use Rattle.commit_meaning.specs.Worlds.{service_targets}
 use Rattle.apply_rules.specs.Plain.{plain_instance}
+use Rattle.apply_rules.specs.Sharing.{AreSharedIn}
+use Rattle.wave_order.specs.WaveItems.{as_made}
+use Rattle.wave_order.specs.declared.pending.Pending.{Pending}
 use Rattle.wave_objects.specs.declared.applying.Applied.{Applied}
 
 -- ---- targets
@@ -35,6 +38,9 @@ applied_rule x = plain_rule x.rule.now
 abbrev pub made_by : Applied → List PlainItem
 made_by x = map plain_instance x.made.items
 
+abbrev pub pending_by : Applied → List Pending
+pending_by x = map as_made x.made.items
+
 abbrev pub faults_by : Applied → List Diag
 faults_by x = x.faults
 
@@ -44,6 +50,10 @@ rules_of xs = map applied_rule xs
 -- what each rule captured names cells and functions of a store
 abbrev pub AppliedNamed : Contents → List Applied → Type 0
 AppliedNamed c xs = AllByRecursion (λ x. PairsNamed c x.rule.now.captured.items) xs
+
+-- what the instances that each rule has made share was made in a store
+abbrev pub AppliedShared : Contents → List Applied → Type 0
+AppliedShared c xs = All (λ x. AreSharedIn c x.made.items) xs
 
 -- nothing was made, and nothing was wrong
 pub record IsNew (x : Applied) : Type 0 where

@@ -2,14 +2,16 @@
 ghost use Rattle.std.specs.Prelude.{◌≡◌, ◌++◌, ◌∷◌, [], ℕ, List, IfOk, OnOk, map};
 ghost use Rattle.std.specs.List.{filter};
 ghost use Rattle.site_model.specs.PlainSite.{object_view};
+ghost use Rattle.dsl_value.specs.Contents.{Contents};
 ghost use Rattle.eval_work.specs.Kept.{PairsNamed};
 ghost use Rattle.eval_work.specs.Works.{view_of, plain_rule};
 ghost use Rattle.item_start.specs.Ready.{IsLawfulView};
 ghost use Rattle.apply_rules.specs.Plain.{plain_instance, plain_target, rule_answer};
 ghost use Rattle.apply_rules.specs.Preparations.{IsPreparedTarget};
+ghost use Rattle.apply_rules.specs.Sharing.{AreSharedIn, IsAnswerShared};
 ghost use Rattle.commit_meaning.specs.Answers.{all_made, diags_in};
 ghost use Rattle.commit_meaning.specs.Waves.{is_in_wave as in_wave};
-ghost use Rattle.wave_objects.specs.Applying.{AppliedNamed, AreApplied, AreGrown, AreNew, IsGrown, rules_of, targets_of_one};
+ghost use Rattle.wave_objects.specs.Applying.{AppliedNamed, AppliedShared, AreApplied, AreGrown, AreNew, IsGrown, rules_of, targets_of_one};
 ghost use Rattle.wave_objects.specs.ByType.{places_to, type_places};
 
 use crate::by_type::{RulesOfType, by_type, places_in};
@@ -64,6 +66,7 @@ pub(crate) fn apply_to_all<'a>(
     requires new { AreNew rules.old.items }
     ensures rules { OnOk result (rules_of rules.new.items ≡ rules_of rules.old.items) }
     ensures applied { OnOk result (AreApplied (view_of view.now) (map object_view objects.now) [] rules.new.items) }
+    ensures shared { OnOk result (AppliedShared view.now.store.now rules.new.items) }
 {
     let types = by_type(alloc, rules)?;
     let mut spare = Locals::new(alloc);
@@ -85,8 +88,10 @@ fn apply_to<'a>(
 ) -> Result<(), OutOfMemory>
     requires lawful { IsLawfulView view.now }
     requires named { AppliedNamed view.now.store.now rules.old.items }
+    requires shared { AppliedShared view.now.store.now rules.old.items }
     requires types { (kind : List ℕ) → type_places kind types.now ≡ places_to kind 0 rules.old.items }
-    ensures { OnOk result (AreGrown (view_of view.now) object.now.kind (targets_of_one (map object_view objects.now) (object_view object.now)) rules.old.items rules.new.items) }
+    ensures grown { OnOk result (AreGrown (view_of view.now) object.now.kind (targets_of_one (map object_view objects.now) (object_view object.now)) rules.old.items rules.new.items) }
+    ensures shared { OnOk result (AppliedShared view.now.store.now rules.new.items) }
 {
     let kind = object.kind.as_str();
     let places = places_in(types, kind);
@@ -111,8 +116,10 @@ fn apply_at<'a>(
 ) -> Result<(), OutOfMemory>
     requires lawful { IsLawfulView view.now }
     requires named { AppliedNamed view.now.store.now rules.old.items }
+    requires shared { AppliedShared view.now.store.now rules.old.items }
     requires places { places.now ≡ places_to kind.now 0 rules.old.items }
-    ensures { OnOk result (AreGrown (view_of view.now) kind.now (plain_target target.entry ∷ []) rules.old.items rules.new.items) }
+    ensures grown { OnOk result (AreGrown (view_of view.now) kind.now (plain_target target.entry ∷ []) rules.old.items rules.new.items) }
+    ensures shared { OnOk result (AppliedShared view.now.store.now rules.new.items) }
 {
     let prepared = PreparedTarget::new(alloc, view.store, target)?;
     for place in places {
@@ -132,8 +139,10 @@ impl<'a> Applied<'a> {
     ) -> Result<(), OutOfMemory>
         requires lawful { IsLawfulView view.now }
         requires captured { PairsNamed view.now.store.now self.old.rule.now.captured.items }
+        requires shared { AreSharedIn view.now.store.now self.old.made.items }
         requires prepared { IsPreparedTarget view.now.store.now target.now }
-        ensures { OnOk result (IsGrown (view_of view.now) (plain_target target.now.target ∷ []) self.old self.new) }
+        ensures grown { OnOk result (IsGrown (view_of view.now) (plain_target target.now.target ∷ []) self.old self.new) }
+        ensures shared { OnOk result (AreSharedIn view.now.store.now self.new.made.items) }
     {
         let answer = instances(alloc, view, self.rule, target, spare)?;
         self.take(answer)
@@ -144,6 +153,7 @@ impl<'a> Applied<'a> {
         ensures rule { OnOk result (self.new.rule ≡ self.old.rule) }
         ensures made { OnOk result (map plain_instance self.new.made.items ≡ map plain_instance self.old.made.items ++ all_made (rule_answer answer.entry)) }
         ensures faults { OnOk result (self.new.faults ≡ self.old.faults ++ diags_in (rule_answer answer.entry)) }
+        ensures shared { (s : Contents) → AreSharedIn s self.old.made.items → IsAnswerShared s answer.entry → OnOk result (AreSharedIn s self.new.made.items) }
     {
         match answer {
             RuleAnswer::Instances(more) => {

@@ -10,8 +10,8 @@ ghost use Rattle.dsl_load.specs.Loads.{plain_parts};
 ghost use Rattle.commit_meaning.specs.Answers.{all_made, diags_in};
 ghost use Rattle.commit_meaning.specs.Waves.{is_in_wave as in_wave, wave_items, wave_answers};
 ghost use Rattle.commit_meaning.specs.Worlds.{world_view};
-ghost use Rattle.wave_order.specs.WaveItems.{plain_pending};
-ghost use Rattle.wave_objects.specs.Applying.{faults_by, made_by};
+ghost use Rattle.wave_order.specs.WaveItems.{AreWaitingIn, as_made, plain_pending};
+ghost use Rattle.wave_objects.specs.Applying.{faults_by, made_by, pending_by};
 ghost use Rattle.wave_objects.specs.Plain.{with_items};
 ghost use Rattle.wave_objects.specs.Steps.{over, answers_at};
 
@@ -46,6 +46,7 @@ pub fn gather<'a>(
     requires view { view_of view.now ≡ world_view (plain_parts parts.now) (map object_view objects.now) }
     ensures items { IfOk result (λ g. map plain_pending g.items.items ≡ wave_items (plain_parts (with_items items parts.now)) (over objects.now) wave) }
     ensures faults { IfOk result (λ g. g.faults ≡ flat_map diags_in (wave_answers (plain_parts (with_items items parts.now)) (over objects.now) wave)) }
+    ensures shared { IfOk result (λ g. AreWaitingIn view.now.store.now g.items.items) }
 {
     let mut gathered = Gathered {
         items: Vec::new(alloc),
@@ -70,8 +71,10 @@ fn add_instances<'a>(
 ) -> Result<(), OutOfMemory>
     requires lawful { IsLawfulView view.now }
     requires captured { RulesNamed view.now.store.now rules.now }
+    requires shared { AreWaitingIn view.now.store.now out.old.items.items }
     ensures items { OnOk result (map plain_pending out.new.items.items ≡ map plain_pending out.old.items.items ++ flat_map all_made (flat_map (answers_at (view_of view.now) objects.now) (filter (λ r. in_wave wave r.kind) (map plain_rule rules.now)))) }
     ensures faults { OnOk result (out.new.faults ≡ out.old.faults ++ flat_map diags_in (flat_map (answers_at (view_of view.now) objects.now) (filter (λ r. in_wave wave r.kind) (map plain_rule rules.now)))) }
+    ensures shared { OnOk result (AreWaitingIn view.now.store.now out.new.items.items) }
 {
     let mut of_wave = unapplied(alloc, rules, wave)?;
     apply_to_all(alloc, view, objects, &mut of_wave)?;
@@ -82,6 +85,7 @@ fn add_instances<'a>(
 fn add_applied<'a>(rules: Vec<Applied<'a>>, out: &mut Gathered<'a>) -> Result<(), OutOfMemory>
     ensures items { OnOk result (map plain_pending out.new.items.items ≡ map plain_pending out.old.items.items ++ flat_map made_by rules.entry.items) }
     ensures faults { OnOk result (out.new.faults ≡ out.old.faults ++ flat_map faults_by rules.entry.items) }
+    ensures whole { OnOk result (out.new.items.items ≡ out.old.items.items ++ flat_map pending_by rules.entry.items) }
 {
     for applied in rules {
         add_made(applied.made, &mut out.items)?;
@@ -91,7 +95,8 @@ fn add_applied<'a>(rules: Vec<Applied<'a>>, out: &mut Gathered<'a>) -> Result<()
 }
 
 fn add_made<'a>(made: Vec<Instance<'a>>, out: &mut Vec<Pending<'a>>) -> Result<(), OutOfMemory>
-    ensures { OnOk result (map plain_pending out.new.items ≡ map plain_pending out.old.items ++ map plain_instance made.entry.items) }
+    ensures items { OnOk result (map plain_pending out.new.items ≡ map plain_pending out.old.items ++ map plain_instance made.entry.items) }
+    ensures whole { OnOk result (out.new.items ≡ out.old.items ++ map as_made made.entry.items) }
 {
     out.reserve_exact(made.len())?;
     for instance in made {

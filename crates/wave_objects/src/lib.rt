@@ -1,10 +1,11 @@
 //! The objects of one wave: its items, what they come to, and the groups that take them.
 //!
 //! In reading order: the targets of rules (`targets`), the rules by the types that they go to (`by_type`), what rules make at their
-//! targets (`applying`), the items of a wave (`gathering`), their objects (`making`), and the groups of these (`joining`). What they have
-//! to come to is `wave_items`, `item_answer` and `group_members` (commit_meaning), in words in docs/OBJECTS.md.
+//! targets (`applying`), the items of a wave (`gathering`), what they come to (`answering`), their objects (`making`), and the groups of these
+//! (`joining`). What they have to come to is `wave_items`, `item_answer` and `group_members` (commit_meaning), in words in docs/OBJECTS.md.
 #![tactic(auto)]
 
+mod answering;
 mod applying;
 mod by_type;
 mod gathering;

@@ -10,14 +10,15 @@ ghost use Rattle.commit_meaning.specs.Answers.{made_in, diags_in};
 ghost use Rattle.commit_meaning.specs.Items.{item_answer};
 ghost use Rattle.commit_meaning.specs.Waves.{group_made, is_group as group_type};
 ghost use Rattle.object_types.specs.Names.{type_named};
-ghost use Rattle.wave_order.specs.WaveItems.{plain_pending};
+ghost use Rattle.wave_order.specs.WaveItems.{AreWaitingIn, IsWaitingIn, plain_pending};
 ghost use Rattle.item_body.specs.Plain.{plain_answer};
 ghost use Rattle.wave_objects.specs.Captured.{AreNamed};
 ghost use Rattle.wave_objects.specs.Steps.{groups_by};
 
+use crate::answering::answer_of;
 use apply_rules::PresetKeys;
 use eval_work::{Item, WorldView};
-use item_body::{ItemAnswer, run_item};
+use item_body::ItemAnswer;
 use object_types::ObjectType;
 use site_base::{Diags, OutOfMemory, Row};
 use site_model::Object;
@@ -40,6 +41,7 @@ pub fn make_objects(
 ) -> Result<Objects, OutOfMemory>
     requires lawful { IsLawfulView view.now }
     requires named { AreNamed view.now.store.now (map plain_pending items.items) }
+    requires shared { AreWaitingIn view.now.store.now items.items }
     ensures objects { IfOk result (λ o. map object_view o.objects.items ≡ flat_map (λ i. made_in (item_answer (view_of view.now) i)) (map plain_pending items.entry.items)) }
     ensures groups { IfOk result (λ o. map plain_item o.groups.items ≡ filter (group_made (view_of view.now)) (map plain_pending items.entry.items)) }
     ensures faults { IfOk result (λ o. o.faults ≡ flat_map (λ i. diags_in (item_answer (view_of view.now) i)) (map plain_pending items.entry.items)) }
@@ -67,26 +69,33 @@ fn make(
     requires lawful { IsLawfulView view.now }
     requires keys { AreKeys keys.now }
     requires named { PairsNamed view.now.store.now (plain_pending pending).captured }
+    requires shared { IsWaitingIn view.now.store.now pending }
     ensures objects { OnOk result (map object_view out.new.objects.items ≡ map object_view out.old.objects.items ++ made_in (item_answer (view_of view.now) (plain_pending pending.entry))) }
     ensures groups { OnOk result (map plain_item out.new.groups.items ≡ map plain_item out.old.groups.items ++ groups_by (plain_pending pending.entry) (item_answer (view_of view.now) (plain_pending pending.entry))) }
     ensures faults { OnOk result (out.new.faults ≡ out.old.faults ++ diags_in (item_answer (view_of view.now) (plain_pending pending.entry))) }
 {
-    let item = pending.into_item(alloc, keys)?;
-    let answer = run_item(alloc, view, &item)?;
-    add_answer(item, answer, out)
+    let answer = answer_of(alloc, view, keys, &pending)?;
+    add_answer(alloc, keys, pending, answer, out)
 }
 
 /// Adds what an item came to. Over a world nothing is blocked.
-fn add_answer(item: Item, answer: ItemAnswer, out: &mut Objects) -> Result<(), OutOfMemory>
+fn add_answer(
+    alloc: Global,
+    keys: &PresetKeys,
+    pending: Pending,
+    answer: ItemAnswer,
+    out: &mut Objects,
+) -> Result<(), OutOfMemory>
+    requires { AreKeys keys.now }
     ensures objects { OnOk result (map object_view out.new.objects.items ≡ map object_view out.old.objects.items ++ made_in (plain_answer answer)) }
-    ensures groups { OnOk result (map plain_item out.new.groups.items ≡ map plain_item out.old.groups.items ++ groups_by (plain_item item) (plain_answer answer)) }
+    ensures groups { OnOk result (map plain_item out.new.groups.items ≡ map plain_item out.old.groups.items ++ groups_by (plain_pending pending.entry) (plain_answer answer)) }
     ensures faults { OnOk result (out.new.faults ≡ out.old.faults ++ diags_in (plain_answer answer)) }
 {
     match answer {
         ItemAnswer::Made(object) => {
             out.objects.push(object)?;
-            if is_group(item.kind.as_str()) {
-                out.groups.push(item)?;
+            if is_group(pending.kind()) {
+                out.groups.push(pending.into_item(alloc, keys)?)?;
             }
             Ok(())
         }

@@ -37,6 +37,16 @@ impl<'a> Pending<'a> {
         }
     }
 
+    /// The type of its object.
+    pub fn kind(&self) -> &str
+        ensures { result.now ≡ (plain_pending self.now).kind }
+    {
+        match self {
+            Pending::Registered(item) => item.kind.as_str(),
+            Pending::Made(instance) => instance.kind(),
+        }
+    }
+
     /// The item itself.
     pub fn into_item(self, alloc: Global, keys: &PresetKeys) -> Result<Item, OutOfMemory>
         requires { AreKeys keys.now }

@@ -3,7 +3,7 @@ ghost use Rattle.std.specs.Prelude.{◌≡◌, ◌++◌, Bool, not, IfOk, OnOk, 
 ghost use Rattle.std.specs.List.{filter};
 ghost use Rattle.eval_work.specs.Works.{plain_item};
 ghost use Rattle.commit_meaning.specs.Waves.{is_in_wave as in_wave};
-ghost use Rattle.wave_order.specs.WaveItems.{kept, plain_pending};
+ghost use Rattle.wave_order.specs.WaveItems.{as_registered, kept, plain_pending};
 
 use crate::Pending;
 use eval_work::Item;
@@ -54,7 +54,8 @@ pub fn add_registered<'a>(
     items: Vec<Item>,
     wave: u8,
 ) -> Result<(), OutOfMemory>
-    ensures { OnOk result (map plain_pending out.new.items ≡ map plain_pending out.old.items ++ filter (λ i. in_wave wave i.kind) (map plain_item items.items)) }
+    ensures items { OnOk result (map plain_pending out.new.items ≡ map plain_pending out.old.items ++ filter (λ i. in_wave wave i.kind) (map plain_item items.items)) }
+    ensures whole { OnOk result (out.new.items ≡ out.old.items ++ map as_registered (filter (λ i. in_wave wave i.kind) items.items)) }
 {
     for item in items {
         add_one(out, item, wave)?;
@@ -63,7 +64,8 @@ pub fn add_registered<'a>(
 }
 
 fn add_one<'a>(out: &mut Vec<Pending<'a>>, item: Item, wave: u8) -> Result<(), OutOfMemory>
-    ensures { OnOk result (map plain_pending out.new.items ≡ map plain_pending out.old.items ++ kept (in_wave wave item.kind) (plain_item item)) }
+    ensures items { OnOk result (map plain_pending out.new.items ≡ map plain_pending out.old.items ++ kept (in_wave wave item.kind) (plain_item item)) }
+    ensures whole { OnOk result (out.new.items ≡ out.old.items ++ kept (in_wave wave item.kind) (as_registered item)) }
 {
     if is_in_wave(wave, item.kind.as_str()) {
         out.push(Pending::Registered(item))?;

@@ -11,11 +11,11 @@ use Rattle.apply_rules.specs.Plain.{plain_instance, plain_target}
 use Rattle.apply_rules.proofs.Running.{empty}
 use Rattle.apply_rules.proofs.evaluation.run_elements.Goals as goal
 
-pub returns-then-is_empty : goal.returns-then-is_empty
-returns-then-is_empty c =
+pub returns-then-is_empty-clause-gives : goal.returns-then-is_empty-clause-gives
+returns-then-is_empty-clause-gives c =
     let s = state_of c.args.work.now in
     let none : c.args.elements.now ≡ [] = empty c.args.elements.now (sym c.is_empty.ensures ∙ c.if-is_empty.true) in
-    ap (λ es. elements_run (view_of c.args.view.now) (plain_rule c.args.rule.now) (plain_target c.args.target.now) (unframed s) 1 (map plain_element es) [] s) none
+    ap (λ es. elements_run (view_of c.args.view.now) (plain_rule c.args.rule.now) (plain_target c.args.share.now.target) (unframed s) 1 (map plain_element es) [] s) none
     ∙ ap (λ is. gives (map plain_instance is) s) (sym c.new-items.ensures.items)
 
 pub element_item-requires-clause-prepared : goal.element_item-requires-clause-prepared

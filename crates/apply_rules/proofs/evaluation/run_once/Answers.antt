@@ -10,8 +10,8 @@ use Rattle.apply_rules.specs.Plain.{plain_target, plain_items}
 use Rattle.apply_rules.proofs.Running.{once_is}
 use Rattle.apply_rules.proofs.evaluation.run_once.Goals as goal
 
-pub returns : goal.returns
-returns c =
+pub returns-clause-answer : goal.returns-clause-answer
+returns-clause-answer c =
     let v = view_of c.args.view.now in
     let r = plain_rule c.args.rule.now in
     let t = plain_target c.args.target.now.target in
@@ -19,4 +19,7 @@ returns c =
     let s = state_of c.in_ok-work.work in
     let once : rule_run v r t ≡ judged_element v r t 0 [] (target_names t ++ []) s = once_is v r t c.requires.once ∙ ap (judged_element v r t 0 [] (target_names t ++ [])) (sym c.in_ok-work.ensures.state) in
     subst (λ o. Answers plain_items n c.one_item-items.result (answered n o)) (sym once)
-    (gives_answers plain_items n c.one_item-items.result (state_of c.one_item-items.new.work) (judged_element v r t 0 [] (target_names t ++ []) s) c.one_item-items.ensures)
+    (gives_answers plain_items n c.one_item-items.result (state_of c.one_item-items.new.work) (judged_element v r t 0 [] (target_names t ++ []) s) c.one_item-items.ensures.gives)
+
+pub returns-clause-shared : goal.returns-clause-shared
+returns-clause-shared c = c.one_item-items.ensures.shared c.args.view.now.store.now

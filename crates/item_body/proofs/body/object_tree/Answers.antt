@@ -8,7 +8,7 @@ use Rattle.item_body.specs.Bodies.{body_left}
 use Rattle.item_body.proofs.body.object_tree.Goals as goal
 
 pub returns : goal.returns
-returns c =
+returns c = λ ns b.
     let n = c.args.item.now.number in
-    subst (λ o. Answers tree_view n c.run_body.result (answered n o)) (sym c.in_ok-work.ensures.left)
+    subst (λ o. Answers tree_view n c.run_body.result (answered n o)) (sym (c.in_ok-work.ensures.left ns b))
     (gives_answers tree_view n c.run_body.result (state_of c.run_body.new.work) (body_left (view_of c.args.view.now) (plain_item c.args.item.now) c.in_ok-work.work.this (state_of c.in_ok-work.work)) c.run_body.ensures)

@@ -6,7 +6,7 @@ use Rattle.site_model.specs.declared.object.Object.{Object}
 use Rattle.eval_work.specs.Works.{view_of}
 use Rattle.wave_objects.specs.Applying.{AreApplied, targets_of_one}
 use Rattle.wave_objects.specs.ByType.{places_to}
-use Rattle.wave_objects.proofs.ApplyLaws.{new_applied, next_applied, same_rules, still_applied_named}
+use Rattle.wave_objects.proofs.ApplyLaws.{new_applied, new_shared, next_applied, same_rules, still_applied_named}
 use Rattle.wave_objects.proofs.TypeLaws.{same_places}
 use Rattle.wave_objects.proofs.applying.apply_to_all.Goals as goal
 
@@ -15,6 +15,7 @@ loop-object-init c = record {
   applied = new_applied (view_of c.args.view.now) (map object_view c.args.objects.now) c.args.rules.now.items c.requires.new;
   rules = refl;
   named = c.requires.named;
+  shared = new_shared c.args.view.now.store.now c.args.rules.now.items c.requires.new;
   types = λ kind. c.in_ok-types.ensures kind ∙ ap (places_to kind 0) c.deref.ensures.value;
 }
 
@@ -31,10 +32,11 @@ loop-object-preserved c =
     let within : i < length os = subst (λ (xs : List Object). i < length xs) c.as_slice-object-items.ensures c.loop-object-test.true in
     let here : o ≡ get_or os i o = c.object-item.is ∙ ap (λ (xs : List Object). get_or xs i o) c.as_slice-object-items.ensures in
     record {
-      applied = next_applied view os i o before after within here so_far.applied c.in_ok-apply_to.ensures;
-      rules = same_rules view o.kind ts before after c.in_ok-apply_to.ensures ∙ so_far.rules;
-      named = still_applied_named c.args.view.now.store.now view o.kind ts before after c.in_ok-apply_to.ensures so_far.named;
-      types = λ kind. so_far.types kind ∙ sym (same_places view o.kind ts kind 0 before after c.in_ok-apply_to.ensures);
+      applied = next_applied view os i o before after within here so_far.applied c.in_ok-apply_to.ensures.grown;
+      rules = same_rules view o.kind ts before after c.in_ok-apply_to.ensures.grown ∙ so_far.rules;
+      named = still_applied_named c.args.view.now.store.now view o.kind ts before after c.in_ok-apply_to.ensures.grown so_far.named;
+      shared = c.in_ok-apply_to.ensures.shared;
+      types = λ kind. so_far.types kind ∙ sym (same_places view o.kind ts kind 0 before after c.in_ok-apply_to.ensures.grown);
     }
 
 pub returns-clause-applied : goal.returns-clause-applied

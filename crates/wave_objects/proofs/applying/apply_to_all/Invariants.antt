@@ -2,7 +2,7 @@
 use Rattle.std.proofs.Common.{◌≡◌, ℕ, List, drop, map}
 use Rattle.site_model.specs.PlainSite.{object_view}
 use Rattle.eval_work.specs.Works.{view_of}
-use Rattle.wave_objects.specs.Applying.{AreApplied, AppliedNamed, rules_of}
+use Rattle.wave_objects.specs.Applying.{AreApplied, AppliedNamed, AppliedShared, rules_of}
 use Rattle.wave_objects.specs.ByType.{places_to, type_places}
 use Rattle.wave_objects.proofs.applying.apply_to_all.Given as goal
 
@@ -11,5 +11,6 @@ invariant-loop-object l = record {
   applied : AreApplied (view_of l.view) (map object_view l.objects) (map object_view (drop l.object-index l.objects)) l.rules.items;
   rules : rules_of l.rules.items ≡ rules_of l.fn.rules.items;
   named : AppliedNamed l.view.store.now l.rules.items;
+  shared : AppliedShared l.view.store.now l.rules.items;
   types : (kind : List ℕ) → type_places kind l.types.items ≡ places_to kind 0 l.rules.items;
 }

@@ -6,6 +6,7 @@ use Rattle.eval_work.specs.Works.{view_of, plain_rule}
 use Rattle.commit_meaning.specs.Waves.{is_in_wave}
 use Rattle.wave_order.specs.WaveItems.{plain_pending}
 use Rattle.wave_objects.proofs.NamedRules.{kept_named}
+use Rattle.wave_objects.proofs.WaitLaws.{all_waiting}
 use Rattle.wave_objects.proofs.ApplyLaws.{faults_are, made_are, applied_named}
 use Rattle.wave_objects.proofs.gathering.add_instances.Goals as goal
 
@@ -25,3 +26,7 @@ returns-clause-faults c =
     subst (λ (ds : List Diag). OnOk c.add_applied.result (c.add_applied.new.out.faults ≡ c.args.out.now.faults ++ ds))
     (faults_are (view_of c.args.view.now) c.args.objects.now c.apply_to_all.new.rules.items (filter (λ r. is_in_wave c.args.wave r.kind) (map plain_rule c.args.rules.now)) c.in_ok-apply_to_all.ensures.applied (c.in_ok-apply_to_all.ensures.rules ∙ c.in_ok-of_wave.ensures.rules))
     c.add_applied.ensures.faults
+
+pub returns-clause-shared : goal.returns-clause-shared
+returns-clause-shared c =
+    all_waiting c.args.view.now.store.now c.add_applied.result c.args.out.now.items.items c.add_applied.new.out.items.items c.apply_to_all.new.rules.items c.add_applied.ensures.whole c.requires.shared c.in_ok-apply_to_all.ensures.shared

@@ -7,7 +7,7 @@ use Rattle.eval_work.specs.Works.{view_of, plain_item}
 use Rattle.commit_meaning.specs.Answers.{made_in, diags_in}
 use Rattle.commit_meaning.specs.Items.{item_answer}
 use Rattle.commit_meaning.specs.Waves.{group_made}
-use Rattle.wave_order.specs.WaveItems.{plain_pending}
+use Rattle.wave_order.specs.WaveItems.{AreWaitingIn, plain_pending}
 use Rattle.wave_objects.specs.Captured.{AreNamed}
 use Rattle.wave_objects.proofs.making.make_objects.Given as goal
 
@@ -19,4 +19,5 @@ invariant-loop-pending l =
     ≡ filter (group_made (view_of l.view)) (map plain_pending l.fn.items.items))
     × ((l.made.faults ++ flat_map (λ i. diags_in (item_answer (view_of l.view) i)) (map plain_pending (into_iter_items l.pending-iterator))
     ≡ flat_map (λ i. diags_in (item_answer (view_of l.view) i)) (map plain_pending l.fn.items.items))
-    × AreNamed l.view.store.now (map plain_pending (into_iter_items l.pending-iterator))))
+    × (AreNamed l.view.store.now (map plain_pending (into_iter_items l.pending-iterator))
+    × AreWaitingIn l.view.store.now (into_iter_items l.pending-iterator))))
