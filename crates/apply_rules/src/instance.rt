@@ -66,7 +66,8 @@ impl<'a> Instance<'a> {
         ensures { IfOk result (λ i. plain_item i ≡ plain_instance self.entry) }
     {
         let item = self.nameless_item(alloc, keys)?;
-        with_names(alloc, item, &self.target, self.own)
+        let target = self.target;
+        with_names(alloc, item, &target, self.own)
     }
 
     /// The item but for the names that are bound in its body, of which it has none. It shares the rule's body, and its presets share

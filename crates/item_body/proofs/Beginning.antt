@@ -1,5 +1,5 @@
 -- An item's evaluation up to the beginning of its body.
-use Rattle.std.proofs.Common.{◌≡◌, ℕ, List, [], ◌∷◌, ◌++◌, length, map, false, refl, ap, sym, ◌∙◌}
+use Rattle.std.proofs.Common.{◌≡◌, ℕ, List, [], length, map, false, refl, ap, sym, ◌∙◌}
 use Rattle.site_base.specs.declared.tree.Tree.{Tree}
 use Rattle.dsl_value.specs.Pairs.{Pairs, dict_of}
 use Rattle.dsl_value.specs.Contents.{PlainCell, Contents, with_cells, dict}

@@ -1,9 +1,4 @@
 -- The instances are at the target, and what they share are its names.
-use Rattle.std.proofs.Common.{◌≡◌, List, ap, subst}
-use Rattle.eval_meaning.specs.Registered.{PlainItem}
-use Rattle.dsl_syntax.specs.SyntaxView.{each_view}
-use Rattle.eval_work.specs.Works.{state_of, view_of, plain_rule}
-use Rattle.apply_rules.specs.Judging.{looped_items}
 use Rattle.apply_rules.proofs.Shared.{all_shared}
 use Rattle.apply_rules.proofs.evaluation.loop_items.Goals as goal
 
