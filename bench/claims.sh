@@ -283,7 +283,7 @@ def check_tables():
     same("bin/explain", "the kinds of diagnostics", re.findall(r'^    "(\w+)": \(', read("bin/explain"), re.M), kinds)
     faults = variants(next(path for path, text in sources("event_text").items() if "enum LineFault" in text), "LineFault")
     text = read("docs/FORMATS.md")
-    same("docs/FORMATS.md", "the faults of a command line", re.findall(r"^\| `?(\w+)`? \|", text.partition("What is wrong with a line")[2].partition("## ")[0], re.M)[1:], faults)
+    same("docs/FORMATS.md", "the faults of a command line", re.findall(r"^\| `?(\w+)`? \|", text.partition("The fault of a line")[2].partition("## ")[0], re.M)[1:], faults)
     commands = set(re.findall(r'"((?:PROCESS|SCHEDULE|ACKNOWLEDGE|REMOVE|DEL|ENABLE|DISABLE)_[A-Z_]+)"', "".join(text for path, text in sources("event_text").items() if path.endswith(".rt"))))
     same("docs/FORMATS.md", "the commands", set(re.findall(r"`((?:PROCESS|SCHEDULE|ACKNOWLEDGE|REMOVE|DEL|ENABLE|DISABLE)_[A-Z_]+)", text)), commands)
     statuses = variants(next(path for path, text in sources("site_run").items() if "enum Status" in text), "Status")
