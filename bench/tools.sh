@@ -65,11 +65,17 @@ same "now, a line that is being written" "0 of 0 are down at 1970-01-01 00:00:01
 head -n 4 bench/logs/one.log >"$scratch/growing"
 bin/now --follow "$scratch/growing" >"$scratch/followed" &
 follower=$!
-sleep 1.5
+shown() { # TIMES: waits until that many of its lines are there, half a minute at most
+    for _ in $(seq 300); do
+        [ "$(grep -c ' are down at ' "$scratch/followed")" -ge "$1" ] && return
+        sleep 0.1
+    done
+}
+shown 1
 tail -n +5 bench/logs/one.log >>"$scratch/growing"
-sleep 2.5
+shown 2
 cp bench/logs/two.log "$scratch/growing.new" && cat "$scratch/growing.new" >"$scratch/growing"
-sleep 2.5
+shown 3
 kill "$follower"
 wait "$follower" 2>/dev/null
 same "now, following" "$(printf '%s\n' '1 of 2 are down at 2025-11-24 16:01:00' '3 of 4 are down at 2025-11-24 16:04:00' '1 of 2 are down at 2025-11-24 16:07:00')" \
