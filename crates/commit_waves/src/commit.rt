@@ -15,8 +15,9 @@ ghost use Rattle.wave_objects.specs.Plain.{with_items};
 ghost use Rattle.commit_waves.specs.Plain.{plain_world};
 
 use crate::Loaded;
+use crate::maker::{OneWorker, WaveMaker};
 use crate::site_globals::site_globals;
-use crate::waves::{make_wave, run_wave};
+use crate::waves::run_wave;
 use crate::world::all_known;
 use dsl_load::LoadParts;
 use eval_work::{Committed, Item, Known};
@@ -49,6 +50,25 @@ pub fn commit_one(alloc: Global, loaded: Loaded) -> Result<Answer, OutOfMemory>
     // A run may begin with every site that is given.
     ensures ready { IfOk result (λ a. IfSite a IsReady) }
 {
+    commit_by(alloc, &OneWorker, loaded)
+}
+
+/// The same, whoever makes the objects of the waves.
+pub(crate) fn commit_by<M: WaveMaker>(
+    alloc: Global,
+    maker: &M,
+    loaded: Loaded,
+) -> Result<Answer, OutOfMemory>
+    requires apt { M.apt maker.now }
+    requires load { IsLoad loaded.parts }
+    // Whether the zone's file is one is what its reader says.
+    ensures value { (bad : Bool) → Decides bad (AreBadBytes (settings_of (globals_of loaded.parts.store.cells loaded.zone)).zone)
+        → IfOk result (λ a. answer_view a ≡ commit (λ os. phases loaded.files (globals_of loaded.parts.store.cells loaded.zone) os bad)
+        (site_made loaded.files (globals_of loaded.parts.store.cells loaded.zone)) (plain_parts loaded.parts)) }
+    ensures files { IfOk result (FilesStay loaded.files) }
+    // A run may begin with every site that is given.
+    ensures ready { IfOk result (λ a. IfSite a IsReady) }
+{
     let known = all_known(alloc)?;
     let Loaded { files, parts, zone } = loaded;
     let LoadParts {
@@ -63,7 +83,7 @@ pub fn commit_one(alloc: Global, loaded: Loaded) -> Result<Answer, OutOfMemory>
         items: Vec::new(alloc),
         rules,
     };
-    let made = run_waves(alloc, &parts, items, &known)?;
+    let made = run_waves(alloc, maker, &parts, items, &known)?;
     if !made.list.is_empty() {
         return Ok(Answer::Diags {
             files,
@@ -81,12 +101,14 @@ struct Run {
 }
 
 /// Runs the waves, one after another, up to the first in which something is wrong, over these items of a load and the rest of its parts.
-fn run_waves(
+fn run_waves<M: WaveMaker>(
     alloc: Global,
+    maker: &M,
     parts: &LoadParts,
     items: Vec<Item>,
     known: &Known,
 ) -> Result<Run, OutOfMemory>
+    requires apt { M.apt maker.now }
     requires load { IsLoad (with_items items parts.now) }
     requires whole { known.now.whole.items ≡ map type_name all_types }
     requires absent { known.now.absent.items ≡ [] }
@@ -103,6 +125,7 @@ fn run_waves(
         left = others;
         let list = run_wave(
             alloc,
+            maker,
             parts,
             of_wave,
             known,
@@ -117,18 +140,20 @@ fn run_waves(
             });
         }
     }
-    run_last(alloc, parts, left, known, objects, groups)
+    run_last(alloc, maker, parts, left, known, objects, groups)
 }
 
 /// Runs the last wave. Nothing looks its objects up, so they stand behind the others without being committed.
-fn run_last(
+fn run_last<M: WaveMaker>(
     alloc: Global,
+    maker: &M,
     parts: &LoadParts,
     items: Vec<Item>,
     known: &Known,
     objects: Committed,
     groups: Vec<Item>,
 ) -> Result<Run, OutOfMemory>
+    requires apt { M.apt maker.now }
     requires load { IsLoad (with_items items parts.now) }
     requires whole { known.now.whole.items ≡ map type_name all_types }
     requires absent { known.now.absent.items ≡ [] }
@@ -137,7 +162,7 @@ fn run_last(
     ensures objects { IfOk result (λ r. r.list ≡ [] → map object_view r.objects.items ≡ (wave_world (plain_parts (with_items items parts.now)) (plain_world objects groups.items) 6).objects) }
 {
     let mut groups = groups;
-    let made = make_wave(alloc, parts, items, known, &objects, &mut groups, LAST_WAVE)?;
+    let made = maker.make(alloc, parts, items, known, &objects, &mut groups, LAST_WAVE)?;
     Ok(Run {
         objects: with_objects(objects.into_vec(), made.objects)?,
         list: made.list,

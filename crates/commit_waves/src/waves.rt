@@ -10,13 +10,16 @@ ghost use Rattle.wave_objects.specs.Captured.{AreNamed};
 ghost use Rattle.wave_objects.specs.Plain.{with_items};
 ghost use Rattle.commit_waves.specs.Plain.{plain_world};
 
+use crate::maker::WaveMaker;
 use crate::world::{add_groups, add_objects, view_before};
 use dsl_load::LoadParts;
 use eval_work::{Committed, Item, Known};
 use site_base::{Diag, DiagKind, Diags, OutOfMemory, Row, Text};
 use site_model::Object;
 use std::alloc::Global;
-use wave_objects::{Gathered, add_diags, gather, join_groups, make_objects};
+use std::sync::Wait;
+use std::thread::Threads;
+use wave_objects::{Gathered, add_diags, gather, join_groups, make_objects, make_objects_by_many};
 use wave_order::{Pending, diags_by_number};
 
 /// A wave has so many items at most.
@@ -64,6 +67,41 @@ pub(crate) fn make_wave(
     })
 }
 
+/// The same by so many workers at most, who share the wave's items among them.
+pub(crate) fn make_wave_by_many<R: Threads + Wait + Sync>(
+    rt: &R,
+    alloc: Global,
+    parts: &LoadParts,
+    items: Vec<Item>,
+    known: &Known,
+    objects: &Committed,
+    groups: &mut Vec<Item>,
+    wave: u8,
+    workers: u32,
+) -> Result<Wave, OutOfMemory>
+    requires whole { known.now.whole.items ≡ map type_name all_types }
+    requires absent { known.now.absent.items ≡ [] }
+    requires load { IsLoad (with_items items parts.now) }
+    requires named { AreNamed parts.now.store (map plain_item groups.old.items) }
+    ensures diags { IfOk result (λ x. x.list ≡ wave_diags (plain_parts (with_items items parts.now)) (plain_world objects.now groups.old.items) wave) }
+    ensures world { IfOk result (λ x. x.list ≡ [] → plain_world (objects.now ++ x.objects.items) groups.new.items ≡ wave_world (plain_parts (with_items items parts.now)) (plain_world objects.now groups.old.items) wave) }
+    ensures named { IfOk result (λ x. x.list ≡ [] → AreNamed parts.now.store (map plain_item groups.new.items)) }
+{
+    let view = view_before(parts, objects, known);
+    let Gathered { items, mut faults } = gather(alloc, &view, parts, items, objects, wave)?;
+    if items.len() > MOST_ITEMS {
+        return too_many(alloc, &items[MOST_ITEMS]);
+    }
+    let made = make_objects_by_many(rt, alloc, &view, items, workers)?;
+    add_groups(groups, made.groups)?;
+    add_diags(&mut faults, made.faults)?;
+    let joined = join_groups(alloc, &view, groups, made.objects, &mut faults)?;
+    Ok(Wave {
+        objects: joined,
+        list: diags_by_number(faults)?,
+    })
+}
+
 /// A wave of which this item is the first that is one too many.
 fn too_many(alloc: Global, item: &Pending) -> Result<Wave, OutOfMemory>
     ensures { IfOk result (λ x. x.list ≡ limited (Some (plain_pending item.now)) []) }
@@ -82,8 +120,9 @@ fn too_many(alloc: Global, item: &Pending) -> Result<Wave, OutOfMemory>
 }
 
 /// Runs a wave: what is wrong in it, by number. Where nothing is, its objects are committed and its groups stand behind the others then.
-pub(crate) fn run_wave(
+pub(crate) fn run_wave<M: WaveMaker>(
     alloc: Global,
+    maker: &M,
     parts: &LoadParts,
     items: Vec<Item>,
     known: &Known,
@@ -91,6 +130,7 @@ pub(crate) fn run_wave(
     groups: &mut Vec<Item>,
     wave: u8,
 ) -> Result<Diags, OutOfMemory>
+    requires apt { M.apt maker.now }
     requires whole { known.now.whole.items ≡ map type_name all_types }
     requires absent { known.now.absent.items ≡ [] }
     requires load { IsLoad (with_items items parts.now) }
@@ -99,7 +139,7 @@ pub(crate) fn run_wave(
     ensures world { IfOk result (λ ds. ds ≡ [] → plain_world objects.new groups.new.items ≡ wave_world (plain_parts (with_items items parts.now)) (plain_world objects.old groups.old.items) wave) }
     ensures named { IfOk result (λ ds. ds ≡ [] → AreNamed parts.now.store (map plain_item groups.new.items)) }
 {
-    let made = make_wave(alloc, parts, items, known, objects, groups, wave)?;
+    let made = maker.make(alloc, parts, items, known, objects, groups, wave)?;
     add_objects(objects, made.objects)?;
     Ok(made.list)
 }

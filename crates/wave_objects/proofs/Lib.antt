@@ -7,3 +7,6 @@ pub mod NamedRules
 pub mod GatherLaws
 pub mod BoundLaws
 pub mod WaitLaws
+pub mod Syntax
+pub mod Crossing
+pub mod TaskLaws

@@ -4,3 +4,4 @@ pub mod Applying
 pub mod ByType
 pub mod Steps
 pub mod Members
+pub mod Tasks

@@ -1,5 +1,5 @@
 -- A wave in the parts in which it is run.
-use Rattle.std.specs.Prelude.{List, [], ◌∷◌, ◌&&◌, map, if◌then◌else◌}
+use Rattle.std.specs.Prelude.{List, [], ◌∷◌, ◌++◌, ◌&&◌, map, if◌then◌else◌}
 use Rattle.site_model.specs.PlainSite.{PlainObject, object_view}
 use Rattle.site_model.specs.declared.object.Object.{Object}
 use Rattle.object_types.specs.Names.{type_named}
@@ -21,3 +21,9 @@ answers_at view os r = map (instances view r) (targets r.target (map object_view
 -- an item, where it is one of a group that was made
 abbrev pub groups_by : PlainItem → Answer PlainObject → List PlainItem
 groups_by i a = if is_group (type_named i.kind) && is_made a then i ∷ [] else []
+
+-- of items and what they came to, those of groups that were made
+abbrev pub groups_among : List (Answer PlainObject) → List PlainItem → List PlainItem
+groups_among [] is = []
+groups_among (a ∷ answers) [] = []
+groups_among (a ∷ answers) (i ∷ is) = groups_by i a ++ groups_among answers is

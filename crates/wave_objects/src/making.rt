@@ -79,7 +79,7 @@ fn make(
 }
 
 /// Adds what an item came to. Over a world nothing is blocked.
-fn add_answer(
+pub(crate) fn add_answer(
     alloc: Global,
     keys: &PresetKeys,
     pending: Pending,

@@ -18,7 +18,7 @@ something : (ds : List Diag) → (length ds == 0) ≡ false → ¬ (ds ≡ [])
 something ds some none = absurd (false≢true (sym some ∙ ap (λ xs. length xs == 0) none))
 
 pub loop-wave-init : goal.loop-wave-init
-loop-wave-init c =
+loop-wave-init g c =
     let p = with_items c.args.items c.args.parts.now in
     record {
       after = record {
@@ -31,7 +31,7 @@ loop-wave-init c =
     }
 
 pub run_wave-requires-clause-load : goal.run_wave-requires-clause-load
-run_wave-requires-clause-load c =
+run_wave-requires-clause-load g c =
     let p = with_items c.args.items c.args.parts.now in
     let mine = c.in_ok-of_wave.field-0.of_wave.items in
     let next : c.loop-wave.wave < c.loop-wave.wave + 1 = omega arith in
@@ -44,7 +44,7 @@ run_wave-requires-clause-load c =
     }
 
 pub returns-then-not-is_empty-clause-diags : goal.returns-then-not-is_empty-clause-diags
-returns-then-not-is_empty-clause-diags c =
+returns-then-not-is_empty-clause-diags g c =
     let p = with_items c.args.items c.args.parts.now in
     let mine = c.in_ok-of_wave.field-0.of_wave.items in
     let next : c.loop-wave.wave < c.loop-wave.wave + 1 = omega arith in
@@ -54,10 +54,10 @@ returns-then-not-is_empty-clause-diags c =
     (something c.in_ok-list.list (sym c.is_empty.ensures ∙ c.if-not-is_empty.true))
 
 pub returns-then-not-is_empty-clause-objects : goal.returns-then-not-is_empty-clause-objects
-returns-then-not-is_empty-clause-objects c = λ none. absurd (something c.in_ok-list.list (sym c.is_empty.ensures ∙ c.if-not-is_empty.true) none)
+returns-then-not-is_empty-clause-objects g c = λ none. absurd (something c.in_ok-list.list (sym c.is_empty.ensures ∙ c.if-not-is_empty.true) none)
 
 pub loop-wave-preserved : goal.loop-wave-preserved
-loop-wave-preserved c =
+loop-wave-preserved g c =
     let p = with_items c.args.items c.args.parts.now in
     let mine = c.in_ok-of_wave.field-0.of_wave.items in
     let before = plain_world c.loop-wave.objects c.loop-wave.groups.items in
@@ -72,7 +72,7 @@ loop-wave-preserved c =
     }
 
 pub run_last-requires-clause-load : goal.run_last-requires-clause-load
-run_last-requires-clause-load c =
+run_last-requires-clause-load g c =
     let p = with_items c.args.items c.args.parts.now in
     record {
       frozen = c.requires.load.frozen;
@@ -83,7 +83,7 @@ run_last-requires-clause-load c =
     }
 
 pub returns-clause-diags : goal.returns-clause-diags
-returns-clause-diags c =
+returns-clause-diags g c =
     let p = with_items c.args.items c.args.parts.now in
     let after = c.loop-wave.invariant.after in
     let last : c.loop-wave.wave < 6 = omega (arith, after.within) in
@@ -94,7 +94,7 @@ returns-clause-diags c =
     c.run_last.ensures.diags
 
 pub returns-clause-objects : goal.returns-clause-objects
-returns-clause-objects c =
+returns-clause-objects g c =
     let p = with_items c.args.items c.args.parts.now in
     let after = c.loop-wave.invariant.after in
     let last : c.loop-wave.wave < 6 = omega (arith, after.within) in

@@ -6,25 +6,25 @@ use Rattle.site_phases.specs.Phases.{answer_view, last_part, phases, site_made}
 use Rattle.site_phases.proofs.PhaseLaws.{nothing}
 use Rattle.commit_waves.specs.Globals.{globals_of}
 use Rattle.commit_waves.proofs.CommitLaws.{left_to_phases, refused_in_waves}
-use Rattle.commit_waves.proofs.commit.commit_one.Goals as goal
+use Rattle.commit_waves.proofs.commit.commit_by.Goals as goal
 
 something : (ds : List Diag) → (length ds == 0) ≡ false → ¬ (ds ≡ [])
 something ds some none = absurd (false≢true (sym some ∙ ap (λ xs. length xs == 0) none))
 
 pub returns-then-not-is_empty-clause-value : goal.returns-then-not-is_empty-clause-value
-returns-then-not-is_empty-clause-value c = λ bad decided.
+returns-then-not-is_empty-clause-value g c = λ bad decided.
     let l = c.args.loaded in
     refused_in_waves (λ os. phases l.files (globals_of l.parts.store.cells l.zone) os bad) (site_made l.files (globals_of l.parts.store.cells l.zone)) (plain_parts l.parts) c.in_ok-made.made.list c.in_ok-made.ensures.diags
     (something c.in_ok-made.made.list (sym c.is_empty.ensures ∙ c.if-not-is_empty.true))
 
 pub returns-then-not-is_empty-clause-files : goal.returns-then-not-is_empty-clause-files
-returns-then-not-is_empty-clause-files c = refl
+returns-then-not-is_empty-clause-files g c = refl
 
 pub returns-clause-value : goal.returns-clause-value
-returns-clause-value c = λ bad decided.
+returns-clause-value g c = λ bad decided.
     let l = c.args.loaded in
-    let g = globals_of l.parts.store.cells l.zone in
+    let gs = globals_of l.parts.store.cells l.zone in
     let none = nothing c.in_ok-made.made.list (sym c.is_empty.ensures ∙ c.if-not-is_empty.false) in
-    let same = ap (λ os. last_part l.files g os bad) (c.in_ok-made.ensures.objects none)
-    ∙ left_to_phases (λ os. phases l.files g os bad) (site_made l.files g) (plain_parts l.parts) (sym c.in_ok-made.ensures.diags ∙ none) in
+    let same = ap (λ os. last_part l.files gs os bad) (c.in_ok-made.ensures.objects none)
+    ∙ left_to_phases (λ os. phases l.files gs os bad) (site_made l.files gs) (plain_parts l.parts) (sym c.in_ok-made.ensures.diags ∙ none) in
     subst (λ x. IfOk c.finish.result (λ a. answer_view a ≡ x)) same (c.finish.ensures.value bad decided)
