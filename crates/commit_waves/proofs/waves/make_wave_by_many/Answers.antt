@@ -24,10 +24,10 @@ returns-then-len-gt-MOST_ITEMS-clause-diags g c =
     c.too_many.ensures
 
 pub make_objects_by_many-requires-clause-lawful : goal.make_objects_by_many-requires-clause-lawful
-make_objects_by_many-requires-clause-lawful g c = lawful (with_items c.args.items c.args.parts.now) c.requires.load c.view_before-view.result c.view_before-view.ensures.store c.view_before-view.ensures.templates
+make_objects_by_many-requires-clause-lawful g c κs within = lawful (with_items c.args.items c.args.parts.now) c.requires.load c.view_before-view.result c.view_before-view.ensures.store c.view_before-view.ensures.templates
 
 pub make_objects_by_many-requires-clause-named : goal.make_objects_by_many-requires-clause-named
-make_objects_by_many-requires-clause-named g c =
+make_objects_by_many-requires-clause-named g c κs within =
     let view = c.view_before-view.ensures in
     items_named (with_items c.args.items c.args.parts.now) c.requires.load c.args.objects.now c.args.groups.now.items c.args.wave c.requires.named c.view_before-view.result view.view view.store c.in_ok-items.field-0.items.items
     c.in_ok-items.ensures.items
