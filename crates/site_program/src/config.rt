@@ -7,24 +7,26 @@ ghost use Rattle.site_run.specs.Logs.{EndsRun};
 ghost use Rattle.site_program.specs.TaskAnswers.{AnswersShown, RemarkedOf};
 ghost use Rattle.site_replies.specs.declared.replies.Shown.TheVariants as shown_as;
 
+use crate::committers::Committers;
 use crate::remarked::answer_remarked;
 use site_answers::write_made;
 use site_conf::LoadFault;
 use site_edge::{Files, Sink};
-use site_load::config_answer;
 use site_replies::{Remarks, Shown, reply_to_config};
 use site_run::Status;
 use std::alloc::Global;
 
 /// Writes how many objects the configuration that the files from the root on make has, or what is wrong with it, and tells what is remarked
 /// of its site.
-pub fn count_objects<F: Files, S: Sink, N: Remarks>(
+pub fn count_objects<F: Files, S: Sink, N: Remarks, M: Committers<F>>(
     alloc: Global,
+    committers: &M,
     root: &str,
     files: &mut F,
     out: &mut S,
     remarks: &mut N,
 ) -> Status
+    requires apt { M.apt committers.now }
     ensures never_usage { result ≢ Status.Usage }
     ensures written { EndsRun result (λ w. IfSome (F.told files.old) (λ all. AnswersShown all shown_as.Count root.now w)) (S.written out.old) (S.written out.new) }
     ensures remarked { RemarkedOf result false root.now (F.told files.old) (N.remarked remarks.old) (N.remarked remarks.new) }
@@ -36,19 +38,21 @@ pub fn count_objects<F: Files, S: Sink, N: Remarks>(
     ensures calm_sink { S.calm out.old → result ≢ Status.WriteFault }
     ensures no_world_fault { result ≢ Status.WorldFault }
 {
-    match answer_remarked(alloc, false, files, root, remarks) {
+    match answer_remarked(alloc, committers, false, files, root, remarks) {
         Ok(answer) => write_made(reply_to_config(alloc, answer, Shown::Count), out),
         Err(fault) => status_of(fault),
     }
 }
 
 /// Writes the objects of the configuration that the files from the root on make, or what is wrong with it.
-pub fn list_objects<F: Files, S: Sink>(
+pub fn list_objects<F: Files, S: Sink, M: Committers<F>>(
     alloc: Global,
+    committers: &M,
     root: &str,
     files: &mut F,
     out: &mut S,
 ) -> Status
+    requires apt { M.apt committers.now }
     ensures never_usage { result ≢ Status.Usage }
     ensures written { EndsRun result (λ w. IfSome (F.told files.old) (λ all. AnswersShown all shown_as.Listing root.now w)) (S.written out.old) (S.written out.new) }
     ensures through { HandsOn result (S.kept_back out.new) }
@@ -59,7 +63,7 @@ pub fn list_objects<F: Files, S: Sink>(
     ensures calm_sink { S.calm out.old → result ≢ Status.WriteFault }
     ensures no_world_fault { result ≢ Status.WorldFault }
 {
-    match config_answer(alloc, files, root) {
+    match committers.answer(alloc, files, root) {
         Ok(answer) => write_made(reply_to_config(alloc, answer, Shown::Listing), out),
         Err(fault) => status_of(fault),
     }

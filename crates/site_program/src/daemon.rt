@@ -7,6 +7,7 @@ ghost use Rattle.site_run.specs.Ends.{HandsOn, outside};
 ghost use Rattle.site_answers.specs.SiteAnswers.{AnswersWatched};
 ghost use Rattle.site_program.specs.TaskAnswers.{AnswersSite, CameFar, RemarkedOf};
 
+use crate::committers::Committers;
 use crate::config::status_of;
 use crate::remarked::answer_remarked;
 use run_text::Style;
@@ -20,9 +21,10 @@ use std::alloc::Global;
 /// Writes the log of the world's turns, whose events these workers take, over the site that the files from the root on make, or why there
 /// is none, behind the entries of a state file, if one is named, and tells what is remarked of that site before. Its downtimes recur or don't. No turn is
 /// taken and no check started where there is no site, or no such entries. The workers are 1 to 64.
-pub fn watch<F: Files, W: World, S: Sink, N: Remarks, C: Workers>(
+pub fn watch<F: Files, W: World, S: Sink, N: Remarks, C: Workers, M: Committers<F>>(
     alloc: Global,
     workers: &C,
+    committers: &M,
     style: Style,
     recur: bool,
     root: &str,
@@ -34,6 +36,7 @@ pub fn watch<F: Files, W: World, S: Sink, N: Remarks, C: Workers>(
 ) -> Status
     requires callers { AreCallers (C.callers workers.now) }
     requires apt { C.apt workers.now }
+    requires committing { M.apt committers.now }
     ensures never_usage { result ≢ Status.Usage }
     ensures written { EndsRun result (λ w. IfSome (F.told files.old) (λ all. AnswersSite all root.now (AnswersWatched (C.callers workers.now) style recur (option_map (λ name. name.now) state.entry) (W.turns world.old) all) w)) (S.written out.old) (S.written out.new) }
     ensures remarked { RemarkedOf result recur root.now (F.told files.old) (N.remarked remarks.old) (N.remarked remarks.new) }
@@ -48,7 +51,7 @@ pub fn watch<F: Files, W: World, S: Sink, N: Remarks, C: Workers>(
     ensures calm_sink { S.calm out.old → result ≢ Status.WriteFault }
     ensures calm_world { W.calm world.old → result ≢ Status.WorldFault }
 {
-    match answer_remarked(alloc, recur, files, root, remarks) {
+    match answer_remarked(alloc, committers, recur, files, root, remarks) {
         Ok(Answer::Site(site)) => watch_site(
             alloc, workers, style, recur, state, site, files, world, out,
         ),

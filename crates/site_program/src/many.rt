@@ -1,5 +1,11 @@
 // The whole run, with as many workers as are asked for.
-ghost use Rattle.std.specs.Prelude.{◌≡◌, ◌≢◌, ◌↔◌, ◌<◌, ◌^◌, Bool, List, false, true, None, IfSome, IfOk, OnOk};
+ghost use Rattle.std.specs.Bool.{Decides};
+ghost use Rattle.std.specs.Prelude.{◌≡◌, ◌≢◌, ◌↔◌, ◌<◌, ◌≤◌, ◌^◌, Bool, List, false, true, None, Some, Err, IfSome, IfOk, IsErrOf, OnOk};
+ghost use Rattle.conf_sources.specs.Sources.{Told};
+ghost use Rattle.site_phases.specs.Phases.{FilesStay, IfSite, IsReady, answer_view};
+ghost use Rattle.site_load.specs.Configs.{IsBadZone, config_outcome, names_of};
+ghost use Rattle.site_load.specs.Idle.{idle_by, rules_of};
+ghost use Rattle.site_load.specs.Loads.{load_outcome};
 ghost use Rattle.run_meaning.specs.Runs.{TurnLog, begun_by};
 ghost use Rattle.run_meaning.specs.Turns.{Begun};
 ghost use Rattle.run_text.specs.LogText.{turn_lines};
@@ -15,13 +21,17 @@ ghost use Rattle.site_run.specs.Logs.{EndsRun};
 ghost use Rattle.site_run.specs.Ends.{HandsOn, outside};
 ghost use Rattle.site_program.specs.TaskAnswers.{Answers, Came, Remarked, is_daemon, is_generate};
 
+use crate::committers::ManyCommitters;
 use crate::running::{run_one, run_task};
 use engine_log::turn_lines_by_many;
 use post_turn::Gate;
 use run_text::Style;
 use site_base::{OutOfMemory, Text, Texts};
+use site_conf::LoadFault;
 use site_edge::{Files, Sink, Turn, World};
+use site_load::{Made, config_answer_by_many, config_made_by_many};
 use site_model::Site;
+use site_phases::Answer;
 use site_replies::Remarks;
 use site_run::{ManyWorkers, Status};
 use site_words::command_of;
@@ -30,8 +40,8 @@ use std::sync::Wait;
 use std::thread::Threads;
 use turn_engine::{Engine, TurnOut};
 
-/// Does what the words of a command line ask for, with as many workers as they ask for. Those take the events of a turn at the same time,
-/// and enter the gate before and after each. Where it is one, [`run_one`] does it, and no thread is made.
+/// Does what the words of a command line ask for, with as many workers as they ask for. Those make the objects of a wave at the same time, and
+/// then take the events of a turn, and enter the gate before and after each. Where it is one, [`run_one`] does it, and no thread is made.
 ///
 /// `world` is touched by `daemon` alone, `files` by all words but `gen`, `remarks` by `check` and `daemon`, and after `Usage` nothing is.
 pub fn run<F: Files, W: World, S: Sink, N: Remarks, R: Wait + Threads + Sync, G: Gate + Sync>(
@@ -102,5 +112,39 @@ pub fn run<F: Files, W: World, S: Sink, N: Remarks, R: Wait + Threads + Sync, G:
             ensures { (l : TurnLog) → Tells turn.now l → IfOk result (λ lines. lines ≡ turn_lines style (site_view site.now) l) }
         { turn_lines_by_many(rt, alloc, style, site, turn, count) },
     };
-    run_task(alloc, &workers, command.task, files, world, out, remarks)
+    let committers = ManyCommitters {
+        answer: |alloc: Global, files: &mut F, root: &str| -> Result<Answer, LoadFault>
+            ensures value { (all : Told) (bad : Bool) → F.told files.old ≡ Some all → Decides bad (IsBadZone (load_outcome all root.now))
+                → IfOk result (λ a. answer_view a ≡ config_outcome bad (load_outcome all root.now)) }
+            ensures files { (all : Told) → F.told files.old ≡ Some all → IfOk result (FilesStay (names_of (load_outcome all root.now))) }
+            ensures ready { IfOk result (λ a. IfSite a IsReady) }
+            ensures same { F.told files.new ≡ F.told files.old }
+            ensures cause { IsErrOf result LoadFault.Failed → Rose (F.faults files.old) (F.faults files.new) }
+            ensures counts { F.faults files.old ≤ F.faults files.new }
+            ensures calm { F.calm files.old → F.calm files.new }
+            ensures unfailing { F.calm files.old → result ≢ Err LoadFault.Failed }
+        { config_answer_by_many(rt, alloc, files, root, count) },
+        made: |alloc: Global, files: &mut F, root: &str| -> Result<Made, LoadFault>
+            ensures value { (all : Told) (bad : Bool) → F.told files.old ≡ Some all → Decides bad (IsBadZone (load_outcome all root.now))
+                → IfOk result (λ m. answer_view m.answer ≡ config_outcome bad (load_outcome all root.now)) }
+            ensures idle { (all : Told) → F.told files.old ≡ Some all → IfOk result (λ m. m.idle ≡ idle_by (rules_of (load_outcome all root.now)) (answer_view m.answer)) }
+            ensures files { (all : Told) → F.told files.old ≡ Some all → IfOk result (λ m. FilesStay (names_of (load_outcome all root.now)) m.answer) }
+            ensures ready { IfOk result (λ m. IfSite m.answer IsReady) }
+            ensures same { F.told files.new ≡ F.told files.old }
+            ensures cause { IsErrOf result LoadFault.Failed → Rose (F.faults files.old) (F.faults files.new) }
+            ensures counts { F.faults files.old ≤ F.faults files.new }
+            ensures calm { F.calm files.old → F.calm files.new }
+            ensures unfailing { F.calm files.old → result ≢ Err LoadFault.Failed }
+        { config_made_by_many(rt, alloc, files, root, count) },
+    };
+    run_task(
+        alloc,
+        &workers,
+        &committers,
+        command.task,
+        files,
+        world,
+        out,
+        remarks,
+    )
 }

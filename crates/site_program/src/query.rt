@@ -7,10 +7,10 @@ ghost use Rattle.site_run.specs.Logs.{EndsRun};
 ghost use Rattle.site_answers.specs.SiteAnswers.{AnswersQueried};
 ghost use Rattle.site_program.specs.TaskAnswers.{AnswersSite};
 
+use crate::committers::Committers;
 use crate::config::status_of;
 use site_answers::{query_site, write_made};
 use site_edge::{Files, Sink};
-use site_load::config_answer;
 use site_phases::Answer;
 use site_replies::diagnoses;
 use site_run::{Status, Workers};
@@ -19,9 +19,10 @@ use std::alloc::Global;
 /// Writes what a query is answered once the turns of a script are over, whose events these workers take, over the site that the files from the
 /// root on make, or why there is none. The script is read only where there is a site, and the query only where that has turns. The workers are 1 to
 /// 64.
-pub fn answer_query<F: Files, S: Sink, C: Workers>(
+pub fn answer_query<F: Files, S: Sink, C: Workers, M: Committers<F>>(
     alloc: Global,
     workers: &C,
+    committers: &M,
     root: &str,
     script: &str,
     query: &str,
@@ -30,6 +31,7 @@ pub fn answer_query<F: Files, S: Sink, C: Workers>(
 ) -> Status
     requires callers { AreCallers (C.callers workers.now) }
     requires apt { C.apt workers.now }
+    requires committing { M.apt committers.now }
     ensures never_usage { result ≢ Status.Usage }
     ensures written { EndsRun result (λ w. IfSome (F.told files.old) (λ all. AnswersSite all root.now (λ s. AnswersQueried (C.callers workers.now) script.now query.now s (find_file script.now all) (find_file query.now all)) w)) (S.written out.old) (S.written out.new) }
     ensures through { HandsOn result (S.kept_back out.new) }
@@ -40,7 +42,7 @@ pub fn answer_query<F: Files, S: Sink, C: Workers>(
     ensures calm_sink { S.calm out.old → result ≢ Status.WriteFault }
     ensures no_world_fault { result ≢ Status.WorldFault }
 {
-    match config_answer(alloc, files, root) {
+    match committers.answer(alloc, files, root) {
         Ok(Answer::Site(site)) => query_site(alloc, workers, script, query, site, files, out),
         Ok(Answer::Diags { files, list }) => {
             write_made(diagnoses(alloc, &files, list.as_slice()), out)

@@ -9,22 +9,25 @@ ghost use Rattle.site_load.specs.Idle.{idle_by, rules_of};
 ghost use Rattle.site_load.specs.Loads.{load_outcome};
 ghost use Rattle.site_replies.specs.Remarks.{remarks_of as remarks_for, with_remarks};
 
+use crate::committers::Committers;
 use site_conf::LoadFault;
 use site_edge::Files;
-use site_load::{Made, config_made};
+use site_load::Made;
 use site_phases::Answer;
 use site_replies::{Remarks, remarks_of, tell_all};
 use std::alloc::Global;
 
-/// The same as `config_answer` (site_load), once it is told what is remarked of the site, where there is one, whose downtimes recur or don't, and
+/// What the files of a site come to, once it is told what is remarked of the site, where there is one, whose downtimes recur or don't, and
 /// how many of its checks may be outstanding.
-pub(crate) fn answer_remarked<F: Files, N: Remarks>(
+pub(crate) fn answer_remarked<F: Files, N: Remarks, M: Committers<F>>(
     alloc: Global,
+    committers: &M,
     recur: bool,
     files: &mut F,
     root: &str,
     remarks: &mut N,
 ) -> Result<Answer, LoadFault>
+    requires apt { M.apt committers.now }
     ensures value { (all : Told) (bad : Bool) → F.told files.old ≡ Some all → Decides bad (IsBadZone (load_outcome all root.now))
         → IfOk result (λ a. answer_view a ≡ config_outcome bad (load_outcome all root.now)) }
     ensures files { (all : Told) → F.told files.old ≡ Some all → IfOk result (FilesStay (names_of (load_outcome all root.now))) }
@@ -37,7 +40,7 @@ pub(crate) fn answer_remarked<F: Files, N: Remarks>(
     ensures calm { F.calm files.old → F.calm files.new }
     ensures unfailing { F.calm files.old → result ≢ Err LoadFault.Failed }
 {
-    let Made { answer, idle } = config_made(alloc, files, root)?;
+    let Made { answer, idle } = committers.made(alloc, files, root)?;
     let list = remarks_of(alloc, recur, &answer, idle.as_slice())?;
     tell_all(&list, remarks)?;
     if let Answer::Site(site) = &answer {

@@ -7,11 +7,11 @@ ghost use Rattle.site_run.specs.Logs.{EndsRun};
 ghost use Rattle.site_answers.specs.SiteAnswers.{AnswersReplayed};
 ghost use Rattle.site_program.specs.TaskAnswers.{AnswersSite};
 
+use crate::committers::Committers;
 use crate::config::status_of;
 use run_text::Style;
 use site_answers::{replay_site, write_made};
 use site_edge::{Files, Sink};
-use site_load::config_answer;
 use site_phases::Answer;
 use site_replies::diagnoses;
 use site_run::{Status, Workers};
@@ -20,9 +20,10 @@ use std::alloc::Global;
 /// Writes the log of a script's turns, whose events these workers take, over the site that the files from the root on make, or why there
 /// is none, behind the entries of a state file, if one is named. Its downtimes recur or don't. The state file is read only where there is a site, and
 /// the script only where there are such entries. The workers are 1 to 64.
-pub fn replay<F: Files, S: Sink, C: Workers>(
+pub fn replay<F: Files, S: Sink, C: Workers, M: Committers<F>>(
     alloc: Global,
     workers: &C,
+    committers: &M,
     style: Style,
     recur: bool,
     root: &str,
@@ -33,6 +34,7 @@ pub fn replay<F: Files, S: Sink, C: Workers>(
 ) -> Status
     requires callers { AreCallers (C.callers workers.now) }
     requires apt { C.apt workers.now }
+    requires committing { M.apt committers.now }
     ensures never_usage { result ≢ Status.Usage }
     ensures written { EndsRun result (λ w. IfSome (F.told files.old) (λ all. AnswersSite all root.now (AnswersReplayed (C.callers workers.now) style recur (option_map (λ name. name.now) state.entry) script.now all) w)) (S.written out.old) (S.written out.new) }
     ensures through { HandsOn result (S.kept_back out.new) }
@@ -43,7 +45,7 @@ pub fn replay<F: Files, S: Sink, C: Workers>(
     ensures calm_sink { S.calm out.old → result ≢ Status.WriteFault }
     ensures no_world_fault { result ≢ Status.WorldFault }
 {
-    match config_answer(alloc, files, root) {
+    match committers.answer(alloc, files, root) {
         Ok(Answer::Site(site)) => replay_site(
             alloc, workers, style, recur, state, script, site, files, out,
         ),

@@ -8,6 +8,7 @@ ghost use Rattle.site_run.specs.Logs.{EndsRun};
 ghost use Rattle.site_run.specs.Ends.{HandsOn, outside};
 ghost use Rattle.site_program.specs.TaskAnswers.{Answers, AskForMany, Came, Remarked, is_daemon, is_generate};
 
+use crate::committers::{Committers, OneCommitter};
 use crate::config::{count_objects, list_objects};
 use crate::daemon::watch;
 use crate::generate::generate;
@@ -65,17 +66,27 @@ pub fn run_one<F: Files, W: World, S: Sink, N: Remarks>(
 {
     match command_of(words) {
         Some(Command { task, workers: 1 }) => {
-            Some(run_task(alloc, &OneWorker, task, files, world, out, remarks))
+            Some(run_task(
+                alloc,
+                &OneWorker,
+                &OneCommitter,
+                task,
+                files,
+                world,
+                out,
+                remarks,
+            ))
         }
         Some(_) => None,
         None => Some(Status::Usage),
     }
 }
 
-/// Does what is asked for, with these workers, which are 1 to 64.
-pub(crate) fn run_task<F: Files, W: World, S: Sink, N: Remarks, C: Workers>(
+/// Does what is asked for, with these workers, which are 1 to 64, and with these committers.
+pub(crate) fn run_task<F: Files, W: World, S: Sink, N: Remarks, C: Workers, M: Committers<F>>(
     alloc: Global,
     workers: &C,
+    committers: &M,
     task: Task<'_>,
     files: &mut F,
     world: &mut W,
@@ -84,6 +95,7 @@ pub(crate) fn run_task<F: Files, W: World, S: Sink, N: Remarks, C: Workers>(
 ) -> Status
     requires callers { AreCallers (C.callers workers.now) }
     requires apt { C.apt workers.now }
+    requires committing { M.apt committers.now }
     ensures never_usage { result ≢ Status.Usage }
     ensures written { EndsRun result (Answers (C.callers workers.now) (task_view task.entry) (F.told files.old) (W.turns world.old)) (S.written out.old) (S.written out.new) }
     ensures remarked { Remarked result (task_view task.entry) (F.told files.old) (N.remarked remarks.old) (N.remarked remarks.new) }
@@ -101,28 +113,30 @@ pub(crate) fn run_task<F: Files, W: World, S: Sink, N: Remarks, C: Workers>(
     ensures no_world_fault { is_daemon (task_view task.entry) ≡ false → result ≢ Status.WorldFault }
 {
     match task {
-        Task::Check { root } => count_objects(alloc, root, files, out, remarks),
-        Task::Objects { root } => list_objects(alloc, root, files, out),
+        Task::Check { root } => count_objects(alloc, committers, root, files, out, remarks),
+        Task::Objects { root } => list_objects(alloc, committers, root, files, out),
         Task::Replay {
             style,
             recur,
             root,
             script,
-        } => replay(alloc, workers, style, recur, root, None, script, files, out),
+        } => replay(
+            alloc, workers, committers, style, recur, root, None, script, files, out,
+        ),
         Task::Daemon {
             style,
             recur,
             root,
             state,
         } => watch(
-            alloc, workers, style, recur, root, state, files, world, out, remarks,
+            alloc, workers, committers, style, recur, root, state, files, world, out, remarks,
         ),
         Task::Generate { hosts } => generate(alloc, hosts, out),
         Task::Query {
             root,
             script,
             query,
-        } => answer_query(alloc, workers, root, script, query, files, out),
+        } => answer_query(alloc, workers, committers, root, script, query, files, out),
         Task::Resume {
             style,
             root,
@@ -131,6 +145,7 @@ pub(crate) fn run_task<F: Files, W: World, S: Sink, N: Remarks, C: Workers>(
         } => replay(
             alloc,
             workers,
+            committers,
             style,
             false,
             root,

@@ -15,10 +15,10 @@ returns-in-Ok-Site-clause-written g c =
     let told = g.F.Files.told c.args.files.now in
     let a = c.in-Ok-Site in
     let asked = λ (all : Files). AnswersReplayed (g.C.Workers.callers c.args.workers.now) c.args.style c.args.recur (option_map (λ name. name.now) c.args.state) c.args.script.now all in
-    ended_as c.replay_site.result (λ w. IfSome (g.F.Files.told c.config_answer.new.files) (λ all. asked all (site_view a.site) w))
+    ended_as c.replay_site.result (λ w. IfSome (g.F.Files.told c.answer.new.files) (λ all. asked all (site_view a.site) w))
     (λ w. IfSome told (λ all. AnswersSite all c.args.root.now (asked all) w)) (g.S.Sink.written c.args.out.now) (g.S.Sink.written c.replay_site.new.out)
     (λ w is. site_answers asked c.args.root.now told a.field-0 a.site a.field-0-is (λ files h. (a.ensures.files files h, λ bad decided. a.ensures.value files bad h decided)) w
-    (subst (λ (t : Option Files). IfSome t (λ all. asked all (site_view a.site) w)) c.config_answer.ensures.same is))
+    (subst (λ (t : Option Files). IfSome t (λ all. asked all (site_view a.site) w)) c.answer.ensures.same is))
     c.replay_site.ensures.written
 
 pub returns-in-Ok-Diags-clause-written : goal.returns-in-Ok-Diags-clause-written
