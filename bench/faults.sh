@@ -4,9 +4,10 @@
 # short in turn, by its number. Each run has to end with a status that has a name, which standard error tells if it is above 1, and with
 # the beginning of the right output; with all of it if the status is 0 or 1. Outside the gate; it takes some minutes.
 #
-# usage: bench/faults.sh [--program FILE] [SECTION ..]
+# usage: bench/faults.sh [--program FILE] [--allocator FILE] [SECTION ..]
 #
-# A section is output, files, limits or calls; without one all are run. It takes gcc for the calls, and root for a full disk, reads that are
+# A section is output, files, limits or calls; without one all are run. The limits of memory are tried with the C library's allocator, and with
+# mimalloc if it is installed or named. It takes gcc for the calls, and root for a full disk, reads that are
 # refused and a limit of processes. It prints a line for each section, and above it each run that was otherwise, and ends with 1 if there is one.
 set -u
 cd "$(dirname "${BASH_SOURCE[0]}")/.." || exit 1
@@ -16,6 +17,14 @@ if [ "${1-}" = --program ]; then
     shift 2
 else
     program=$("$top/bin/program" </dev/null)
+fi
+allocator=
+for file in /usr/lib/x86_64-linux-gnu/libmimalloc.so.2 /usr/lib64/libmimalloc.so.2 /usr/lib/libmimalloc.so.2; do
+    [ -r "$file" ] && allocator=$file && break
+done
+if [ "${1-}" = --allocator ]; then
+    allocator=$(readlink -f "$2")
+    shift 2
 fi
 room=$(mktemp -d)
 trap 'umount "$room/disk" 2>/dev/null; rm -rf "$room"' EXIT
@@ -116,7 +125,7 @@ BY_NUMBER(posix_spawn, (pid_t *restrict child, const char *restrict path, const 
 C
 cp -r "$top/examples/site" "$room/realistic"
 cd "$room" || exit 1
-python3 - "$program" "$@" <<'PYTHON'
+python3 - "$program" "$allocator" "$@" <<'PYTHON'
 import concurrent.futures
 import errno
 import os
@@ -129,7 +138,7 @@ import sys
 import tempfile
 import time
 
-program, *sections = sys.argv[1:]
+program, allocator, *sections = sys.argv[1:]
 SECONDS = 30
 NOBODY = 65534
 LAST = 2**64 - 1
@@ -187,7 +196,7 @@ tried = failed = 0
 
 
 def run(what, words, stdout=subprocess.PIPE, limits=(), user=None, env=(), stdin=None, close=()):
-    """The status, the output and what is said on standard error of a run. A daemon that waits for descriptors or processes gets some in the end."""
+    """The status, the output and what is said on standard error of a run. A daemon that waits for descriptors, processes or memory gets some in the end."""
 
     def become():
         if user is not None:
@@ -204,7 +213,8 @@ def run(what, words, stdout=subprocess.PIPE, limits=(), user=None, env=(), stdin
             os.close(file)
         become()
 
-    room = [name for limit, name in ((resource.RLIMIT_NOFILE, "nofile"), (resource.RLIMIT_NPROC, "nproc")) if what in LIVE and limit in dict(limits)]
+    more = ((resource.RLIMIT_NOFILE, "nofile=1000"), (resource.RLIMIT_NPROC, "nproc=1000"), (resource.RLIMIT_AS, "as=unlimited"))
+    room = [most for limit, most in more if what in LIVE and limit in dict(limits)]
     started = subprocess.Popen(
         [program, *words.split()],
         stdin=subprocess.PIPE if stdin is None else stdin,
@@ -224,8 +234,8 @@ def run(what, words, stdout=subprocess.PIPE, limits=(), user=None, env=(), stdin
         out, said = started.communicate(timeout=3 if room else SECONDS)
     except subprocess.TimeoutExpired:
         # (checks wait until there is room for them)
-        for limit in room:
-            subprocess.run(["prlimit", f"--pid={started.pid}", f"--{limit}=1000:"], preexec_fn=become)
+        for most in room:
+            subprocess.run(["prlimit", f"--pid={started.pid}", f"--{most}:"], preexec_fn=become)
         try:
             out, said = started.communicate(timeout=SECONDS if room else 0)
         except subprocess.TimeoutExpired:
@@ -465,6 +475,9 @@ def limits():
             cases.append((what, (3,), f"{most} descriptors", dict(limits=[(resource.RLIMIT_NOFILE, most)])))
         for megabytes in range(4, 41):
             cases.append((what, (6,), f"{megabytes} MB of memory", dict(limits=[(resource.RLIMIT_AS, megabytes << 20)])))
+        for megabytes in range(8, 97, 8) if allocator else ():
+            preloaded = {"LD_PRELOAD": allocator, "ICINGA_SITE_ALLOCATOR": allocator}
+            cases.append((what, (6,), f"{megabytes} MB of memory, with mimalloc", dict(limits=[(resource.RLIMIT_AS, megabytes << 20)], env=preloaded.items())))
         for kilobytes in (128, 256, 512, 1024):
             cases.append((what, (6,), f"{kilobytes} KB of stack", dict(limits=[(resource.RLIMIT_STACK, kilobytes << 10)])))
         if ROOT:
