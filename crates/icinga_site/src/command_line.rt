@@ -32,7 +32,7 @@ usage:
 
 --log 1 or --log 2, before or after the words of replay, daemon and resume, chooses the version of the log.
 --recur, before or after those of the first two, has ScheduledDowntime objects make their downtimes.
---workers K, before or after any words, has K workers, from 1 to 64, take the events of a turn at the same time.
+--workers K, before or after any words, has K workers, from 1 to 64, make objects and take the events of a turn at the same time.
 --quiet, anywhere among them, leaves out what check and daemon remark of a site on standard error.
 ";
 
