@@ -161,6 +161,12 @@ FILES = {
     "script": "".join(f'turn {10 * turn}\nline "[1] PROCESS_HOST_CHECK_RESULT;h{turn % 3};{turn % 2};x"\n' for turn in range(1, 40)),
     "big.script": "".join(f"turn {turn}\n" + "".join(f'line "[1] PROCESS_HOST_CHECK_RESULT;h{(7 * turn + at) % 2000};{turn % 2};x"\n' for at in range(100)) for turn in range(1, 40)),
     "state": '{"checkables":[{"entries":["entry \\"h0\\" 1 by 0 at 1: passive 2 -> Down SOFT 1 | - | - | \\"x\\" \\"\\""],"name":"h0"}],"version":1}\n',
+    # (of one turn more lines and entries than one worker reads and makes, and a report for each worker)
+    "many": BASE.replace("HOSTS", "300") + 'for (i in range(100)) { object Host "a" + i { check_command = "c" } }\n',
+    "many.script": "turn 10\nturn 11\n"
+    + "".join(f'report {order} {order % 3} "x"\n' for order in range(1, 101))
+    + "".join(f'line "[1] PROCESS_HOST_CHECK_RESULT;h{at};1;x"\n' for at in range(300))
+    + "turn 12\n",
     "query": "GET hosts\nColumns: name state\n",
     "live": 'object CheckCommand "c" { command = "echo fine; sleep 0.2" }\nfor (i in range(3)) { object Host "h" + i { check_command = "c"; check_interval = 1; retry_interval = 1 } }\n',
 }
@@ -173,7 +179,7 @@ WORDS = {
     "objects": "objects realistic/icinga2.conf",
     "objects, big": "objects big",
     "replay": "replay site script --log 2",
-    "replay, workers": "replay site script --workers 8",
+    "replay, workers": "replay many many.script --workers 8",
     "replay, big": "replay big big.script --recur",
     "query": "query site script query",
     "query, big": "query big big.script query",

@@ -95,6 +95,14 @@ FILES = {
     'object ScheduledDowntime "d" { host_name = "h"; author = "a"; comment = "c"; ranges.thursday = "00:00-01:00" }\n',
     "hard.script": "".join(f"turn {at}\nline {RESULT.format(status)}\n" for at, status in ((10, 2), (20, 2), (30, 2), (40, 0))),
     "callers.script": f'turn 10\nturn 20\nreport 1 0 "x"\nline {RESULT.format(2)}\nturn 30\nreport 1 0 "x"\n',
+    # (of one turn more lines and entries than one worker reads and makes, and a report for each worker)
+    "many": 'object CheckCommand "c" { command = [ "true" ] }\n'
+    'for (i in range(300)) { object Host "h" + i { check_command = "c"; enable_active_checks = false } }\n'
+    'for (i in range(100)) { object Host "a" + i { check_command = "c" } }\n',
+    "many.script": "turn 10\nturn 11\n"
+    + "".join(f'report {order} {order % 3} "x"\n' for order in range(1, 101))
+    + "".join(f'line "[1] PROCESS_HOST_CHECK_RESULT;h{at};1;x"\n' for at in range(300))
+    + "turn 12\n",
     "down.query": "GET services\nColumns: name state\nFilter: state != 0\n",
     "slow": 'object CheckCommand "c" { command = "echo fine; sleep 0.2" }\nobject Host "h" { check_command = "c"; check_interval = 1; retry_interval = 1 }\n',
 }
@@ -117,6 +125,7 @@ ROWS = [
     ("soft to hard, two workers", "replay quiet hard.script --workers 2 --log 2"),
     ("two callers", "replay active callers.script"),
     ("two callers, two workers", "replay active callers.script --workers 2"),
+    ("many lines and reports, eight workers", "replay many many.script --workers 8"),
     ("recurring downtimes", "replay recurring callers.script --recur"),
     ("query", "query quiet hard.script down.query"),
     ("resume", "resume quiet state callers.script"),
