@@ -168,6 +168,7 @@ FILES = {
     + "".join(f'line "[1] PROCESS_HOST_CHECK_RESULT;h{at};1;x"\n' for at in range(300))
     + "turn 12\n",
     "query": "GET hosts\nColumns: name state\n",
+    "touch": 'object CheckCommand "c" { command = [ "touch", "touched" ] }\nobject Host "h0" { check_command = "c" }\n',
     "live": 'object CheckCommand "c" { command = "echo fine; sleep 0.2" }\nfor (i in range(3)) { object Host "h" + i { check_command = "c"; check_interval = 1; retry_interval = 1 } }\n',
 }
 WORDS = {
@@ -374,6 +375,13 @@ def outputs():
             out += some
         os.close(read)
         expect(what, (got[0], out, got[2]), 4 if len(right(what)[1]) > 65536 else right(what)[0], "a pipe that doesn't block")
+    # If the lines of a turn can't be written, none of its checks is started.
+    with open("/dev/full", "wb") as full:
+        expect("daemon", run("daemon", "daemon touch", stdout=full), 4, "/dev/full, with a check that leaves a file")
+    if os.path.exists("touched"):
+        global failed
+        failed += 1
+        print("a check was started whose turn couldn't be written")
     os.makedirs("disk", exist_ok=True)
     if subprocess.run(["mount", "-t", "tmpfs", "-o", "size=64k", "tmpfs", "disk"], stderr=subprocess.DEVNULL).returncode:
         print("a full disk isn't tried: no file system can be mounted")
