@@ -49,13 +49,31 @@ print(it["name"], it["state"], it["type"], it["since"], it["downtime"], *it["tol
 same "now, an output that looks like a decision" 'DISK CRITICAL - | "/" full, " Problem " Sent' \
     "$(head -n 3 bench/logs/two.log >"$scratch/first"; now --json "$scratch/first" | python3 -c 'import json, sys; print(json.load(sys.stdin)["problems"][0]["output"])')"
 printf '%s\n' 'log 2' 'turn 1 1' 'entry "a" 1 by 0 at 1: passive 2 -> Down HARD 1 | - | "a!m" Problem Sent "u" | "x" ""' 'entry "b" 1 by 0 at 1: passive 2 -> Down HARD 1 | - | - | "x" ""' \
-    'entry "a" 2 by 0 at 2log 2' 'turn 1 3' 'entry "a" 2 by 0 at 3: ack normal quiet -> Down HARD 1 | - | - | -' >"$scratch/goes-on"
+    'turn 2 2' 'entry "a" 2 by 0 at 2log 2' 'turn 1 3' 'entry "a" 2 by 0 at 3: ack normal quiet -> Down HARD 1 | - | - | -' >"$scratch/goes-on"
 same "now, a daemon that was killed and goes on" "$(cat <<'LINES'
 Down     HARD   a  since 1970-01-01 00:00:01 (0m)  acknowledged (normal)  told u at 1970-01-01 00:00:01  x
 Down     HARD   b  since 1970-01-01 00:00:01 (0m)  nobody told: no notification  x
 2 of 2 are down at 1970-01-01 00:00:03
 LINES
 )" "$(now "$scratch/goes-on")"
+# The turn in which it was killed doesn't count, and neither does what stood before missing entries.
+sed 's/^entry "a" 2 by 0 at 2log 2$/entry "a" 2 by 0 at 2: ack normal quiet -> Down HARD 1 | - | - | -\nentry "b" 2 by 0log 2/; s/3: ack normal quiet/3: passive 2/' "$scratch/goes-on" >"$scratch/killed-turn"
+same "now, a turn in which the daemon was killed" 0 "$(now "$scratch/killed-turn" | grep -c acknowledged)"
+sed 's/^entry "a" 2 by 0 at 3: ack/entry "a" 3 by 0 at 3: checks off/; s/off normal quiet/off/' "$scratch/goes-on" >"$scratch/gap"
+same "now, a daemon that goes on behind missing entries" "$(cat <<'LINES'
+Down     HARD   b  since 1970-01-01 00:00:01 (0m)  nobody told: no notification  x
+Down     HARD   a  since 1970-01-01 00:00:03 (0m)  nobody told: no notification
+2 of 2 are down at 1970-01-01 00:00:03
+LINES
+)" "$(now "$scratch/gap")"
+# Of the one that begins anew since entries of it are missing, nothing counts but that; the others stand, whether they have entries yet or not.
+printf '%s\n' 'log 2' 'turn 1 9' 'entry "a" 1 by 0 at 9: passive 0 -> Up HARD 1 | - | - | "y" ""' 'turn 2 10' 'entry "c" 2 by 0 at 10: passive 0 -> Up HARD 1 | - | - | "z" ""' >"$scratch/partly"
+same "now, a daemon that goes on but for one" "$(cat <<'LINES'
+Down     HARD   b  since 1970-01-01 00:00:01 (0m)  nobody told: no notification  x
+1 of 3 are down at 1970-01-01 00:00:10
+LINES
+)" "$(now "$scratch/goes-on" "$scratch/partly")"
+same "now, a daemon that begins anew" "0 of 1 are down at 1970-01-01 00:00:09" "$(head -n 3 "$scratch/partly" >"$scratch/anew"; now "$scratch/goes-on" "$scratch/anew")"
 now "$scratch/none" 2>/dev/null
 same "now's status, without a log" 2 $?
 printf 'turn 1 1\nentry "a" 1 by 0 at 1: passive 2 -> Down HARD 1 | - | -' >"$scratch/cut"
