@@ -3,8 +3,8 @@
 
 usage: bench/resumes.py [--program FILE]
 
-The first part is replayed, bin/state makes the state file of its log, and the second part goes on behind that: both logs together have
-to be the log of the whole script, but for the numbers of turns. Passed over are scripts that bin/rows doesn't run or that give no log, those
+The first part is replayed and kept, so that there are two state files of it: that which bin/state makes of the log, and that of `keep`.
+The second part goes on behind each: both logs together have to be the log of the whole script, but for the numbers of turns. Passed over are scripts that bin/rows doesn't run or that give no log, those
 of which a check is ordered, since a run that goes on orders all that is due, and those whose moments fall, since the moments of turns without
 entries aren't kept. Then each byte of a small state file is changed, which has to give BadState or a log. Outside the gate; it takes a
 few minutes. Ends with 1 if something differs.
@@ -62,6 +62,12 @@ def state_of(room, log):
     return subprocess.run([f"{TOP}/bin/state", "log"], cwd=room, stdout=subprocess.PIPE, check=True).stdout
 
 
+def gone_on(program, room, state):
+    """The log of the second part behind a state file."""
+    put(f"{room}/state", state)
+    return given(program, room, "resume", "r", "state", "second", "--log", "2")
+
+
 def cut_row(program, table, row, files):
     """At how many turns a script was cut, and where that made a difference."""
     moments = [int(moment) for moment in re.findall(rb"(?m)^turn (\d+)$", files["s"])]
@@ -77,13 +83,13 @@ def cut_row(program, table, row, files):
             put(f"{room}/first", b"".join(turns[:at]))
             put(f"{room}/second", b"".join(turns[at:]))
             _, before = given(program, room, "replay", "r", "first", "--log", "2")
-            put(f"{room}/state", state_of(room, before))
-            status, after = given(program, room, "resume", "r", "state", "second", "--log", "2")
-            if b"\norder " in whole + after:
+            ends = [gone_on(program, room, state) for state in (state_of(room, before), given(program, room, "keep", "r", "first")[1])]
+            if b"\norder " in whole + ends[0][1]:
                 break
             cuts += 1
-            if status != 0 or unnumbered(before + after) != unnumbered(whole):
-                differ.append(f"{table}: {row.strip()}: cut before turn {at + 1}, with status {status}")
+            for how, (status, after) in zip(("of the log", "that was kept"), ends):
+                if status != 0 or unnumbered(before + after) != unnumbered(whole):
+                    differ.append(f"{table}: {row.strip()}: cut before turn {at + 1}, by the state file {how}, with status {status}")
         return cuts, differ
 
 

@@ -25,6 +25,7 @@ usage:
   icinga_site daemon ROOT                 runs the checks of that site, takes command lines from standard input, and writes the log
   icinga_site daemon ROOT STATE           the same, and goes on after the entries of the state file STATE
   icinga_site query ROOT SCRIPT QUERY     answers the query in QUERY once the turns of SCRIPT are over
+  icinga_site keep ROOT SCRIPT            writes the state file of the entries that the turns of SCRIPT leave
   icinga_site resume ROOT STATE SCRIPT    writes the log of the turns of SCRIPT after the entries of the state file STATE
   icinga_site gen N                       runs a generated site of N hosts, from 1 to 10000, and writes five counts
   icinga_site --help                      prints this text, as do -h and help

@@ -7,15 +7,17 @@ use Rattle.site_edge.specs.declared.turn.Turn.{Turn}
 use Rattle.site_model.specs.PlainSite.{PlainSite}
 use Rattle.site_model.specs.Sound.{HasNames}
 use Rattle.site_answers.specs.SiteAnswers as answers
-use Rattle.site_answers.specs.SiteAnswers.{AnswersAsked, AnswersBytes, AnswersQueried, AnswersReplayed, AnswersWatched, Before, Files, OnBefore, OnQuery, OnScript, OnTurns, answered, before, most_turns}
+use Rattle.site_answers.specs.SiteAnswers.{AnswersAsked, AnswersBytes, AnswersKept, AnswersLeft, AnswersQueried, AnswersReplayed, AnswersWatched, Before, Files, OnBefore, OnQuery, OnScript, OnTurns, answered, before, most_turns}
 use Rattle.site_answers.proofs.Finding.{log_as}
 use Rattle.site_query.specs.Lines as query_lines
 use Rattle.site_query.specs.declared.query.Query.{Query}
 use Rattle.site_query.proofs.QueryLaws.{has_read as query_is}
 use Rattle.site_run.specs.Logs.{Whole, nothing_given}
+use Rattle.kept_runs.specs.Kept.{AnswersKeep}
 use Rattle.whole_runs.specs.Logs.{AnswersTurns, IsSiteLog}
 use Rattle.whole_runs.specs.Queried.{AnswersQuery}
 use Rattle.whole_runs.proofs.Given.{one_site_log}
+use Rattle.kept_runs.proofs.Kept.{one_file}
 use Rattle.whole_runs.proofs.Queried.{one_answer as one_query}
 use Rattle.site_text.specs.Scripts.{Answer, bad_line, told}
 use Rattle.site_text.proofs.ScriptLaws.{has_read}
@@ -79,3 +81,17 @@ asked_one name (Some bytes) s names turns v w p q =
 
 pub queried_one : (script name : List ℕ) (found asked : Option (List ℕ)) → IsOne (λ s w. AnswersQueried 1 script name s found asked w)
 queried_one script name found asked s names v w p q = script_one (AnswersAsked 1 name asked s) script (λ turns x y a b. asked_one name asked s names turns x y a b) found v w p q
+
+-- State files.
+
+file_one : (s : PlainSite) → HasNames s → (turns : List Turn) (a b : Option (List ℕ)) → AnswersKeep 1 most_turns s turns a → AnswersKeep 1 most_turns s turns b → a ≡ b
+file_one s names turns None None h k = refl
+file_one s names turns (Some t) (Some u) h k = ap Some (one_file s (nothing_given s) turns t u names h.1 k.1)
+file_one s names turns None (Some u) h k = absurd (let many = h in let few = k.0 in omega (arith, many, few))
+file_one s names turns (Some t) None h k = absurd (let many = k in let few = h.0 in omega (arith, many, few))
+
+left_one : (s : PlainSite) → HasNames s → (turns : List Turn) (v w : Whole) → AnswersLeft 1 s turns v → AnswersLeft 1 s turns w → v ≡ w
+left_one s names turns v w p q = p.2 ∙ ap answered (file_one s names turns p.0 q.0 p.1 q.1) ∙ sym q.2
+
+pub kept_one : (script : List ℕ) (found : Option (List ℕ)) → IsOne (λ s w. AnswersKept 1 script s found w)
+kept_one script found s names v w p q = script_one (AnswersLeft 1 s) script (left_one s names) found v w p q

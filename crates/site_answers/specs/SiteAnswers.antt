@@ -15,6 +15,7 @@ use Rattle.site_run.specs.Logs.{Whole}
 use Rattle.site_run.specs.declared.status.Status.{Status}
 use Rattle.site_run.specs.declared.status.Status.TheVariants as status
 use Rattle.site_text.specs.Scripts.{Answer, Has, told, bad_line}
+use Rattle.kept_runs.specs.Kept.{AnswersKeep}
 use Rattle.whole_runs.specs.Logs.{AnswersTurns, IsSiteLog, WentOver}
 use Rattle.whole_runs.specs.Queried.{AnswersQuery}
 
@@ -83,7 +84,7 @@ AnswersWatched callers style recur state turns all s w =
 
 -- Queries.
 
--- the text of an answer; nothing where there were more turns than may be taken
+-- the text of an answer or of a state file; nothing where there were more turns than may be taken
 abbrev pub answered : Option (List ℕ) → Whole
 answered (Some text) = record { text = text; ends = status.Done }
 answered None = record { text = []; ends = status.TurnsSpent }
@@ -101,6 +102,16 @@ AnswersAsked callers name (Some bytes) s turns w = (a : query_lines.Answer) × q
 -- once the turns of a script are over
 abbrev pub AnswersQueried : ℕ → List ℕ → List ℕ → PlainSite → Option (List ℕ) → Option (List ℕ) → Whole → Type 0
 AnswersQueried callers script name s found asked w = OnScript (AnswersAsked callers name asked s) script found w
+
+-- State files.
+
+-- that of the entries which these turns leave
+abbrev pub AnswersLeft : ℕ → PlainSite → List Turn → Whole → Type 0
+AnswersLeft callers s turns w = (file : Option (List ℕ)) × AnswersKeep callers most_turns s turns file × (w ≡ answered file)
+
+-- once the turns of a script are over
+abbrev pub AnswersKept : ℕ → List ℕ → PlainSite → Option (List ℕ) → Whole → Type 0
+AnswersKept callers script s found w = OnScript (AnswersLeft callers s) script found w
 
 -- How far a run of the world's turns came: to no answer of its files, to no entries before its first turn, or behind these.
 

@@ -13,10 +13,10 @@ ghost use Rattle.site_run.specs.Logs.{EndsRun, EndsWhole};
 ghost use Rattle.site_answers.specs.Runs.{replied};
 ghost use Rattle.site_answers.specs.SiteAnswers.{AnswersAsked, AnswersQueried, answered};
 
-use crate::output::{write_made, write_reply};
+use crate::output::{write_made, write_reply, write_spent};
 use crate::replay::{MOST_TURNS, turns_of};
 use site_base::{Blob, OutOfMemory, Row, Text, Texts};
-use site_edge::{FileFault, Files, Sink, SinkFault, Turn};
+use site_edge::{FileFault, Files, Sink, Turn};
 use site_model::Site;
 use site_query::{Query, QueryError, read_query};
 use site_replies::{Reply, bad_query, bad_script, no_file};
@@ -172,11 +172,7 @@ fn write_answer<S: Sink>(alloc: Global, answer: Option<Text>, out: &mut S) -> St
             Ok(reply) => write_reply(&reply, out),
             Err(_) => Status::OutOfMemory,
         },
-        None => match out.flush() {
-            Ok(()) => Status::TurnsSpent,
-            Err(SinkFault::Failed) => Status::WriteFault,
-            Err(SinkFault::OutOfMemory) => Status::OutOfMemory,
-        },
+        None => write_spent(out),
     }
 }
 

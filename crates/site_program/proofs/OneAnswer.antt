@@ -20,7 +20,7 @@ use Rattle.site_model.specs.Sound.{HasNames}
 use Rattle.site_phases.specs.Constants.{PlainGlobals, settings_of}
 use Rattle.site_phases.specs.Phases.{phases, site_made}
 use Rattle.site_answers.specs.Runs.{replied}
-use Rattle.site_answers.specs.SiteAnswers.{AnswersQueried, AnswersReplayed, AnswersWatched, Files}
+use Rattle.site_answers.specs.SiteAnswers.{AnswersKept, AnswersQueried, AnswersReplayed, AnswersWatched, Files}
 use Rattle.site_program.specs.TaskAnswers.{Answers, AnswersOver, AnswersShown, AnswersSite, IsCounted, files_of, root_name}
 use Rattle.site_replies.specs.Replies.{listed}
 use Rattle.site_replies.specs.declared.replies.Shown.{Shown}
@@ -31,9 +31,9 @@ use Rattle.site_run.specs.Statuses.{number_of}
 use Rattle.site_run.specs.declared.status.Status.{Status}
 use Rattle.site_run.specs.declared.status.Status.TheVariants as status
 use Rattle.site_text.specs.Scripts.{told}
-use Rattle.site_words.specs.Tasks.{Task, check, daemon, generate, objects, query, replay, resume}
+use Rattle.site_words.specs.Tasks.{Task, check, daemon, generate, keep, objects, query, replay, resume}
 use Rattle.typed_site.proofs.SoundLaws.{has_names}
-use Rattle.site_answers.proofs.OneAnswer.{IsOne, queried_one, replayed_one, watched_one}
+use Rattle.site_answers.proofs.OneAnswer.{IsOne, kept_one, queried_one, replayed_one, watched_one}
 
 -- What can't be otherwise is so: texts and statuses are told apart.
 
@@ -127,6 +127,7 @@ one_answer (replay style recur root script) files turns v w p q = site_one files
 one_answer (daemon style recur root state) files turns v w p q = site_one files root (AnswersWatched 1 style recur state (Some turns) files) (watched_one style recur state turns files) v w p q
 one_answer (query root script name) files turns v w p q =
     site_one files root (λ s. AnswersQueried 1 script name s (find_file script files) (find_file name files)) (queried_one script name (find_file script files) (find_file name files)) v w p q
+one_answer (keep root script) files turns v w p q = site_one files root (λ s. AnswersKept 1 script s (find_file script files)) (kept_one script (find_file script files)) v w p q
 one_answer (resume style root state script) files turns v w p q = site_one files root (AnswersReplayed 1 style false (Some state) script files) (replayed_one style false (Some state) script files) v w p q
 one_answer (generate hosts) files turns v w p q = site_one (files_of hosts) root_name (IsCounted hosts) (counted_one hosts) v w p q
 

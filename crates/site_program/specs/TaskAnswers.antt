@@ -16,7 +16,7 @@ use Rattle.site_load.specs.Idle.{idle_by, rules_of}
 use Rattle.site_load.specs.Loads.{load_outcome}
 use Rattle.site_model.specs.PlainSite.{PlainSite}
 use Rattle.site_answers.specs.Runs.{replied}
-use Rattle.site_answers.specs.SiteAnswers.{Files, AnswersReplayed, AnswersWatched, AnswersQueried, IsUnanswered, CameBehind}
+use Rattle.site_answers.specs.SiteAnswers.{Files, AnswersKept, AnswersReplayed, AnswersWatched, AnswersQueried, IsUnanswered, CameBehind}
 use Rattle.site_replies.specs.Remarks.{remarks_of, with_remarks}
 use Rattle.site_replies.specs.Replies.{config_reply, diagnoses, listed}
 use Rattle.site_replies.specs.declared.remarks.Remark.{Remark}
@@ -27,7 +27,7 @@ use Rattle.site_run.specs.Logs.{Whole}
 use Rattle.site_run.specs.declared.status.Status.{Status}
 use Rattle.site_run.specs.declared.status.Status.TheVariants as status
 use Rattle.site_words.specs.Commands.{Command}
-use Rattle.site_words.specs.Tasks.{Task, check, daemon, generate, objects, query, replay, resume}
+use Rattle.site_words.specs.Tasks.{Task, check, daemon, generate, keep, objects, query, replay, resume}
 
 -- Configurations.
 
@@ -80,6 +80,7 @@ Answers callers (daemon style recur root state) files turns w =
 Answers callers (generate hosts) files turns w = AnswersGenerated hosts w
 Answers callers (query root script name) files turns w =
     IfSome files (λ all. AnswersSite all root (λ s. AnswersQueried callers script name s (find_file script all) (find_file name all)) w)
+Answers callers (keep root script) files turns w = IfSome files (λ all. AnswersSite all root (λ s. AnswersKept callers script s (find_file script all)) w)
 Answers callers (resume style root state script) files turns w =
     IfSome files (λ all. AnswersSite all root (AnswersReplayed callers style false (Some state) script all) w)
 

@@ -12,6 +12,7 @@ use crate::committers::{Committers, OneCommitter};
 use crate::config::{count_objects, list_objects};
 use crate::daemon::watch;
 use crate::generate::generate;
+use crate::keep::keep;
 use crate::query::answer_query;
 use crate::replay::replay;
 use site_base::Text;
@@ -136,7 +137,8 @@ pub(crate) fn run_task<F: Files, W: World, S: Sink, N: Remarks, C: Workers, M: C
             root,
             script,
             query,
-        } => answer_query(alloc, workers, committers, root, script, query, files, out),
+        } => answer_query(alloc, workers, root, script, query, files, out),
+        Task::Keep { root, script } => keep(alloc, workers, root, script, files, out),
         Task::Resume {
             style,
             root,

@@ -6,7 +6,7 @@ use Rattle.run_text.specs.declared.style.Style.TheVariants as style
 use Rattle.site_text.specs.ScriptReading.{Read, bad, got}
 use Rattle.site_text.specs.Wholes.{whole_at}
 use Rattle.site_words.specs.declared.words.Task as declared
-use Rattle.site_words.specs.declared.words.Task.TheVariants.{Check, Daemon, Generate, Objects, Query, Replay, Resume}
+use Rattle.site_words.specs.declared.words.Task.TheVariants.{Check, Daemon, Generate, Keep, Objects, Query, Replay, Resume}
 
 -- what words ask for, by the names of files or the number of hosts
 pub data Task : Type 0 where
@@ -21,6 +21,8 @@ pub data Task : Type 0 where
   generate : ℕ → Task
   -- of a root, a script and a query
   query : List ℕ → List ℕ → List ℕ → Task
+  -- of a root and a script
+  keep : List ℕ → List ℕ → Task
   -- in a version of the log, of a root, a state file and a script
   resume : Style → List ℕ → List ℕ → List ℕ → Task
 
@@ -31,6 +33,7 @@ task_view (Replay style recur root script) = replay style recur root.now script.
 task_view (Daemon style recur root state) = daemon style recur root.now (option_map (λ name. name.now) state)
 task_view (Generate hosts) = generate hosts
 task_view (Query root script asked) = query root.now script.now asked.now
+task_view (Keep root script) = keep root.now script.now
 task_view (Resume style root state script) = resume style root.now state.now script.now
 
 -- a file's name: it isn't empty and doesn't begin with `-`
@@ -67,6 +70,10 @@ query_task w root script asked =
     then Some (query root script asked)
     else None
 
+-- `keep ROOT SCRIPT`
+abbrev pub keep_task : List ℕ → List ℕ → Option Task
+keep_task root script = if is_file_word root && is_file_word script then Some (keep root script) else None
+
 -- a number of hosts: from 1 to 10,000, and nothing stands behind its digits
 abbrev pub few_hosts : Read ℕ → Option ℕ
 few_hosts (got n []) = if nat_le 1 n && nat_le n 10000 then Some n else None
@@ -91,6 +98,10 @@ abbrev pub three_words : Style → Bool → List ℕ → List ℕ → List ℕ �
 three_words version recur w x y =
     if bytes_eq w (codes "daemon") then daemon_on version recur x y else replay_task version recur w x y
 
+-- of which none asks for a version of the log, nor for downtimes that recur
+abbrev pub three_plain : List ℕ → List ℕ → List ℕ → Option Task
+three_plain w x y = if bytes_eq w (codes "keep") then keep_task x y else three_words style.One false w x y
+
 abbrev pub four_words : List ℕ → List ℕ → List ℕ → List ℕ → Option Task
 four_words w x y z = if bytes_eq w (codes "resume") then resume_task style.One w x y z else query_task w x y z
 
@@ -110,7 +121,7 @@ two_words w x =
 -- words that ask for no version of the log, and for no downtimes that recur
 abbrev pub plain_words : List (List ℕ) → Option Task
 plain_words (w ∷ x ∷ []) = two_words w x
-plain_words (w ∷ x ∷ y ∷ []) = three_words style.One false w x y
+plain_words (w ∷ x ∷ y ∷ []) = three_plain w x y
 plain_words (w ∷ x ∷ y ∷ z ∷ []) = four_words w x y z
 plain_words ws = None
 

@@ -1,6 +1,6 @@
 // What a command's own words ask for.
 ghost use Rattle.std.specs.Prelude.{◌≡◌, ◌&&◌, option_map};
-ghost use Rattle.site_words.specs.Tasks.{daemon_on as daemon_with, daemon_task as task_of_daemon, four_words as task_of_four, generate_task as task_of_generate, hosts_in, is_file_word as names_file, logged_task as task_logged, plain_task as task_plain, plain_words as words_plain, query_task as task_of_query, replay_task as task_of_replay, resume_task as task_of_resume, task_of as task_in, task_view, three_words as task_of_three, two_words as task_of_two};
+ghost use Rattle.site_words.specs.Tasks.{daemon_on as daemon_with, daemon_task as task_of_daemon, four_words as task_of_four, generate_task as task_of_generate, hosts_in, is_file_word as names_file, keep_task as task_of_keep, logged_task as task_logged, plain_task as task_plain, plain_words as words_plain, query_task as task_of_query, replay_task as task_of_replay, resume_task as task_of_resume, task_of as task_in, task_view, three_plain as plain_of_three, three_words as task_of_three, two_words as task_of_two};
 
 use run_text::Style;
 use site_base::Text;
@@ -44,6 +44,11 @@ pub enum Task<'a> {
         script: &'a str,
         query: &'a str,
     },
+    /// `keep ROOT SCRIPT`: the state file of the entries that the script's turns leave.
+    Keep {
+        root: &'a str,
+        script: &'a str,
+    },
     /// `resume ROOT STATE SCRIPT`: the log of the script's turns behind the entries of a state file, in a version.
     Resume {
         style: Style,
@@ -72,7 +77,7 @@ fn plain_words(words: &[Text]) -> Option<Task<'_>>
 {
     match words {
         [word, named] => two_words(word, named),
-        [word, root, other] => three_words(Style::One, false, word, root, other),
+        [word, root, other] => three_plain(word, root, other),
         [word, root, other, last] => four_words(word, root, other, last),
         _ => None,
     }
@@ -174,6 +179,16 @@ fn three_words<'a>(
     }
 }
 
+/// What three words ask for that ask for no version of the log, and for no downtimes that recur.
+fn three_plain<'a>(word: &'a Text, root: &'a Text, other: &'a Text) -> Option<Task<'a>>
+    ensures { option_map task_view result ≡ plain_of_three word.now root.now other.now }
+{
+    match word.as_str() {
+        "keep" => keep_task(root, other),
+        _ => three_words(Style::One, false, word, root, other),
+    }
+}
+
 fn four_words<'a>(
     word: &'a Text,
     root: &'a Text,
@@ -226,6 +241,19 @@ fn query_task<'a>(
             root: root.as_str(),
             script: script.as_str(),
             query: query.as_str(),
+        })
+    } else {
+        None
+    }
+}
+
+fn keep_task<'a>(root: &'a Text, script: &'a Text) -> Option<Task<'a>>
+    ensures { option_map task_view result ≡ task_of_keep root.now script.now }
+{
+    if is_file_word(root) && is_file_word(script) {
+        Some(Task::Keep {
+            root: root.as_str(),
+            script: script.as_str(),
         })
     } else {
         None

@@ -30,6 +30,11 @@ returns-in-Query-clause-written g c =
     subst (λ (t : Task). EndsRun c.answer_query.result (Answers (g.C.Workers.callers c.args.workers.now) t (g.F.Files.told c.args.files.now) (g.W.World.turns c.args.world.now)) (g.S.Sink.written c.args.out.now) (g.S.Sink.written c.answer_query.new.out))
     (sym (ap task_view c.in-Query.is)) c.answer_query.ensures.written
 
+pub returns-in-Keep-clause-written : goal.returns-in-Keep-clause-written
+returns-in-Keep-clause-written g c =
+    subst (λ (t : Task). EndsRun c.keep.result (Answers (g.C.Workers.callers c.args.workers.now) t (g.F.Files.told c.args.files.now) (g.W.World.turns c.args.world.now)) (g.S.Sink.written c.args.out.now) (g.S.Sink.written c.keep.new.out))
+    (sym (ap task_view c.in-Keep.is)) c.keep.ensures.written
+
 pub returns-in-Resume-clause-written : goal.returns-in-Resume-clause-written
 returns-in-Resume-clause-written g c =
     subst (λ (t : Task). EndsRun c.replay-in-Resume.result (Answers (g.C.Workers.callers c.args.workers.now) t (g.F.Files.told c.args.files.now) (g.W.World.turns c.args.world.now)) (g.S.Sink.written c.args.out.now) (g.S.Sink.written c.replay-in-Resume.new.out))

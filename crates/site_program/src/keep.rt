@@ -1,0 +1,48 @@
+// The state file of what a script leaves.
+ghost use Rattle.std.specs.Prelude.{◌≡◌, ◌≢◌, IfSome};
+ghost use Rattle.site_edge.specs.Told.{Rose, find_file};
+ghost use Rattle.site_run.specs.Callers.{AreCallers};
+ghost use Rattle.site_run.specs.Ends.{HandsOn};
+ghost use Rattle.site_run.specs.Logs.{EndsRun};
+ghost use Rattle.site_answers.specs.SiteAnswers.{AnswersKept};
+ghost use Rattle.site_program.specs.TaskAnswers.{AnswersSite};
+
+use crate::config::status_of;
+use site_answers::{keep_site, write_made};
+use site_edge::{Files, Sink};
+use site_load::config_answer;
+use site_phases::Answer;
+use site_replies::diagnoses;
+use site_run::{Status, Workers};
+use std::alloc::Global;
+
+/// Writes the state file of the entries that the turns of a script leave, whose events these workers take, over the site that the files from
+/// the root on make, or why there is none. The script is read only where there is a site. The workers are 1 to 64.
+pub fn keep<F: Files, S: Sink, C: Workers>(
+    alloc: Global,
+    workers: &C,
+    root: &str,
+    script: &str,
+    files: &mut F,
+    out: &mut S,
+) -> Status
+    requires callers { AreCallers (C.callers workers.now) }
+    requires apt { C.apt workers.now }
+    ensures never_usage { result ≢ Status.Usage }
+    ensures written { EndsRun result (λ w. IfSome (F.told files.old) (λ all. AnswersSite all root.now (λ s. AnswersKept (C.callers workers.now) script.now s (find_file script.now all)) w)) (S.written out.old) (S.written out.new) }
+    ensures through { HandsOn result (S.kept_back out.new) }
+    ensures told { F.told files.new ≡ F.told files.old }
+    ensures read_fault { result ≡ Status.ReadFault → Rose (F.faults files.old) (F.faults files.new) }
+    ensures write_fault { result ≡ Status.WriteFault → Rose (S.faults out.old) (S.faults out.new) }
+    ensures calm_files { F.calm files.old → result ≢ Status.ReadFault }
+    ensures calm_sink { S.calm out.old → result ≢ Status.WriteFault }
+    ensures no_world_fault { result ≢ Status.WorldFault }
+{
+    match config_answer(alloc, files, root) {
+        Ok(Answer::Site(site)) => keep_site(alloc, workers, script, site, files, out),
+        Ok(Answer::Diags { files, list }) => {
+            write_made(diagnoses(alloc, &files, list.as_slice()), out)
+        }
+        Err(fault) => status_of(fault),
+    }
+}
