@@ -2,14 +2,12 @@
 use Rattle.std.proofs.Common.{◌≡◌, ◌<◌, ◌≤◌, ◌+◌, ℕ, zero, suc, false, List, [], ◌∷◌, ◌++◌, All, length, map, slice_get, Option, Some, refl, sym, ap, ◌∙◌, subst, arith, append_assoc, length-append}
 use Rattle.std.proofs.lemmas.List.{append-nil}
 use Rattle.std.proofs.lemmas.List.Elements.{All-append, All-head, All-nil, All-tail}
-use Rattle.engine_log.specs.OnSite.{IsTurnOf}
 use Rattle.engine_log.proofs.OnSite.{entries_are}
 use Rattle.jiff_tz.specs.declared.tzif.Tzif.{Tzif}
 use Rattle.run_meaning.specs.Runs.{IsRunFrom, IsTurn, Stage, TurnLog, begun_by, joined, no_entries, stage_after, stage_by, start}
 use Rattle.run_meaning.specs.Turns.{Begun, Histories}
 use Rattle.run_meaning.proofs.Lists.{get_map, length_map}
 use Rattle.run_text.specs.TurnReading.{turn_read}
-use Rattle.run_text.specs.declared.style.Style.TheVariants as style
 use Rattle.run_text.proofs.ReadLaws.{turns_are, turns_are_read}
 use Rattle.site_edge.specs.declared.turn.Turn.{Turn}
 use Rattle.site_keep.specs.StateFile.{ArePrintable, state_file}
@@ -20,14 +18,15 @@ use Rattle.site_model.specs.declared.site.Site.{Site}
 use Rattle.site_posts.specs.Segments.{segments_from, segments_of}
 use Rattle.site_posts.specs.declared.segment.Segment.{Segment}
 use Rattle.site_run.specs.Courses.{AreLogsOf, Course, IsNextLog, behind_over, reads}
-use Rattle.site_run.specs.Feeds.{basis_with, no_lines}
+use Rattle.site_run.specs.Feeds.{basis_with}
 use Rattle.site_run.specs.Logs.{AreLogs, Given, nothing_given}
 use Rattle.site_run.proofs.Going.{behind_joined, logs_then}
 use Rattle.site_run.proofs.OneLog.{one_run, same_basis}
 use Rattle.site_text.specs.Entries.{IsPrintable}
 use Rattle.turn_engine.specs.Ready.{Held, IsZoneOf}
-use Rattle.turn_engine.specs.Stages.{Running, Tells, TellsTurn, basis_of_site, stage_of}
+use Rattle.turn_engine.specs.Stages.{Running, TellsTurn, basis_of_site, stage_of}
 use Rattle.turn_engine.specs.declared.turn_out.TurnOut.{TurnOut}
+use Rattle.kept_runs.specs.Keeping.{Keeps, course}
 use Rattle.kept_runs.specs.Kept.{IsKept, histories_left}
 
 -- Entries that can be printed.
@@ -56,7 +55,7 @@ module _ (s : PlainSite) where
   each_joined : (k : ℕ) (hs round : Histories) → length round ≡ length hs → Each k hs → AreAll (segments_from k round) → Each k (joined hs round)
   each_joined k [] [] many each all j h at = absurd cc
   each_joined k [] (r ∷ round) many each all j h at = absurd (omega (arith, many))
-  each_joined k (g ∷ hs) [] many each all = each
+  each_joined k (g ∷ hs) [] many each all j h at = each j h at
   each_joined k (g ∷ hs) (r ∷ round) many each all zero h at =
       let n : k ≡ k + 0 = omega arith in
       subst (All (IsPrintable s (k + 0))) (one_of (g ++ r) h at) (All-append (IsPrintable s (k + 0)) g r (each zero g refl) (subst (λ i. All (IsPrintable s i) r) n (own k r round all)))
@@ -73,7 +72,11 @@ module _ (s : PlainSite) where
   joined_printable : (hs round : Histories) → length round ≡ length hs → ArePrintable s hs → AreAll (segments_of round) → ArePrintable s (joined hs round)
   joined_printable hs round many are all = record {
     whole = joined_whole hs round many ∙ are.whole;
-    each = λ j h at. each_joined 0 hs round many (λ i g there. are.each i g there) all j h at;
+    each =
+        λ j h at.
+        let n : 0 + j ≡ j = omega arith in
+        subst (λ i. All (IsPrintable s i) h) n
+        (each_joined 0 hs round many (λ i g there. let m : i ≡ 0 + i = omega arith in subst (λ k. All (IsPrintable s k) g) m (are.each i g there)) all j h at);
   }
 
   none_printable : ArePrintable s (no_entries s)
@@ -81,33 +84,18 @@ module _ (s : PlainSite) where
 
 -- From turn to turn.
 
--- a run with nothing fed, from where an engine stands
-abbrev pub course : Running → Course
-course r = record { basis = basis_with (site_view r.site) r.zone no_lines; stage = stage_of r []; style = style.One }
+pub sound_as : {x y : Site} → x ≡ y → IsSound (site_view x) → IsSound (site_view y)
+sound_as same sound = subst (λ (z : Site). IsSound (site_view z)) same sound
 
--- some turns were taken, behind which the engine stands, and these are its entries
-pub record Keeps (callers : ℕ) (r : Running) (all left : List Turn) (engine : Held) (hs : Histories) : Type 0 where
-  pub done : List Turn
-  pub logs : List TurnLog
-  pub both : done ++ left ≡ all
-  pub are : AreLogsOf callers (course r) done logs
-  pub stage : stage_of engine.run (behind_over (course r) done logs).stage.begun ≡ (behind_over (course r) done logs).stage
-  pub fresh : engine.spent ≡ false
-  pub site : engine.run.site ≡ r.site
-  pub zone : engine.run.zone ≡ r.zone
-  pub entries : hs ≡ engine.run.histories
-  pub printable : ArePrintable (site_view r.site) hs
-  pub turns : engine.run.turns ≡ length done
-
-module _ (callers : ℕ) (r : Running) (begin : stage_of r [] ≡ start (site_view r.site) (no_entries (site_view r.site))) where
+module _ (callers : ℕ) (r : Running) where
   abbrev c : Course
   c = course r
 
   abbrev s : PlainSite
   s = site_view r.site
 
-  pub begun : (turns left : List Turn) (engine : Held) (hs : Histories) → left ≡ turns → engine.run ≡ r → engine.spent ≡ false → hs ≡ no_entries s → Keeps callers r turns left engine hs
-  begun turns left engine hs is at fresh none = record {
+  pub begun : stage_of r [] ≡ start s (no_entries s) → (turns left : List Turn) (engine : Held) (hs : Histories) → left ≡ turns → engine.run ≡ r → engine.spent ≡ false → hs ≡ no_entries s → Keeps callers r turns left engine hs
+  begun begin turns left engine hs is at fresh none = record {
     done = [];
     logs = [];
     both = is;
@@ -172,7 +160,7 @@ module _ (callers : ℕ) (r : Running) (begin : stage_of r [] ≡ start (site_vi
         turns = (let n = ap (λ (st : Stage). st.turns) x.after ∙ x.is.number in let m = k.turns in let l = length-append k.done (t ∷ []) in omega (arith, n, m, l));
       }
 
-  module _ (someone : 1 ≤ callers) (zone : IsZoneOf s.zone r.zone) (names : HasNames s) where
+  module _ (begin : stage_of r [] ≡ start s (no_entries s)) (someone : 1 ≤ callers) (zone : IsZoneOf s.zone r.zone) (names : HasNames s) where
     abbrev pub are_logs : (turns : List Turn) (ls : List TurnLog) → AreLogsOf callers c turns ls → AreLogs callers s (nothing_given s) turns ls
     are_logs turns ls are = record {
       zone = r.zone;

@@ -1,5 +1,5 @@
 -- Entries that are added to those of their checkable.
-use Rattle.std.specs.Prelude.{List, [], ◌++◌, get_or, slice_set}
+use Rattle.std.specs.Prelude.{[], ◌++◌, get_or, slice_set}
 use Rattle.run_meaning.specs.Turns.{Histories}
 use Rattle.site_posts.specs.declared.segment.Segment.{Segment}
 

@@ -1,17 +1,22 @@
 // The state file of what the turns of a script leave.
-ghost use Rattle.std.specs.Prelude.{◌≡◌, ◌<◌, ◌≤◌, ◌-◌, ◌^◌, length, All, IfOk, MatchOption};
+ghost use Rattle.std.specs.Prelude.{◌≡◌, ◌<◌, ◌≤◌, ◌+◌, ◌-◌, ◌^◌, [], ◌∷◌, List, false, length, All, IfOk, OnOk, MatchOption};
 ghost use Rattle.depend_graph.specs.Cycles.{IsOnCycle};
+ghost use Rattle.run_meaning.specs.Runs.{no_entries as none_of, start};
+ghost use Rattle.site_edge.specs.declared.turn.Turn.{Turn as OneTurn};
 ghost use Rattle.site_model.specs.PlainSite.{site_view};
 ghost use Rattle.site_model.specs.Sound.{IsSound};
 ghost use Rattle.time_range.specs.Zone.{IsBadFile};
+ghost use Rattle.turn_engine.specs.Ready.{IsZoneOf};
+ghost use Rattle.turn_engine.specs.Stages.{Running, stage_of};
 ghost use Rattle.site_run.specs.Callers.{AreCallers};
+ghost use Rattle.kept_runs.specs.Keeping.{Keeps};
 ghost use Rattle.kept_runs.specs.Kept.{AnswersKeep};
 
 use crate::gathering::{gather, no_entries};
 use site_base::{OutOfMemory, Row, Text};
 use site_edge::Turn;
 use site_keep::save;
-use site_model::Site;
+use site_model::{Entry, Site};
 use site_run::Workers;
 use std::alloc::Global;
 use turn_engine::Engine;
@@ -25,7 +30,6 @@ use turn_engine::Engine;
 /// # Errors
 ///
 /// `OutOfMemory` where there is none for the run, its entries or the text.
-#[tactic(none)]
 pub fn keep_turns<C: Workers>(
     alloc: Global,
     workers: &C,
@@ -42,15 +46,74 @@ pub fn keep_turns<C: Workers>(
     requires limit { limit ≤ 2 ^ 40 }
     ensures { IfOk result (AnswersKeep (C.callers workers.now) limit (site_view site) turns) }
 {
+    let mut engine = Engine::new(alloc, site)?;
+    keep_by(alloc, workers, &mut engine, turns, limit)
+}
+
+/// The same by an engine that took no turn so far.
+fn keep_by<C: Workers>(
+    alloc: Global,
+    workers: &C,
+    engine: &mut Engine,
+    turns: Row<Turn>,
+    limit: u64,
+) -> Result<Option<Text>, OutOfMemory>
+    requires callers { AreCallers (C.callers workers.now) }
+    requires apt { C.apt workers.now }
+    requires fresh { engine.old.spent ≡ false }
+    requires sound { IsSound (site_view engine.old.run.site) }
+    requires few { length (site_view engine.old.run.site).checkables < 2 ^ 32 - 1 }
+    requires zone { IsZoneOf (site_view engine.old.run.site).zone engine.old.run.zone }
+    requires begin { stage_of engine.old.run [] ≡ start (site_view engine.old.run.site) (none_of (site_view engine.old.run.site)) }
+    requires limit { limit ≤ 2 ^ 40 }
+    ensures { IfOk result (AnswersKeep (C.callers workers.now) limit (site_view engine.old.run.site) turns) }
+{
     if turns.len() as u64 > limit {
         return Ok(None);
     }
-    let mut engine = Engine::new(alloc, site)?;
-    let mut histories = no_entries(alloc, engine.site())?;
-    for turn in turns.into_vec() {
-        let out = workers.turn(&mut engine, &turn)?;
-        gather(&mut histories, out.segments)?;
-    }
+    let histories = take_turns(alloc, workers, engine, turns)?;
     let text = save(alloc, engine.site(), histories.as_slice())?;
     Ok(Some(text))
+}
+
+/// The entries of the turns that an engine takes which took none so far, by checkable.
+fn take_turns<C: Workers>(
+    alloc: Global,
+    workers: &C,
+    engine: &mut Engine,
+    turns: Row<Turn>,
+) -> Result<Vec<Row<Entry>>, OutOfMemory>
+    requires callers { AreCallers (C.callers workers.now) }
+    requires apt { C.apt workers.now }
+    requires fresh { engine.old.spent ≡ false }
+    requires sound { IsSound (site_view engine.old.run.site) }
+    requires begin { stage_of engine.old.run [] ≡ start (site_view engine.old.run.site) (none_of (site_view engine.old.run.site)) }
+    requires few { length turns ≤ 2 ^ 40 }
+    ensures { IfOk result (λ histories. Keeps (C.callers workers.now) engine.old.run turns [] engine.new histories.items) }
+{
+    let mut histories = no_entries(alloc, engine.site())?;
+    for turn in turns.into_vec() {
+        take(workers, engine, &mut histories, turn)?;
+    }
+    Ok(histories)
+}
+
+/// Takes one turn more.
+fn take<C: Workers>(
+    workers: &C,
+    engine: &mut Engine,
+    histories: &mut Vec<Row<Entry>>,
+    turn: Turn,
+) -> Result<(), OutOfMemory>
+    requires callers { AreCallers (C.callers workers.now) }
+    requires apt { C.apt workers.now }
+    requires fresh { engine.old.spent ≡ false }
+    requires few { engine.old.run.turns < 2 ^ 40 }
+    requires sound { IsSound (site_view engine.old.run.site) }
+    requires whole { length histories.old.items ≡ length (site_view engine.old.run.site).checkables }
+    ensures { (r : Running) (all left : List OneTurn) → Keeps (C.callers workers.now) r all (turn ∷ left) engine.old histories.old.items →
+        OnOk result (Keeps (C.callers workers.now) r all left engine.new histories.new.items) }
+{
+    let out = workers.turn(engine, &turn)?;
+    gather(histories, out.segments)
 }

@@ -13,6 +13,7 @@ ghost use Rattle.site_answers.specs.SiteAnswers.{AnswersKept, answered};
 
 use crate::output::{write_made, write_reply, write_spent};
 use crate::replay::{MOST_TURNS, turns_of};
+use kept_runs::keep_turns;
 use site_base::{Blob, OutOfMemory, Text, Texts};
 use site_edge::{FileFault, Files, Sink};
 use site_model::Site;
@@ -20,7 +21,6 @@ use site_replies::{Reply, bad_script, no_file};
 use site_run::{Status, Workers};
 use site_text::ScriptError;
 use std::alloc::Global;
-use kept_runs::keep_turns;
 
 /// Writes the state file of the entries that the turns of a script leave, whose events these workers take, over a site, or why there is none.
 /// The workers are 1 to 64.

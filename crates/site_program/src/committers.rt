@@ -3,6 +3,7 @@ ghost use Rattle.std.specs.Prelude.{◌≡◌, ◌≢◌, ◌≤◌, Bool, Some,
 ghost use Rattle.std.specs.Bool.{Decides};
 ghost use Rattle.site_edge.specs.Told.{Rose};
 ghost use Rattle.conf_sources.specs.Sources.{Told};
+ghost use Rattle.conf_sources.specs.declared.load_fault.LoadFault.TheVariants as fault;
 ghost use Rattle.site_phases.specs.Phases.{FilesStay, IfSite, IsReady, answer_view};
 ghost use Rattle.site_load.specs.Configs.{IsBadZone, config_outcome, names_of};
 ghost use Rattle.site_load.specs.Idle.{idle_by, rules_of};
@@ -89,20 +90,20 @@ impl<
         ((all : Told) → F.told files.now ≡ Some all → IfOk out (FilesStay (names_of (load_outcome all root.now)))) ×
         (IfOk out (λ a. IfSite a IsReady)) ×
         (F.told left.now ≡ F.told files.now) ×
-        (IsErrOf out LoadFault.Failed → Rose (F.faults files.now) (F.faults left.now)) ×
+        (IsErrOf out fault.Failed → Rose (F.faults files.now) (F.faults left.now)) ×
         (F.faults files.now ≤ F.faults left.now) ×
         (F.calm files.now → F.calm left.now) ×
-        (F.calm files.now → out ≢ Err LoadFault.Failed)) ×
+        (F.calm files.now → out ≢ Err fault.Failed)) ×
         ((alloc : _) (files : _) (root : _) (out : _) (left : _) → M.post w.made alloc files root out left →
         ((all : Told) (bad : Bool) → F.told files.now ≡ Some all → Decides bad (IsBadZone (load_outcome all root.now)) → IfOk out (λ m. answer_view m.answer ≡ config_outcome bad (load_outcome all root.now))) ×
         ((all : Told) → F.told files.now ≡ Some all → IfOk out (λ m. m.idle ≡ idle_by (rules_of (load_outcome all root.now)) (answer_view m.answer))) ×
         ((all : Told) → F.told files.now ≡ Some all → IfOk out (λ m. FilesStay (names_of (load_outcome all root.now)) m.answer)) ×
         (IfOk out (λ m. IfSite m.answer IsReady)) ×
         (F.told left.now ≡ F.told files.now) ×
-        (IsErrOf out LoadFault.Failed → Rose (F.faults files.now) (F.faults left.now)) ×
+        (IsErrOf out fault.Failed → Rose (F.faults files.now) (F.faults left.now)) ×
         (F.faults files.now ≤ F.faults left.now) ×
         (F.calm files.now → F.calm left.now) ×
-        (F.calm files.now → out ≢ Err LoadFault.Failed)) };
+        (F.calm files.now → out ≢ Err fault.Failed)) };
 
     fn answer(&self, alloc: Global, files: &mut F, root: &str) -> Result<Answer, LoadFault> {
         (self.answer)(alloc, files, root)

@@ -7,10 +7,10 @@ ghost use Rattle.site_run.specs.Logs.{EndsRun};
 ghost use Rattle.site_answers.specs.SiteAnswers.{AnswersKept};
 ghost use Rattle.site_program.specs.TaskAnswers.{AnswersSite};
 
+use crate::committers::Committers;
 use crate::config::status_of;
 use site_answers::{keep_site, write_made};
 use site_edge::{Files, Sink};
-use site_load::config_answer;
 use site_phases::Answer;
 use site_replies::diagnoses;
 use site_run::{Status, Workers};
@@ -18,9 +18,10 @@ use std::alloc::Global;
 
 /// Writes the state file of the entries that the turns of a script leave, whose events these workers take, over the site that the files from
 /// the root on make, or why there is none. The script is read only where there is a site. The workers are 1 to 64.
-pub fn keep<F: Files, S: Sink, C: Workers>(
+pub fn keep<F: Files, S: Sink, C: Workers, M: Committers<F>>(
     alloc: Global,
     workers: &C,
+    committers: &M,
     root: &str,
     script: &str,
     files: &mut F,
@@ -28,6 +29,7 @@ pub fn keep<F: Files, S: Sink, C: Workers>(
 ) -> Status
     requires callers { AreCallers (C.callers workers.now) }
     requires apt { C.apt workers.now }
+    requires committing { M.apt committers.now }
     ensures never_usage { result ≢ Status.Usage }
     ensures written { EndsRun result (λ w. IfSome (F.told files.old) (λ all. AnswersSite all root.now (λ s. AnswersKept (C.callers workers.now) script.now s (find_file script.now all)) w)) (S.written out.old) (S.written out.new) }
     ensures through { HandsOn result (S.kept_back out.new) }
@@ -38,7 +40,7 @@ pub fn keep<F: Files, S: Sink, C: Workers>(
     ensures calm_sink { S.calm out.old → result ≢ Status.WriteFault }
     ensures no_world_fault { result ≢ Status.WorldFault }
 {
-    match config_answer(alloc, files, root) {
+    match committers.answer(alloc, files, root) {
         Ok(Answer::Site(site)) => keep_site(alloc, workers, script, site, files, out),
         Ok(Answer::Diags { files, list }) => {
             write_made(diagnoses(alloc, &files, list.as_slice()), out)

@@ -137,8 +137,10 @@ pub(crate) fn run_task<F: Files, W: World, S: Sink, N: Remarks, C: Workers, M: C
             root,
             script,
             query,
-        } => answer_query(alloc, workers, root, script, query, files, out),
-        Task::Keep { root, script } => keep(alloc, workers, root, script, files, out),
+        } => answer_query(alloc, workers, committers, root, script, query, files, out),
+        Task::Keep { root, script } => {
+            keep(alloc, workers, committers, root, script, files, out)
+        }
         Task::Resume {
             style,
             root,

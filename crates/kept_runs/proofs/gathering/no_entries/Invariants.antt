@@ -1,9 +1,7 @@
 -- The lists so far, and one for each checkable that is left.
-use Rattle.std.proofs.Common.{◌≡◌, ◌++◌, [], drop, map, List}
+use Rattle.std.proofs.Common.{◌≡◌, ◌++◌, [], drop, map}
 use Rattle.site_model.specs.PlainSite.{site_view}
-use Rattle.site_model.specs.declared.entry.Entry.{Entry}
 use Rattle.run_meaning.specs.Runs.{no_entries}
-use Rattle.run_meaning.specs.Turns.{Histories}
 use Rattle.kept_runs.proofs.gathering.no_entries.Given as goal
 
 abbrev pub invariant-loop : goal.invariant-loop

@@ -17,10 +17,10 @@ returns-in-Ok-Site-clause-written g c =
     let a = c.in-Ok-Site in
     let script = c.args.script.now in
     let callers = g.C.Workers.callers c.args.workers.now in
-    ended_as c.keep_site.result (λ w. IfSome (g.F.Files.told c.config_answer.new.files) (λ all. AnswersKept callers script (site_view a.site) (find_file script all) w))
+    ended_as c.keep_site.result (λ w. IfSome (g.F.Files.told c.answer.new.files) (λ all. AnswersKept callers script (site_view a.site) (find_file script all) w))
     (λ w. IfSome told (λ all. AnswersSite all c.args.root.now (λ s. AnswersKept callers script s (find_file script all)) w)) (g.S.Sink.written c.args.out.now) (g.S.Sink.written c.keep_site.new.out)
     (λ w is. site_answers (λ all s. AnswersKept callers script s (find_file script all)) c.args.root.now told a.field-0 a.site a.field-0-is (λ files h. (a.ensures.files files h, λ bad decided. a.ensures.value files bad h decided)) w
-    (subst (λ (t : Option Files). IfSome t (λ all. AnswersKept callers script (site_view a.site) (find_file script all) w)) c.config_answer.ensures.same is))
+    (subst (λ (t : Option Files). IfSome t (λ all. AnswersKept callers script (site_view a.site) (find_file script all) w)) c.answer.ensures.same is))
     c.keep_site.ensures.written
 
 pub returns-in-Ok-Diags-clause-written : goal.returns-in-Ok-Diags-clause-written
