@@ -2,7 +2,13 @@ pub mod Cutting
 pub mod LineLaws
 pub mod WordLoops
 pub mod Ordering
-pub mod Pairing
+pub mod Gates
+pub mod Walk
+pub mod Taking
+pub mod Tracking
+pub mod Loops
 pub mod AgreeLaws
+pub mod TurnLaws
+pub mod AuditLaws
 pub mod HearLaws
 pub mod Naming

@@ -5,6 +5,10 @@ pub mod BlockReading
 pub mod Commands
 pub mod Telling
 pub mod Order
-pub mod Pairs
+pub mod Tracks
+pub mod Spots
 pub mod Hearing
+pub mod Filling
+pub mod Told
 pub mod Agreeing
+pub mod Audit

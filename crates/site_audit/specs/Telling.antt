@@ -12,7 +12,7 @@ use Rattle.site_audit.specs.declared.telling.Said.TheVariants as said
 
 -- a result is that of the order that its checkable has, for which a macro may be missing; without one nothing is told at all
 abbrev pub report_of : Open → ℕ → List ℕ → List ℕ → Said
-report_of o status output perf = if o.missing then said.Nothing else said.Report (record { order = o.number; status = status; output = output_text output perf })
+report_of o status output perf = if o.missing then said.Lacking o.number else said.Report (record { order = o.number; status = status; output = output_text output perf })
 
 abbrev pub result_said : Option Open → ℕ → List ℕ → List ℕ → Option Said
 result_said None status output perf = None
@@ -22,7 +22,7 @@ result_said (Some o) status output perf = Some (report_of o status output perf)
 abbrev pub event_said : List ℕ → Option Open → Event → Option Said
 event_said name o (event.Result status false output perf) = result_said o status output perf
 event_said name o (event.Result status true output perf) = option_map said.Line (line_for name (event.Result status true output perf))
-event_said name o event.Tick = Some said.Nothing
+event_said name o event.Tick = Some said.Tick
 event_said name o e = option_map said.Line (line_for name e)
 
 abbrev pub is_report : Event → Bool
@@ -32,6 +32,10 @@ is_report e = false
 -- the orders after an entry: that of its checkable has its result
 abbrev pub after_entry : List (Option Open) → EntryLine → List (Option Open)
 after_entry os x = if is_report x.entry.event then slice_set os x.checkable None else os
+
+abbrev pub after_entries : List (Option Open) → List EntryLine → List (Option Open)
+after_entries os [] = os
+after_entries os (x ∷ xs) = after_entries (after_entry os x) xs
 
 -- and after an order
 abbrev pub after_order : List (Option Open) → OrderLine → List (Option Open)

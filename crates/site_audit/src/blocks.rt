@@ -31,7 +31,7 @@ fn from_turn(bytes: &[u8]) -> &[u8]
 }
 
 /// Whether a line begins a turn.
-fn begins_turn(line: &[u8]) -> bool
+pub(crate) fn begins_turn(line: &[u8]) -> bool
     ensures { result ≡ begins line.now }
 {
     line.starts_with(b"turn ")

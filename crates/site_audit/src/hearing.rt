@@ -1,40 +1,41 @@
 // What all entries of a block tell.
-ghost use Rattle.std.specs.Prelude.{◌≡◌, [], get_or, map, None, IfOk, OnOk};
+ghost use Rattle.std.specs.Prelude.{◌≡◌, ◌<◌, ◌≤◌, [], get_or, map, None, IfOk, IfSome, OnOk};
 ghost use Rattle.site_model.specs.PlainSite.{check_view};
-ghost use Rattle.site_audit.specs.Hearing.{entries_heard, hearing, mark_of as mark_for, one_heard};
-ghost use Rattle.site_audit.specs.Telling.{after_entry, is_report as is_report_of};
+ghost use Rattle.site_audit.specs.Hearing.{entries_heard, hearing, one_heard};
+ghost use Rattle.site_audit.specs.Telling.{after_entries, after_entry, is_report as is_report_of};
 
 use crate::block::EntryLine;
-use crate::pairs::Mark;
+use crate::spots::add_spots;
 use crate::telling::{Open, Said, say};
-use site_base::{OutOfMemory, Row, Text};
-use site_edge::Report;
-use site_model::{CheckSpec, Entry, Event};
+use crate::tracks::Spot;
+use site_base::{OutOfMemory, Row};
+use site_model::{CheckSpec, Event};
 use std::alloc::Global;
 
-/// What entries of a block tell: command lines and reports, each with a mark of the entry that tells it.
+/// What entries of a block tell, and where they stand on tracks.
 #[derive(Drop)]
 pub(crate) struct Heard {
-    pub(crate) lines: Row<Text>,
-    pub(crate) line_marks: Row<Mark>,
-    pub(crate) reports: Row<Report>,
-    pub(crate) report_marks: Row<Mark>,
+    pub(crate) said: Row<Said>,
+    pub(crate) spots: Row<Spot>,
 }
 
-/// What these entries tell behind what others told, where each checkable has this
-/// order. `None` where one tells nothing that could have been.
+/// What these entries of so many callers tell behind what others told, where each checkable has this order. `None` where one tells nothing
+/// that could have been; else the orders are those after all entries.
 pub(crate) fn hear_all(
     alloc: Global,
+    callers: u32,
     checks: &[CheckSpec],
     orders: &mut Vec<Option<Open>>,
     entries: Vec<EntryLine>,
     heard: Heard,
 ) -> Result<Option<Heard>, OutOfMemory>
-    ensures { IfOk result (λ h. h ≡ entries_heard (map (λ c. c.name) (map check_view checks.now)) orders.old.items entries.items heard) }
+    requires { callers ≤ 64 }
+    ensures heard { IfOk result (λ h. h ≡ entries_heard callers (map (λ c. c.name) (map check_view checks.now)) orders.old.items entries.items heard) }
+    ensures orders { IfOk result (λ h. IfSome h (λ _. orders.new.items ≡ after_entries orders.old.items entries.items)) }
 {
     let mut all = heard;
     for entry in entries {
-        let Some(more) = hear(alloc, checks, orders, entry, all)? else {
+        let Some(more) = hear(alloc, callers, checks, orders, entry, all)? else {
             return Ok(None);
         };
         all = more;
@@ -45,23 +46,29 @@ pub(crate) fn hear_all(
 /// The same with one entry, after which its checkable may have no order.
 fn hear(
     alloc: Global,
+    callers: u32,
     checks: &[CheckSpec],
     orders: &mut Vec<Option<Open>>,
     entry: EntryLine,
     heard: Heard,
 ) -> Result<Option<Heard>, OutOfMemory>
-    ensures heard { IfOk result (λ h. h ≡ one_heard (map (λ c. c.name) (map check_view checks.now)) orders.old.items heard entry) }
-    ensures orders { OnOk result (orders.new.items ≡ after_entry orders.old.items entry) }
+    requires { callers ≤ 64 }
+    ensures heard { IfOk result (λ h. h ≡ one_heard callers (map (λ c. c.name) (map check_view checks.now)) orders.old.items heard entry) }
+    ensures orders { IfOk result (λ h. IfSome h (λ _. orders.new.items ≡ after_entry orders.old.items entry)) }
 {
+    if entry.entry.caller >= callers {
+        return Ok(None);
+    }
+    let name = name_at(checks, entry.checkable);
     let said = say(
         alloc,
-        name_at(checks, entry.checkable),
+        name,
         order_at(orders, entry.checkable),
         &entry.entry.event,
     )?;
     close(orders, &entry);
     match said {
-        Some(said) => Ok(Some(add(heard, entry, said)?)),
+        Some(said) => Ok(Some(add(heard, &entry, said)?)),
         None => Ok(None),
     }
 }
@@ -107,33 +114,13 @@ fn is_report(event: &Event) -> bool
     matches!(event, Event::Result { passive: false, .. })
 }
 
-/// With what one entry says.
-fn add(heard: Heard, entry: EntryLine, said: Said) -> Result<Heard, OutOfMemory>
-    ensures { IfOk result (λ h. h ≡ hearing heard entry said) }
+/// With what one entry says, whose caller is one of 64.
+fn add(heard: Heard, entry: &EntryLine, said: Said) -> Result<Heard, OutOfMemory>
+    requires { entry.now.entry.caller < 64 }
+    ensures { IfOk result (λ h. h ≡ hearing heard entry.now said) }
 {
     let mut heard = heard;
-    match said {
-        Said::Line(line) => {
-            heard.lines.push(line)?;
-            heard.line_marks.push(mark_of(entry))?;
-        }
-        Said::Report(report) => {
-            heard.reports.push(report)?;
-            heard.report_marks.push(mark_of(entry))?;
-        }
-        Said::Nothing => {}
-    }
+    add_spots(heard.said.len(), entry, &said, &mut heard.spots)?;
+    heard.said.push(said)?;
     Ok(heard)
-}
-
-fn mark_of(line: EntryLine) -> Mark
-    ensures { result ≡ mark_for line }
-{
-    let EntryLine { checkable, entry } = line;
-    let Entry { number, sights, .. } = entry;
-    Mark {
-        checkable,
-        number,
-        sights,
-    }
 }

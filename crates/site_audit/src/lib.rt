@@ -1,22 +1,31 @@
 //! Logs that are checked: whether a log is one that a run can write.
 //!
 //! In reading order: the lines and blocks of a log (`blocks`), what a line tells (`log_line`, `fields`, `lines`), and a block (`block`);
-//! the command lines that entries tell (`commands`), what an entry tells at all (`telling`), and all of a block (`hearing`);
-//! command lines that are refused (`refused`); which entries must stand before which (`pairs`), and in which order things are taken of which
-//! some must stand before others (`order`); how far a log is that of a run over given turns (`agreeing`).
+//! the command lines that entries tell (`commands`), what an entry tells at all (`telling`), and all of a block (`hearing`), each of which
+//! stands on tracks (`spots`); in which order things on tracks are taken (`tracks`), as things are of which some must stand before others
+//! (`order`); command lines that are refused (`refused`), the lines of a turn (`filling`), and what is said in told order (`picking`); the turn
+//! that a block tells (`told`), and those of a log (`turns`); how far a log is that of a run over given turns (`agreeing`), and whether it is
+//! one at all (`auditing`).
 #![tactic(auto)]
 
 mod agreeing;
+mod auditing;
 mod block;
 mod blocks;
 mod commands;
 mod fields;
+mod filling;
 mod hearing;
 mod lines;
 mod log_line;
 mod order;
-mod pairs;
+mod picking;
 mod refused;
+mod spots;
 mod telling;
+mod told;
+mod tracks;
+mod turns;
 
 pub use agreeing::blocks_agreed;
+pub use auditing::{Verdict, audit};

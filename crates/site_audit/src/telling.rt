@@ -21,8 +21,10 @@ pub(crate) enum Said {
     /// A command line.
     Line(Text),
     Report(Report),
-    /// Neither: it is a tick, or the result of an order for which a macro is missing.
-    Nothing,
+    /// No report: it is the result of this order, for which a macro is missing.
+    Lacking(u64),
+    /// Nothing: it is a tick.
+    Tick,
 }
 
 /// What an event of a checkable of this name tells, whose order is this one. `None` where no line can name it, or it has no order and this
@@ -42,7 +44,7 @@ pub(crate) fn say(
             output,
             perf,
         } => say_result(alloc, order, *status, output.as_str(), perf.as_str()),
-        Event::Tick => Ok(Some(Said::Nothing)),
+        Event::Tick => Ok(Some(Said::Tick)),
         _ => Ok(command_line(alloc, name, event)?.map(Said::Line)),
     }
 }
@@ -73,7 +75,7 @@ fn say_report(
     ensures { IfOk result (λ said. said ≡ report_of order status output.now perf.now) }
 {
     if order.missing {
-        return Ok(Said::Nothing);
+        return Ok(Said::Lacking(order.number));
     }
     let output = output_of(alloc, output, perf)?;
     Ok(Said::Report(Report {
