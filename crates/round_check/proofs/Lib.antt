@@ -2,4 +2,15 @@ pub mod Growing
 pub mod MakingSound
 pub mod MakingWhole
 pub mod Following
-pub mod Checking
+pub mod ToldLaws
+pub mod Stepping
+pub mod Placing
+pub mod Ranking
+pub mod Telling
+pub mod MakingOn
+pub mod Answering
+pub mod SegmentLaws
+pub mod LoopLaws
+pub mod Taken
+pub mod Putting
+pub mod MakingAll

@@ -189,7 +189,7 @@ module _ (r : Rules) (moment : ℕ) (before : Histories) (events : List (List As
       made = of_each (λ c i f. IsMade r moment (behind before grown) c (of_index c before ++ take i (of_index c grown)) f) made_old made_new;
       ancestors = of_each (λ c i f. map (λ (x : Sight). x.checkable) f.sights ≡ r.ancestors c) (λ c i f h. x.ancestors c i f h) sights_are;
       seen = λ c i j f y h k. of_each (λ c i f. (j : ℕ) (y : Sight) → slice_get f.sights j ≡ Some y → (length (of_index y.checkable before) ≤ y.count) × (y.count ≤ length (behind before grown y.checkable)))
-      (λ c i f h j y k. let s = x.seen c i j f y h k in (s.0, more y s.1)) (λ j y k. let s = sights_seen j y k in (s.0, more y s.1)) c i f h j y k;
+          (λ c i f h j y k. let s = x.seen c i j f y h k in (s.0, more y s.1)) (λ j y k. let s = sights_seen j y k in (s.0, more y s.1)) c i f h j y k;
     }
       where
         more : (y : Sight) → y.count ≤ length (behind before part y.checkable) → y.count ≤ length (behind before grown y.checkable)

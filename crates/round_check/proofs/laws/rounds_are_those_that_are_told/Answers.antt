@@ -1,4 +1,4 @@
-use Rattle.round_check.proofs.Checking.{complete, sound}
+use Rattle.round_check.proofs.ToldLaws.{complete, sound}
 use Rattle.round_check.proofs.laws.rounds_are_those_that_are_told.Goals as goal
 
 pub returns-clause-sound : goal.returns-clause-sound

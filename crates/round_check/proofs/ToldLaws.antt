@@ -21,12 +21,12 @@ use Rattle.round_check.proofs.Following.{IsMet, walk_at, walk_rises, walk_so}
 
 -- Callers.
 
-get_from : (first many k : ℕ) → k < many → slice_get (from_on first many) k ≡ Some (first + k)
+pub get_from : (first many k : ℕ) → k < many → slice_get (from_on first many) k ≡ Some (first + k)
 get_from first zero k h = absurd (omega (arith, h))
 get_from first (suc many) zero h = let e : first ≡ first + 0 = omega arith in ap Some e
 get_from first (suc many) (suc k) h = let e : suc first + k ≡ first + suc k = omega arith in get_from (suc first) many k (omega (arith, h)) ∙ ap Some e
 
-is_from : (many i k : ℕ) → slice_get (from_on 0 many) i ≡ Some k → k < many
+pub is_from : (many i k : ℕ) → slice_get (from_on 0 many) i ≡ Some k → k < many
 is_from many i k h =
     let w = within (from_on 0 many) i k h in
     let l = length_from_on 0 many in
