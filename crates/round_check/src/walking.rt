@@ -36,7 +36,7 @@ impl Way {
             return Ok(false);
         };
         let sights = place.sights.as_slice();
-        if done == u64::MAX || !self.sees_all(own, sights) {
+        if !self.sees_all(own, sights) {
             return Ok(false);
         }
         self.last.raise_all(sights)?;
