@@ -26,7 +26,7 @@ YARDSTICK, ITS_SECONDS = "wildcards", 37
 
 
 def processes():
-    """Of each process its parent, the moment it began, its ticks so far and its words."""
+    """Of each process its parent, the moment it began, its ticks so far with those of its ended children, and its words."""
     found = {}
     for number in filter(str.isdigit, os.listdir("/proc")):
         try:
@@ -60,14 +60,29 @@ def crate_and_kind(words):
     return crate, "programs" if "src/main.rt" in words else "libraries"
 
 
+def first_prover(number, all_of_them):
+    """The prover that a prover was made by, if it is a worker of one, and else itself."""
+    what = crate_and_kind(all_of_them[number][3])
+    while True:
+        parent = all_of_them[number][0]
+        if parent not in all_of_them or crate_and_kind(all_of_them[parent][3]) != what:
+            return number
+        number = parent
+
+
 def measure(run):
     spent = {}
     while run.poll() is None:
         now = processes()
-        for number, (_, began, ticks, words) in now.items():
-            what = crate_and_kind(words)
-            if what and is_below(number, run.pid, now):
-                spent[number, began] = (what, ticks / TICKS)
+        # (a prover's own ticks have those of the workers that ended: those that still run are added)
+        looked = collections.Counter()
+        for number, (_, _, ticks, words) in now.items():
+            if crate_and_kind(words) and is_below(number, run.pid, now):
+                looked[first_prover(number, now)] += ticks
+        for number, ticks in looked.items():
+            _, began, _, words = now[number]
+            before = spent.get((number, began), (None, 0))[1]
+            spent[number, began] = (crate_and_kind(words), max(before, ticks / TICKS))
         time.sleep(SECONDS_BETWEEN_LOOKS)
     table = collections.defaultdict(collections.Counter)
     for (crate, kind), seconds in spent.values():
