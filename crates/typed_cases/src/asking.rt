@@ -1,5 +1,5 @@
 // What a row asks for.
-use crate::given::{Given, PERIODS_BEFORE, USERS_BEFORE, given_by};
+use crate::given::{Given, PERIODS_BEFORE, USERS_BEFORE};
 use crate::lists::{push_checkables, push_depends, push_notifies, push_users};
 use crate::periods::push_periods;
 use crate::whole::push_whole;
@@ -11,27 +11,46 @@ use std::alloc::Global;
 
 /// What the word of a row asks of the site of its objects.
 pub(crate) fn answer(alloc: Global, word: &str, row: &str) -> Result<Text, OutOfMemory> {
-    let Some(Given { objects, globals }) = given_by(alloc, word == "alone", row)? else {
-        return Text::copy_of(alloc, "no objects");
-    };
-    let files = both_files(alloc)?;
-    if !are_placed(objects.as_slice(), &files) {
-        return Text::copy_of(alloc, "an object in no file");
-    }
     let mut out = Text::new(alloc);
-    match last_phases(alloc, files, objects, globals)? {
-        Answer::Site(site) => push_asked(&mut out, word, &site)?,
-        Answer::Diags { .. } => out.push_str("no site")?,
-    }
+    push_answer(alloc, &mut out, word, row)?;
     Ok(out)
+}
+
+fn push_answer(alloc: Global, out: &mut Text, word: &str, row: &str) -> Result<(), OutOfMemory> {
+    let mut given = Given::new(alloc);
+    if !given.take(alloc, word == "alone", row)? {
+        return out.push_str("no objects");
+    }
+    push_given(alloc, out, word, given)
+}
+
+/// Adds what a word asks of the site of these objects and globals.
+fn push_given(alloc: Global, out: &mut Text, word: &str, given: Given) -> Result<(), OutOfMemory> {
+    let files = both_files(alloc)?;
+    if !are_placed(given.objects.as_slice(), &files) {
+        return out.push_str("an object in no file");
+    }
+    let answer = last_phases(alloc, files, given.objects, given.globals)?;
+    push_site(out, word, &answer)
 }
 
 /// The two files in which objects stand.
 fn both_files(alloc: Global) -> Result<Texts, OutOfMemory> {
     let mut files = Row::new(alloc);
-    files.push(Text::copy_of(alloc, "even.conf")?)?;
-    files.push(Text::copy_of(alloc, "odd.conf")?)?;
+    add_text(alloc, &mut files, "even.conf")?;
+    add_text(alloc, &mut files, "odd.conf")?;
     Ok(files)
+}
+
+fn add_text(alloc: Global, texts: &mut Texts, text: &str) -> Result<(), OutOfMemory> {
+    texts.push(Text::copy_of(alloc, text)?)
+}
+
+fn push_site(out: &mut Text, word: &str, answer: &Answer) -> Result<(), OutOfMemory> {
+    match answer {
+        Answer::Site(site) => push_asked(out, word, site),
+        Answer::Diags { .. } => out.push_str("no site"),
+    }
 }
 
 /// Adds what a word asks of a site: one list, as far as a row itself writes what stands in it, or the whole.

@@ -2,7 +2,7 @@
 use case_objects::object_of;
 use case_rows::bytes_of;
 use case_trees::tree_of;
-use site_base::{Blob, OutOfMemory, Row, Tree, copy_tree};
+use site_base::{Blob, OutOfMemory, Row, Text, Tree, copy_tree};
 use site_model::Object;
 use site_phases::Globals;
 use std::alloc::Global;
@@ -34,56 +34,62 @@ pub(crate) struct Given {
     pub(crate) globals: Globals,
 }
 
-/// What a row writes, behind the objects that stand before it unless it stands alone; `None` where the row is no dictionary.
-pub(crate) fn given_by(
-    alloc: Global,
-    is_alone: bool,
-    row: &str,
-) -> Result<Option<Given>, OutOfMemory> {
-    let mut given = Given {
-        objects: Row::new(alloc),
-        globals: Globals {
-            max_checks: None,
-            site_zone: None,
-            zone_file: None,
-            vars: Tree::Null,
-        },
-    };
-    if !is_alone {
-        given.add_all(alloc, BEFORE)?;
-    }
-    Ok(if given.add_all(alloc, row)? {
-        Some(given)
-    } else {
-        None
-    })
-}
-
 impl Given {
+    pub(crate) fn new(alloc: Global) -> Given {
+        Given {
+            objects: Row::new(alloc),
+            globals: Globals {
+                max_checks: None,
+                site_zone: None,
+                zone_file: None,
+                vars: Tree::Null,
+            },
+        }
+    }
+
+    /// Adds what a row writes, behind the objects that stand before it unless it stands alone. Answers whether the row is a dictionary.
+    pub(crate) fn take(
+        &mut self,
+        alloc: Global,
+        is_alone: bool,
+        row: &str,
+    ) -> Result<bool, OutOfMemory> {
+        if !is_alone {
+            self.add_all(alloc, BEFORE)?;
+        }
+        self.add_all(alloc, row)
+    }
+
     /// Adds what a dictionary writes. Answers whether it is one.
     fn add_all(&mut self, alloc: Global, text: &str) -> Result<bool, OutOfMemory> {
         match &tree_of(alloc, text)? {
             Some(Tree::Dict(pairs)) => {
-                for (head, tree) in pairs {
-                    self.add(alloc, head.as_str(), tree)?;
-                }
+                self.add_pairs(alloc, pairs)?;
                 Ok(true)
             }
             _ => Ok(false),
         }
     }
 
+    fn add_pairs(&mut self, alloc: Global, pairs: &[(Text, Tree)]) -> Result<(), OutOfMemory> {
+        for (head, tree) in pairs {
+            self.add(alloc, head.as_str(), tree)?;
+        }
+        Ok(())
+    }
+
     /// Adds a global under its name, or an object under its head.
     fn add(&mut self, alloc: Global, head: &str, tree: &Tree) -> Result<(), OutOfMemory> {
+        if head == "ZoneFile" {
+            self.globals.zone_file = file_in(alloc, tree)?;
+            return Ok(());
+        }
+        let tree = copy_tree(alloc, tree)?;
         match head {
-            "MaxConcurrentChecks" => self.globals.max_checks = Some(copy_tree(alloc, tree)?),
-            "SiteZone" => self.globals.site_zone = Some(copy_tree(alloc, tree)?),
-            "ZoneFile" => self.globals.zone_file = file_in(alloc, tree)?,
-            "Vars" => self.globals.vars = copy_tree(alloc, tree)?,
-            _ => {
-                let object = object_of(alloc, head, copy_tree(alloc, tree)?)?;
-                self.objects.push(object)?;
-            }
+            "MaxConcurrentChecks" => self.globals.max_checks = Some(tree),
+            "SiteZone" => self.globals.site_zone = Some(tree),
+            "Vars" => self.globals.vars = tree,
+            _ => return self.objects.push(object_of(alloc, head, tree)?),
         }
         Ok(())
     }
