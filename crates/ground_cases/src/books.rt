@@ -9,12 +9,17 @@ use std::str::SplitWhitespace;
 /// Adds what the steps answer, one after another over one book.
 pub(crate) fn push_book(alloc: Global, out: &mut Text, row: &str) -> Result<(), OutOfMemory> {
     let mut book = Book::new(alloc);
+    push_steps(out, &mut book, row)
+}
+
+/// Adds what the steps answer, commas between.
+fn push_steps(out: &mut Text, book: &mut Book, row: &str) -> Result<(), OutOfMemory> {
     let mut is_first = true;
     for step in row.split(';') {
         let mut words = step.split_whitespace();
         let word = words.next().unwrap_or("");
         if word == "add" {
-            if !add(&mut book, &mut words)? {
+            if !add(book, &mut words)? {
                 return out.push_str("no such downtime");
             }
             continue;
@@ -23,7 +28,7 @@ pub(crate) fn push_book(alloc: Global, out: &mut Text, row: &str) -> Result<(), 
             out.push_str(", ")?;
         }
         is_first = false;
-        push_step(out, &mut book, word, &mut words)?;
+        push_step(out, book, word, &mut words)?;
     }
     Ok(())
 }

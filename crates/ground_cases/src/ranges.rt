@@ -40,11 +40,16 @@ fn tree_of(alloc: Global, row: &str) -> Result<Tree, OutOfMemory>
     }
     let mut pairs = Vec::new(alloc);
     for range in row.split(" | ") {
-        let (key, text) = range.split_once('=').unwrap_or((range, ""));
-        let key = unmarked(alloc, key.trim_matches(' '))?;
-        pairs.push((key, value_of(alloc, text.trim_matches(' '))?))?;
+        pairs.push(pair_of(alloc, range)?)?;
     }
     Ok(Tree::Dict(pairs))
+}
+
+/// A key with its value.
+fn pair_of(alloc: Global, range: &str) -> Result<(Text, Tree), OutOfMemory> {
+    let (key, text) = range.split_once('=').unwrap_or((range, ""));
+    let value = value_of(alloc, text.trim_matches(' '))?;
+    Ok((unmarked(alloc, key.trim_matches(' '))?, value))
 }
 
 /// A text, or another value that is named in parentheses.

@@ -26,9 +26,19 @@ pub(crate) fn push_quote(alloc: Global, out: &mut Text, text: &str) -> Result<()
 /// Adds a text that is built piece by piece, with its length and its first byte.
 pub(crate) fn push_built(alloc: Global, out: &mut Text, text: &str) -> Result<(), OutOfMemory> {
     let mut built = Text::new(alloc);
+    push_pieces(&mut built, text)?;
+    push_measured(out, &built)
+}
+
+fn push_pieces(out: &mut Text, text: &str) -> Result<(), OutOfMemory> {
     for piece in text.split(' ') {
-        push_piece(&mut built, piece)?;
+        push_piece(out, piece)?;
     }
+    Ok(())
+}
+
+/// Adds a text, with its length and its first byte.
+fn push_measured(out: &mut Text, built: &Text) -> Result<(), OutOfMemory> {
     out.push_str(built.as_str())?;
     out.push_str(" bytes ")?;
     out.push_decimal(built.len() as u64)?;
@@ -61,34 +71,52 @@ pub(crate) fn push_lists_order(
     let (left, right) = text.split_once(", ").unwrap_or((text, ""));
     let left = texts_of(alloc, left)?;
     let right = texts_of(alloc, right)?;
+    push_both(out, &left, &right)
+}
+
+fn push_both(out: &mut Text, left: &Texts, right: &Texts) -> Result<(), OutOfMemory> {
     out.push_decimal(left.len() as u64)?;
     out.push(' ')?;
     out.push_decimal(right.len() as u64)?;
     out.push(' ')?;
-    push_order(out, left.cmp(&right))
+    push_order(out, left.cmp(right))
 }
 
 /// The texts between blanks; a `-` stands for no text.
 fn texts_of(alloc: Global, text: &str) -> Result<Texts, OutOfMemory> {
     let mut texts = Texts::new(alloc);
+    add_texts(alloc, &mut texts, text)?;
+    Ok(texts)
+}
+
+fn add_texts(alloc: Global, texts: &mut Texts, text: &str) -> Result<(), OutOfMemory> {
     for item in text.split(' ') {
         if item != "-" {
             texts.push(Text::copy_of(alloc, item)?)?;
         }
     }
-    Ok(texts)
+    Ok(())
 }
 
 /// Adds the bytes of these numbers, as a copy has them.
 pub(crate) fn push_bytes(alloc: Global, out: &mut Text, text: &str) -> Result<(), OutOfMemory> {
     let mut bytes = Blob::new(alloc);
+    add_bytes(&mut bytes, text)?;
+    let copy = Blob::copy_of(alloc, bytes.as_slice())?;
+    push_copy(out, copy.as_slice())
+}
+
+fn add_bytes(bytes: &mut Blob, text: &str) -> Result<(), OutOfMemory> {
     for number in text.split(' ') {
         bytes.push(number.parse::<u8>().unwrap_or(0))?;
     }
-    let copy = Blob::copy_of(alloc, bytes.as_slice())?;
+    Ok(())
+}
+
+fn push_copy(out: &mut Text, copy: &[u8]) -> Result<(), OutOfMemory> {
     out.push_decimal(copy.len() as u64)?;
     out.push_str(" bytes:")?;
-    for byte in copy.as_slice() {
+    for byte in copy {
         out.push(' ')?;
         out.push_decimal(u64::from(*byte))?;
     }

@@ -5,18 +5,33 @@ use std::alloc::Global;
 /// Adds whether the copy of `{ a = "x", b = [null, true, NUMBER] }` is this tree, for so many thousandths.
 pub(crate) fn push_copied(alloc: Global, out: &mut Text, text: &str) -> Result<(), OutOfMemory> {
     let number = Num::of(text.parse::<i64>().unwrap_or(0));
-    let inner = vec![in alloc; Tree::Null, Tree::Bool(true), Tree::Number(number)]?;
-    let text = Tree::Str(Text::copy_of(alloc, "x")?);
-    let pairs = vec![in alloc;
-        (Text::copy_of(alloc, "a")?, text),
-        (Text::copy_of(alloc, "b")?, Tree::List(inner)),
-    ]?;
-    let copy = copy_tree(alloc, &Tree::Dict(pairs))?;
+    let tree = written(alloc, number)?;
+    let copy = copy_tree(alloc, &tree)?;
     out.push_str(if is_as_written(&copy, number) {
         "same"
     } else {
         "differs"
     })
+}
+
+/// The tree `{ a = "x", b = [null, true, NUMBER] }`.
+fn written(alloc: Global, number: Num) -> Result<Tree, OutOfMemory> {
+    let list = vec![in alloc; Tree::Null, Tree::Bool(true), Tree::Number(number)]?;
+    let text = Tree::Str(Text::copy_of(alloc, "x")?);
+    dict(
+        alloc,
+        pair(alloc, "a", text)?,
+        pair(alloc, "b", Tree::List(list))?,
+    )
+}
+
+fn pair(alloc: Global, key: &str, tree: Tree) -> Result<(Text, Tree), OutOfMemory> {
+    Ok((Text::copy_of(alloc, key)?, tree))
+}
+
+/// A dictionary of two pairs.
+fn dict(alloc: Global, first: (Text, Tree), last: (Text, Tree)) -> Result<Tree, OutOfMemory> {
+    Ok(Tree::Dict(vec![in alloc; first, last]?))
 }
 
 /// Whether a tree is `{ a = "x", b = [null, true, NUMBER] }`.
@@ -69,9 +84,11 @@ fn around(alloc: Global, tree: Tree, in_list: bool) -> Result<Tree, OutOfMemory>
     if in_list {
         return Ok(Tree::List(vec![in alloc; Tree::Bool(true), tree, Tree::Null]?));
     }
-    let key = Text::copy_of(alloc, "k")?;
-    let last = Text::copy_of(alloc, "l")?;
-    Ok(Tree::Dict(vec![in alloc; (key, tree), (last, Tree::Null)]?))
+    dict(
+        alloc,
+        pair(alloc, "k", tree)?,
+        pair(alloc, "l", Tree::Null)?,
+    )
 }
 
 /// How many levels lie one inside the other.

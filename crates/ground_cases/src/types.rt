@@ -24,25 +24,38 @@ pub(crate) fn push_row(out: &mut Text, text: &str) -> Result<(), OutOfMemory> {
 
 /// Adds what a value has to be.
 fn push_kind(out: &mut Text, kind: ValueKind) -> Result<(), OutOfMemory> {
-    let (word, of, end) = match kind {
-        ValueKind::Text => ("Text", "", ""),
-        ValueKind::Bool => ("Bool", "", ""),
-        ValueKind::Count => ("Count", "", ""),
-        ValueKind::PositiveSeconds => ("PositiveSeconds", "", ""),
-        ValueKind::Seconds => ("Seconds", "", ""),
-        ValueKind::Dict => ("Dict", "", ""),
-        ValueKind::Command => ("Command", "", ""),
-        ValueKind::Times => ("Times", "", ""),
-        ValueKind::States => ("States", "", ""),
-        ValueKind::NoteKinds => ("NoteKinds", "", ""),
-        ValueKind::Ranges => ("Ranges", "", ""),
-        ValueKind::Name(of) => ("Name(", of.name(), ")"),
-        ValueKind::Service(of) => ("Service(", of.name(), ")"),
-        ValueKind::Names(of) => ("Names(", of.name(), ")"),
-    };
-    out.push_str(word)?;
+    out.push_str(word_of(kind))?;
+    match kind {
+        ValueKind::Name(of) | ValueKind::Names(of) => push_of(out, of.name()),
+        ValueKind::Service(of) => push_of(out, of.name()),
+        _ => Ok(()),
+    }
+}
+
+/// Adds of what a value is the name.
+fn push_of(out: &mut Text, of: &str) -> Result<(), OutOfMemory> {
+    out.push('(')?;
     out.push_str(of)?;
-    out.push_str(end)
+    out.push(')')
+}
+
+fn word_of(kind: ValueKind) -> &'static str {
+    match kind {
+        ValueKind::Text => "Text",
+        ValueKind::Bool => "Bool",
+        ValueKind::Count => "Count",
+        ValueKind::PositiveSeconds => "PositiveSeconds",
+        ValueKind::Seconds => "Seconds",
+        ValueKind::Dict => "Dict",
+        ValueKind::Command => "Command",
+        ValueKind::Times => "Times",
+        ValueKind::States => "States",
+        ValueKind::NoteKinds => "NoteKinds",
+        ValueKind::Ranges => "Ranges",
+        ValueKind::Name(_) => "Name",
+        ValueKind::Service(_) => "Service",
+        ValueKind::Names(_) => "Names",
+    }
 }
 
 /// Adds what holds where an attribute isn't set.

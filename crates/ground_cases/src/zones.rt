@@ -2,6 +2,7 @@
 use crate::zone_files::{fixed, with_summer};
 use site_base::{OutOfMemory, Text};
 use std::alloc::Global;
+use std::str::SplitWhitespace;
 use time_range::{Zone, ZoneFault};
 
 /// The rule of central Europe.
@@ -57,10 +58,21 @@ pub(crate) fn zone_of(alloc: Global, name: &str) -> Result<Option<Zone>, OutOfMe
 /// Adds the instant of a civil time.
 pub(crate) fn push_instant(alloc: Global, out: &mut Text, row: &str) -> Result<(), OutOfMemory> {
     let mut words = row.split_whitespace();
-    let zone = zone_of(alloc, words.next().unwrap_or(""))?;
+    match zone_of(alloc, words.next().unwrap_or(""))? {
+        Some(zone) => push_instant_in(out, &zone, &mut words),
+        None => out.push_str("no such row"),
+    }
+}
+
+/// Adds the instant of the day and the second that the words tell.
+fn push_instant_in(
+    out: &mut Text,
+    zone: &Zone,
+    words: &mut SplitWhitespace<'_>,
+) -> Result<(), OutOfMemory> {
     let day = words.next().and_then(|word| word.parse::<i32>().ok());
     let second = words.next().and_then(|word| word.parse::<u32>().ok());
-    let (Some(zone), Some(day), Some(second)) = (zone, day, second) else {
+    let (Some(day), Some(second)) = (day, second) else {
         return out.push_str("no such row");
     };
     if second > 86_400 {
