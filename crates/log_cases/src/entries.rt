@@ -7,7 +7,7 @@ use crate::telling::push_entry;
 use case_rows::{push_marked, unmarked};
 use log_text::{EntryError, SiteNames, print_entry_two, read_entry, read_entry_two};
 use site_base::{OutOfMemory, Text};
-use site_model::Site;
+use site_model::{Entry, Site};
 use site_text::print_entry;
 use std::alloc::Global;
 
@@ -24,9 +24,8 @@ pub(crate) fn push_one(
     let line = unmarked(alloc, text)?;
     match read_entry(alloc, line.as_str(), names) {
         Ok((checkable, entry)) => {
-            push_entry(out, checkable, &entry)?;
             let printed = print_entry(alloc, &entry, checkable, site)?;
-            push_printed(out, line.as_str(), printed.as_str())
+            push_read(out, line.as_str(), checkable, &entry, printed.as_str())
         }
         Err(error) => push_error(out, error),
     }
@@ -45,15 +44,22 @@ pub(crate) fn push_two(
     let line = unmarked(alloc, text)?;
     match read_entry_two(alloc, line.as_str(), names) {
         Ok((checkable, entry)) => {
-            push_entry(out, checkable, &entry)?;
             let printed = print_entry_two(alloc, &entry, checkable, site)?;
-            push_printed(out, line.as_str(), printed.as_str())
+            push_read(out, line.as_str(), checkable, &entry, printed.as_str())
         }
         Err(error) => push_error(out, error),
     }
 }
 
-fn push_printed(out: &mut Text, line: &str, printed: &str) -> Result<(), OutOfMemory> {
+/// Adds what was read of a line, and how that is printed.
+fn push_read(
+    out: &mut Text,
+    line: &str,
+    checkable: u32,
+    entry: &Entry,
+    printed: &str,
+) -> Result<(), OutOfMemory> {
+    push_entry(out, checkable, entry)?;
     if printed == line {
         return out.push_str("; printed so");
     }

@@ -1,7 +1,9 @@
 // The lines that are of no entry.
+ghost use Rattle.std.specs.Prelude.{◌<◌, length};
+
 use case_rows::push_marked;
 use log_text::{print_missing, print_order, print_order_two, print_turn, version_line};
-use site_base::{Moment, OutOfMemory, Row, Text};
+use site_base::{Moment, OutOfMemory, Text, Texts};
 use site_model::Site;
 use std::alloc::Global;
 use std::str::SplitWhitespace;
@@ -61,17 +63,49 @@ fn push_order(
     }
     if !has_words {
         let name = words.next().unwrap_or("");
-        return push_marked(
-            out,
-            print_missing(alloc, order, checkable, name, site)?.as_str(),
-        );
+        let line = print_missing(alloc, order, checkable, name, site)?;
+        return push_marked(out, line.as_str());
     }
-    let mut command = Row::new(alloc);
-    for word in words {
-        command.push(Text::copy_of(alloc, word)?)?;
-    }
-    push_marked(out, print_order(alloc, order, checkable, site)?.as_str())?;
+    push_in_one(alloc, out, order, checkable, site)?;
     out.push_str("  and  ")?;
-    let two = print_order_two(alloc, order, checkable, command.as_slice(), site)?;
-    push_marked(out, two.as_str())
+    push_in_two(alloc, out, order, checkable, words, site)
+}
+
+/// Adds an order as version one has it.
+fn push_in_one(
+    alloc: Global,
+    out: &mut Text,
+    order: u64,
+    checkable: u32,
+    site: &Site,
+) -> Result<(), OutOfMemory>
+    requires { checkable < length site.now.checkables }
+{
+    let line = print_order(alloc, order, checkable, site)?;
+    push_marked(out, line.as_str())
+}
+
+/// Adds an order as version two has it, with the words of its command.
+fn push_in_two(
+    alloc: Global,
+    out: &mut Text,
+    order: u64,
+    checkable: u32,
+    words: &mut SplitWhitespace<'_>,
+    site: &Site,
+) -> Result<(), OutOfMemory>
+    requires { checkable < length site.now.checkables }
+{
+    let command = texts_of(alloc, words)?;
+    let line = print_order_two(alloc, order, checkable, command.as_slice(), site)?;
+    push_marked(out, line.as_str())
+}
+
+/// The words that are left.
+fn texts_of(alloc: Global, words: &mut SplitWhitespace<'_>) -> Result<Texts, OutOfMemory> {
+    let mut texts = Texts::new(alloc);
+    for word in words {
+        texts.push(Text::copy_of(alloc, word)?)?;
+    }
+    Ok(texts)
 }

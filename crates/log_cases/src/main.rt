@@ -6,7 +6,7 @@
 
 ghost use Rattle.std.specs.Prelude.{◌≡◌};
 ghost use Rattle.site_model.specs.PlainSite.{site_view};
-ghost use Rattle.log_text.specs.SiteNames.{names_of, names_view};
+ghost use Rattle.log_text.specs.SiteNames.{HasAllNames, names_of, names_view};
 
 mod entries;
 mod lines;
@@ -22,9 +22,23 @@ use std::io::{BufRead, BufReader};
 
 fn main(rt: HostRuntime) -> anyhow::Result<()> {
     let site = site::site(rt.alloc())?;
-    let names = SiteNames::of(rt.alloc(), &site)?;
+    write_answers(&rt, &site)
+}
+
+/// Writes each line of standard input, with the answer behind it if it is a row over this site.
+fn write_answers(rt: &HostRuntime, site: &Site) -> anyhow::Result<()>
+    requires { HasAllNames (site_view site.now) }
+{
+    let names = SiteNames::of(rt.alloc(), site)?;
+    write_rows(rt, site, &names)
+}
+
+/// The same with the names of the site.
+fn write_rows(rt: &HostRuntime, site: &Site, names: &SiteNames<'_>) -> anyhow::Result<()>
+    requires { names_view names.now ≡ names_of (site_view site.now) }
+{
     for line in BufReader::new(rt.alloc(), rt.reader())?.lines(rt.alloc()) {
-        let told = told(rt.alloc(), line?.as_str(), &site, &names)?;
+        let told = told(rt.alloc(), line?.as_str(), site, names)?;
         println!(rt; "{}", told.as_str())?;
     }
     Ok(())
@@ -35,15 +49,26 @@ fn told(alloc: Global, line: &str, site: &Site, names: &SiteNames<'_>) -> Result
     requires { names_view names.now ≡ names_of (site_view site.now) }
 {
     let mut out = Text::copy_of(alloc, line)?;
-    if !is_row(line) {
-        return Ok(out);
-    }
-    out.push_str(ANSWER)?;
-    let (word, text) = line.split_once(' ').unwrap_or((line, ""));
-    match word {
-        "one" => entries::push_one(alloc, &mut out, text, site, names)?,
-        "two" => entries::push_two(alloc, &mut out, text, site, names)?,
-        _ => lines::push_line(alloc, &mut out, word, text, site)?,
+    if is_row(line) {
+        push_answer(alloc, &mut out, line, site, names)?;
     }
     Ok(out)
+}
+
+fn push_answer(
+    alloc: Global,
+    out: &mut Text,
+    row: &str,
+    site: &Site,
+    names: &SiteNames<'_>,
+) -> Result<(), OutOfMemory>
+    requires { names_view names.now ≡ names_of (site_view site.now) }
+{
+    out.push_str(ANSWER)?;
+    let (word, text) = row.split_once(' ').unwrap_or((row, ""));
+    match word {
+        "one" => entries::push_one(alloc, out, text, site, names),
+        "two" => entries::push_two(alloc, out, text, site, names),
+        _ => lines::push_line(alloc, out, word, text, site),
+    }
 }

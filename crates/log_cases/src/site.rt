@@ -11,10 +11,13 @@ use std::alloc::Global;
 pub(crate) fn site(alloc: Global) -> Result<Site, OutOfMemory>
     ensures { IfOk result (λ site. HasAllNames (site_view site)) }
 {
+    let depends = depends(alloc)?;
+    let notifies = notifies(alloc)?;
+    let users = users(alloc)?;
     let mut site = Site::plain(alloc, checkables(alloc)?, names(alloc)?);
-    site.depends = depends(alloc)?;
-    site.notifies = notifies(alloc)?;
-    site.users = users(alloc)?;
+    site.depends = depends;
+    site.notifies = notifies;
+    site.users = users;
     Ok(site)
 }
 

@@ -10,6 +10,13 @@ pub(crate) fn push_entry(out: &mut Text, checkable: u32, entry: &Entry) -> Resul
     push_number(out, ", moment ", entry.moment.secs())?;
     out.push_str(": ")?;
     push_event(out, &entry.event)?;
+    push_state(out, entry)?;
+    push_sights(out, entry)?;
+    push_decisions(out, entry)
+}
+
+/// Adds whether the event was taken, and the state after it.
+fn push_state(out: &mut Text, entry: &Entry) -> Result<(), OutOfMemory> {
     out.push_str(if entry.taken {
         " taken; "
     } else {
@@ -17,11 +24,18 @@ pub(crate) fn push_entry(out: &mut Text, checkable: u32, entry: &Entry) -> Resul
     })?;
     out.push_str(state_name(entry.state))?;
     push_flag(out, ", hard ", entry.hard)?;
-    push_number(out, ", attempt ", u64::from(entry.attempt))?;
+    push_number(out, ", attempt ", u64::from(entry.attempt))
+}
+
+fn push_sights(out: &mut Text, entry: &Entry) -> Result<(), OutOfMemory> {
     for sight in entry.sights.as_slice() {
         push_number(out, "; saw ", sight.count)?;
         push_number(out, " of ", u64::from(sight.checkable))?;
     }
+    Ok(())
+}
+
+fn push_decisions(out: &mut Text, entry: &Entry) -> Result<(), OutOfMemory> {
     for decision in entry.decisions.as_slice() {
         push_number(out, "; on ", u64::from(decision.notification))?;
         out.push(' ')?;

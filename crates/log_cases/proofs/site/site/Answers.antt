@@ -23,10 +23,10 @@ returns c =
         named = names ∙ sym full;
         distinct = subst AreDistinct (sym names) (distinct_by_length (codes "h") (codes "h!s \"1\"") (λ e. omega (arith, e)));
       };
-      depends = subst AreDistinct (sym (c.in_ok-site.ensures {u = tt})) (distinct_one (codes "h!s!d"));
-      notifies = subst AreDistinct (sym (c.in_ok-site-2.ensures {u = tt})) (distinct_by_length (codes "h!s!m") (codes "h!s!sms") (λ e. omega (arith, e)));
-      users = subst AreDistinct (sym (c.in_ok-site-3.ensures {u = tt})) (distinct_by_length (codes "ann") (codes "robert") (λ e. omega (arith, e)));
-      few_depends = few (λ (d : DependSpec). d.name) _ _ (c.in_ok-site.ensures {u = tt}) (lit< tt);
-      few_notifies = few (λ (n : NotifySpec). n.name) _ _ (c.in_ok-site-2.ensures {u = tt}) (lit< tt);
-      few_users = few (λ (u : UserSpec). u.name) _ _ (c.in_ok-site-3.ensures {u = tt}) (lit< tt);
+      depends = subst AreDistinct (sym (c.in_ok-depends.ensures {u = tt})) (distinct_one (codes "h!s!d"));
+      notifies = subst AreDistinct (sym (c.in_ok-notifies.ensures {u = tt})) (distinct_by_length (codes "h!s!m") (codes "h!s!sms") (λ e. omega (arith, e)));
+      users = subst AreDistinct (sym (c.in_ok-users.ensures {u = tt})) (distinct_by_length (codes "ann") (codes "robert") (λ e. omega (arith, e)));
+      few_depends = few (λ (d : DependSpec). d.name) _ _ (c.in_ok-depends.ensures {u = tt}) (lit< tt);
+      few_notifies = few (λ (n : NotifySpec). n.name) _ _ (c.in_ok-notifies.ensures {u = tt}) (lit< tt);
+      few_users = few (λ (u : UserSpec). u.name) _ _ (c.in_ok-users.ensures {u = tt}) (lit< tt);
     }
