@@ -1,10 +1,13 @@
 // What a row asks for.
+ghost use Rattle.dsl_load.specs.Loads.{IsLoad};
+ghost use Rattle.eval_work.specs.Kept.{PairsNamed};
+
 use crate::bodies::{push_reads, push_within};
 use crate::items::{last_item, push_item, view_over};
-use crate::scene::{Scene, scene_of};
+use crate::scene::Scene;
 use crate::shown::{push_budget, push_stop};
-use dsl_load::{eval_files, run_files};
-use eval_work::{Budget, Stop};
+use dsl_load::{LoadParts, eval_files, run_files};
+use eval_work::{Budget, Item, Stop};
 use site_base::{OutOfMemory, Text};
 use std::alloc::Global;
 
@@ -20,16 +23,56 @@ pub(crate) fn push_answer(
     } else {
         (Budget::of_item(), row)
     };
-    let Some(mut scene) = scene_of(alloc, row)? else {
+    push_row(alloc, out, word, budget, row, &mut Scene::new(alloc))
+}
+
+/// Adds the answer to a row, which is read into an empty scene.
+fn push_row(
+    alloc: Global,
+    out: &mut Text,
+    word: &str,
+    budget: Budget,
+    row: &str,
+    scene: &mut Scene,
+) -> Result<(), OutOfMemory> {
+    if !scene.read(alloc, row)? {
         return out.push_str("no such row");
-    };
-    let ended = match word {
-        "spent" => push_spent(alloc, out, &scene),
-        word => push_last(alloc, out, &mut scene, word, budget),
-    };
-    match ended {
+    }
+    match push_asked(alloc, out, scene, word, budget) {
         Ok(()) => Ok(()),
         Err(stop) => push_stop(alloc, out, stop, &scene.names),
+    }
+}
+
+/// Adds what a word asks of a scene.
+fn push_asked(
+    alloc: Global,
+    out: &mut Text,
+    scene: &mut Scene,
+    word: &str,
+    budget: Budget,
+) -> Result<(), Stop> {
+    if word == "spent" {
+        return push_spent(alloc, out, scene);
+    }
+    let mut parts = eval_files(alloc, &scene.files, &scene.order)?;
+    push_loaded(alloc, out, scene, word, budget, &mut parts)
+}
+
+/// The same of a word that asks of the last object of a load.
+fn push_loaded(
+    alloc: Global,
+    out: &mut Text,
+    scene: &mut Scene,
+    word: &str,
+    budget: Budget,
+    parts: &mut LoadParts,
+) -> Result<(), Stop>
+    requires { IsLoad parts.old }
+{
+    match last_item(parts) {
+        Some(item) => push_last(alloc, out, scene, word, budget, parts, item),
+        None => Ok(out.push_str("no object")?),
     }
 }
 
@@ -51,29 +94,35 @@ fn limited(row: &str) -> (Budget, &str) {
 
 /// Adds how many steps and units of space a load takes.
 fn push_spent(alloc: Global, out: &mut Text, scene: &Scene) -> Result<(), Stop> {
-    let work = run_files(alloc, &scene.files, &scene.order)?;
+    let (steps, space) = left_after(alloc, scene)?;
     let whole = Budget::of_load();
-    let steps = whole.steps.saturating_sub(work.steps);
-    push_budget(out, steps, whole.space.saturating_sub(work.space))?;
+    let steps = whole.steps.saturating_sub(steps);
+    push_budget(out, steps, whole.space.saturating_sub(space))?;
     Ok(())
 }
 
-/// Adds what a row's last object comes to.
+/// The steps and the units of space that a load leaves.
+fn left_after(alloc: Global, scene: &Scene) -> Result<(u64, u64), Stop> {
+    let work = run_files(alloc, &scene.files, &scene.order)?;
+    Ok((work.steps, work.space))
+}
+
+/// Adds what the last object of a load comes to.
 fn push_last(
     alloc: Global,
     out: &mut Text,
     scene: &mut Scene,
     word: &str,
     budget: Budget,
-) -> Result<(), Stop> {
-    let mut parts = eval_files(alloc, &scene.files, &scene.order)?;
-    let Some(mut item) = last_item(&mut parts) else {
-        out.push_str("no object")?;
-        return Ok(());
-    };
+    parts: &LoadParts,
+    mut item: Item,
+) -> Result<(), Stop>
+    requires load { IsLoad parts.now }
+    requires captured { PairsNamed parts.now.store item.captured.items }
+{
     item.presets.append(&mut scene.presets)?;
     item.names.append(&mut scene.bound)?;
-    let view = view_over(&parts, &scene.objects, &scene.known);
+    let view = view_over(parts, &scene.objects, &scene.known);
     match word {
         "item" => push_item(alloc, out, &view, &item, &scene.names),
         "reads" => push_reads(alloc, out, &view, &item),

@@ -1,6 +1,5 @@
 // All that a row describes.
 use crate::shown::NO_NUMBER;
-use crate::walked::walked;
 use case_rows::unmarked;
 use case_trees::tree_of;
 use eval_meaning::Read;
@@ -29,36 +28,6 @@ pub(crate) struct Scene {
     pub(crate) bound: Vec<(Text, Tree)>,
 }
 
-/// What a row describes; none where its files can't be walked.
-pub(crate) fn scene_of(alloc: Global, row: &str) -> Result<Option<Scene>, OutOfMemory> {
-    let mut scene = no_parts(alloc)?;
-    let mut files = Row::new(alloc);
-    let mut parts = row.split(PART);
-    add_file(alloc, &mut files, ROOT, parts.next().unwrap_or(""))?;
-    for part in parts {
-        scene.take(alloc, &mut files, part)?;
-    }
-    walked(alloc, scene, files)
-}
-
-/// A scene without files and objects, of which all hosts and services are told.
-fn no_parts(alloc: Global) -> Result<Scene, OutOfMemory> {
-    let host = Text::copy_of(alloc, "Host")?;
-    let service = Text::copy_of(alloc, "Service")?;
-    Ok(Scene {
-        names: Texts::new(alloc),
-        files: Vec::new(alloc),
-        order: Vec::new(alloc),
-        objects: Committed::new(alloc),
-        known: Known {
-            whole: vec![in alloc; host, service]?,
-            absent: Vec::new(alloc),
-        },
-        presets: Vec::new(alloc),
-        bound: Vec::new(alloc),
-    })
-}
-
 fn add_file(
     alloc: Global,
     files: &mut Row<(Text, Blob)>,
@@ -71,6 +40,52 @@ fn add_file(
 }
 
 impl Scene {
+    /// A scene without files and objects.
+    pub(crate) fn new(alloc: Global) -> Scene {
+        Scene {
+            names: Texts::new(alloc),
+            files: Vec::new(alloc),
+            order: Vec::new(alloc),
+            objects: Committed::new(alloc),
+            known: Known {
+                whole: Vec::new(alloc),
+                absent: Vec::new(alloc),
+            },
+            presets: Vec::new(alloc),
+            bound: Vec::new(alloc),
+        }
+    }
+
+    /// Reads a row, and answers whether its files can be walked. All hosts and services are told, unless the row says otherwise.
+    pub(crate) fn read(&mut self, alloc: Global, row: &str) -> Result<bool, OutOfMemory> {
+        self.add_whole(alloc, "Host")?;
+        self.add_whole(alloc, "Service")?;
+        let mut files = Row::new(alloc);
+        self.take_all(alloc, &mut files, row)?;
+        self.walk(alloc, files)
+    }
+
+    /// Adds a type of which all objects are told.
+    fn add_whole(&mut self, alloc: Global, kind: &str) -> Result<(), OutOfMemory> {
+        self.known.whole.push(Text::copy_of(alloc, kind)?)?;
+        Ok(())
+    }
+
+    /// Takes the parts of a row, of which the first is the text of its root.
+    fn take_all(
+        &mut self,
+        alloc: Global,
+        files: &mut Row<(Text, Blob)>,
+        row: &str,
+    ) -> Result<(), OutOfMemory> {
+        let mut parts = row.split(PART);
+        add_file(alloc, files, ROOT, parts.next().unwrap_or(""))?;
+        for part in parts {
+            self.take(alloc, files, part)?;
+        }
+        Ok(())
+    }
+
     /// Takes a part of a row: a word, a name, and a text or a tree.
     fn take(
         &mut self,
@@ -86,25 +101,29 @@ impl Scene {
                 self.known.whole = Vec::new(alloc);
                 Ok(())
             }
-            "absent" => {
-                self.known.absent.push(Read {
-                    kind: Text::copy_of(alloc, name)?,
-                    name: unmarked(alloc, text)?,
-                })?;
-                Ok(())
-            }
+            "absent" => self.add_absent(alloc, name, text),
             "shows" => self.objects.add(object_of(alloc, name, text)?),
             "preset" => add_tree(alloc, &mut self.presets, name, text),
             _ => add_tree(alloc, &mut self.bound, name, text),
         }
+    }
+
+    /// Adds a name that no object of this type has.
+    fn add_absent(&mut self, alloc: Global, kind: &str, name: &str) -> Result<(), OutOfMemory> {
+        let name = unmarked(alloc, name)?;
+        let kind = Text::copy_of(alloc, kind)?;
+        self.known.absent.push(Read { kind, name })?;
+        Ok(())
     }
 }
 
 /// The object of a type whose name and tree are written.
 fn object_of(alloc: Global, kind: &str, text: &str) -> Result<Object, OutOfMemory> {
     let (name, tree) = text.split_once(' ').unwrap_or((text, ""));
+    let tree = Arc::new(alloc, marked_tree(alloc, tree)?)?;
+    let kind = Text::copy_of(alloc, kind)?;
     Ok(Object {
-        kind: Text::copy_of(alloc, kind)?,
+        kind,
         name: Text::copy_of(alloc, name)?,
         place: Place {
             file: 0,
@@ -113,7 +132,7 @@ fn object_of(alloc: Global, kind: &str, text: &str) -> Result<Object, OutOfMemor
         },
         number: NO_NUMBER,
         builtin: false,
-        tree: Arc::new(alloc, marked_tree(alloc, tree)?)?,
+        tree,
     })
 }
 
@@ -123,7 +142,8 @@ fn add_tree(
     name: &str,
     tree: &str,
 ) -> Result<(), OutOfMemory> {
-    pairs.push((Text::copy_of(alloc, name)?, marked_tree(alloc, tree)?))?;
+    let tree = marked_tree(alloc, tree)?;
+    pairs.push((Text::copy_of(alloc, name)?, tree))?;
     Ok(())
 }
 
