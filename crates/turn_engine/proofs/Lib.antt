@@ -5,3 +5,4 @@ pub mod Unwritten
 pub mod Beginning
 pub mod Rounding
 pub mod Sole
+pub mod SoleRound

@@ -3,3 +3,4 @@ pub mod Orders
 pub mod Stages
 pub mod Ready
 pub mod Midst
+pub mod Sole

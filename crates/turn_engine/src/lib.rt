@@ -2,11 +2,13 @@
 //! entries checkables get, and which checks are ordered.
 //!
 //! In reading order: an order with its words (`order_out`), what a turn gives (`turn_out`), how orders get their words (`starting`),
-//! the checkables without entries (`books`), the greatest moment of entries (`moments`), what the engine keeps (`works`), what follows
-//! the round of a turn (`settling`), a turn from its beginning on (`turns`), and the engine (`engine`).
+//! the checkables without entries (`books`), the greatest moment of entries (`moments`), what the engine keeps (`works`), the round that
+//! several workers make (`callers`), what follows the round of a turn (`settling`), a turn from its beginning on (`turns`), and the engine
+//! (`engine`).
 #![tactic(auto)]
 
 mod books;
+mod callers;
 mod engine;
 mod moments;
 mod order_out;

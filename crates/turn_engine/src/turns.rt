@@ -7,13 +7,14 @@ ghost use Rattle.turn_engine.specs.Ready.{IsReady, running};
 ghost use Rattle.turn_engine.specs.Stages.{TellsTurn, stage_of};
 
 use crate::moments::later_of;
+use crate::callers::round_of;
 use crate::settling::settle;
 use crate::turn_out::TurnOut;
 use crate::works::Works;
 use post_turn::Gate;
 use site_base::{Moment, OutOfMemory};
 use site_edge::Turn;
-use site_posts::{round_many, round_one};
+use site_posts::round_one;
 use std::sync::Wait;
 use std::thread::Threads;
 use turn_deal::{Dealt, deal, deal_by_many};
@@ -61,7 +62,7 @@ pub(crate) fn take_by_many<R: Wait + Threads + Sync, G: Gate + Sync>(
 {
     let (moment, dealt) = deal_turn_by_many(rt, works, turn, workers)?;
     let lists = dealt.acts.for_many(works.alloc, workers)?;
-    let segments = round_many(
+    let segments = round_of(
         rt,
         works.alloc,
         &works.site,
