@@ -6,3 +6,4 @@ pub mod Beginning
 pub mod Rounding
 pub mod Sole
 pub mod SoleRound
+pub mod Giving

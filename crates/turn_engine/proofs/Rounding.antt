@@ -65,7 +65,7 @@ module _ {old : Works} {turn : Turn} {m : ℕ} {d : Dealt} {w : Works} (h : IsOp
   deals : Deals began turn m d w.plan
   deals = subst (λ v. Deals v turn m d w.plan) (sym h.others) h.deals
 
-  moment_is : m ≡ max w.moment turn.moment
+  pub moment_is : m ≡ max w.moment turn.moment
   moment_is = h.moment_is ∙ ap (λ (v : Works). max v.moment turn.moment) (sym h.others)
 
   pub books_now : AreBooks (site_view w.site) m w.books.items
@@ -104,7 +104,7 @@ module _ {old : Works} {turn : Turn} {m : ℕ} {d : Dealt} {w : Works} (h : IsOp
       ∙ ap (λ z. lines ++ (map (λ (t : Taken). t.asked) z ++ map asked_of d.acts.ticks.items)) deals.reports
       ∙ ap (λ z. lines ++ (map (λ (t : Taken). t.asked) reports ++ z)) deals.late
 
-  given_to_are : (callers : ℕ) → given_to callers ≡ shares callers
+  pub given_to_are : (callers : ℕ) → given_to callers ≡ shares callers
   given_to_are callers =
       ap (λ z. dealt callers z (map taken_of d.acts.reports.items) (map asked_of d.acts.ticks.items)) deals.lines
       ∙ ap (λ z. dealt callers lines z (map asked_of d.acts.ticks.items)) deals.reports

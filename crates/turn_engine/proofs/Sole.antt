@@ -7,7 +7,7 @@ use Rattle.run_meaning.proofs.OneLog.{only_log}
 use Rattle.turn_engine.specs.Stages.{TellsTurn, Tells}
 use Rattle.turn_engine.specs.declared.turn_out.TurnOut.{TurnOut}
 
-log_is : (b : Basis) (st : Stage) (t : ReadTurn) (l : TurnLog) → IsTurn b 1 st t l → l ≡ turn_alone b st t
+pub log_is : (b : Basis) (st : Stage) (t : ReadTurn) (l : TurnLog) → IsTurn b 1 st t l → l ≡ turn_alone b st t
 log_is b st t l is = let e = only_log b st (t ∷ []) (l ∷ []) (record { someone = omega arith; turns = (is, refl) }) in cc
 
 module _ {b : Basis} {st : Stage} {t : ReadTurn} {next : Stage} where

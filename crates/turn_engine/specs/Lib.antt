@@ -4,3 +4,4 @@ pub mod Stages
 pub mod Ready
 pub mod Midst
 pub mod Sole
+pub mod Told

@@ -1,5 +1,5 @@
 // The engine.
-ghost use Rattle.std.specs.Prelude.{◌≡◌, ◌<◌, ◌≤◌, ◌-◌, ◌^◌, [], List, Bool, true, false, length, All, IfOk, OnOk, OnErr, MatchOption};
+ghost use Rattle.std.specs.Prelude.{◌≡◌, ◌<◌, ◌≤◌, ◌-◌, ◌^◌, [], List, Bool, true, false, length, All, IfOk, IfSome, OnOk, OnErr, MatchOption};
 ghost use Rattle.site_model.specs.PlainSite.{site_view};
 ghost use Rattle.site_model.specs.Sound.{IsSound};
 ghost use Rattle.depend_graph.specs.Cycles.{IsOnCycle};
@@ -12,8 +12,10 @@ ghost use Rattle.run_text.specs.TurnReading.{turn_read};
 ghost use Rattle.turn_engine.specs.Stages.{Tells, TellsTurn, basis_of_site, stage_of};
 ghost use Rattle.turn_engine.specs.Checkables.{AreOf};
 ghost use Rattle.turn_engine.specs.Ready.{IsZoneOf};
+ghost use Rattle.turn_engine.specs.Told.{IsNoTurn, IsOnlyTurn};
 
 use crate::books::books_of;
+use crate::given::take_given;
 use crate::moments::greatest_moment_of;
 use crate::turn_out::TurnOut;
 use crate::turns::{take_alone, take_by_many};
@@ -23,6 +25,7 @@ use checkable_core::Checkable;
 use depend_graph::Graph;
 use lasting_problems::Problems;
 use post_turn::Gate;
+use round_check::Told;
 use site_base::{Moment, OutOfMemory};
 use site_edge::Turn;
 use site_model::Site;
@@ -193,6 +196,40 @@ impl Engine {
         let out = take_by_many(rt, &mut self.works, turn, workers, gate)?;
         self.spent = false;
         Ok(out)
+    }
+
+    /// Takes a turn of so many callers by what is told of its round: which checkables got entries, by ascending index and each its own by
+    /// number, who made them, and how far their callers saw. Gives what the turn gives. `None` where such callers can't have made such a round;
+    /// the engine is spent then.
+    ///
+    /// It takes a time that grows as that of [`Engine::turn_one`] does, and with what the entries saw, times a logarithm.
+    ///
+    /// # Errors
+    ///
+    /// `OutOfMemory` where there is none for what the turn gives. The engine is spent then.
+    pub fn turn_given(
+        &mut self,
+        turn: &Turn,
+        callers: u32,
+        told: Vec<Told>,
+    ) -> Result<Option<TurnOut>, OutOfMemory>
+        requires fresh { self.old.spent ≡ false }
+        requires few { self.old.run.turns < 2 ^ 40 }
+        requires callers { 1 ≤ callers }
+        ensures turn { (begun : List Begun) →
+            IfOk result (λ r. MatchOption r (IsNoTurn (basis_of_site (site_view self.old.run.site) self.old.run.zone) callers (stage_of self.old.run begun) (turn_read (site_view self.old.run.site) turn.now) told.items)
+            (λ out. IsOnlyTurn (basis_of_site (site_view self.old.run.site) self.old.run.zone) callers (stage_of self.old.run begun) (turn_read (site_view self.old.run.site) turn.now) told.items out
+            (stage_of self.new.run (begun_by (stage_of self.old.run begun) self.new.run.moment)))) }
+        ensures site { OnOk result (self.new.run.site ≡ self.old.run.site) }
+        ensures zone { OnOk result (self.new.run.zone ≡ self.old.run.zone) }
+        ensures fresh { IfOk result (λ r. IfSome r (λ _. self.new.spent ≡ false)) }
+    {
+        self.spent = true;
+        let Some(out) = take_given(&mut self.works, turn, callers, told)? else {
+            return Ok(None);
+        };
+        self.spent = false;
+        Ok(Some(out))
     }
 
     /// The site that it runs over.

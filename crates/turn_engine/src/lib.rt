@@ -10,6 +10,7 @@
 mod books;
 mod callers;
 mod engine;
+mod given;
 mod moments;
 mod order_out;
 mod settling;

@@ -30,6 +30,7 @@ pub(crate) fn settle(
         IfOk result (λ out. TellsTurn (basis_at works.old) callers (stage_of (running (begun_with plan books works.old)) begun) (read_at works.old turn) out (stage_of (running works.new) (begun_by (stage_of (running (begun_with plan books works.old)) begun) works.new.moment))) }
     ensures ready { (plan : Plan) (books : Vec Contents Global) (callers : ℕ) (turn : Turn) → IsRounded (begun_with plan books works.old) callers turn moment refusals.items segments works.old.plan works.old.books.items →
         OnOk result (IsReady works.new) }
+    ensures segments { IfOk result (λ out. out.segments ≡ segments) }
     ensures site { OnOk result (works.new.site ≡ works.old.site) }
     ensures zone { OnOk result (works.new.zone ≡ works.old.zone) }
 {

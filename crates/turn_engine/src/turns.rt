@@ -6,8 +6,8 @@ ghost use Rattle.turn_engine.specs.Midst.{IsOpen, basis_at, read_at};
 ghost use Rattle.turn_engine.specs.Ready.{IsReady, running};
 ghost use Rattle.turn_engine.specs.Stages.{TellsTurn, stage_of};
 
-use crate::moments::later_of;
 use crate::callers::round_of;
+use crate::moments::later_of;
 use crate::settling::settle;
 use crate::turn_out::TurnOut;
 use crate::works::Works;
@@ -77,7 +77,7 @@ pub(crate) fn take_by_many<R: Wait + Threads + Sync, G: Gate + Sync>(
 }
 
 /// Deals a turn: takes the reports of its orders, and gives its moment, with the acts of its round and what is refused.
-fn deal_turn(works: &mut Works, turn: &Turn) -> Result<(Moment, Dealt), OutOfMemory>
+pub(crate) fn deal_turn(works: &mut Works, turn: &Turn) -> Result<(Moment, Dealt), OutOfMemory>
     requires { IsReady works.old }
     ensures { IfOk result (λ r. IsOpen works.old turn.now r.0 r.1 works.new) }
 {
