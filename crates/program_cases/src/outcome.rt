@@ -226,6 +226,7 @@ pub(crate) fn push_statuses(out: &mut Text) -> Result<(), OutOfMemory> {
         Status::WorldFault,
         Status::OutOfMemory,
         Status::TurnsSpent,
+        Status::NotLegal,
     ] {
         out.push_str("\n  ")?;
         push_status(out, status)?;

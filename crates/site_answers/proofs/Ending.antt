@@ -20,3 +20,4 @@ ended status.WriteFault Is old new h = h
 ended status.WorldFault Is old new h = h
 ended status.OutOfMemory Is old new h = inr h
 ended status.TurnsSpent Is old new h = h
+ended status.NotLegal Is old new h = h

@@ -111,6 +111,7 @@ pub(crate) fn write_lost<S: Sink>(
     out: &mut S,
 ) -> Status
     ensures never_usage { result ≢ Status.Usage }
+    ensures never_illegal { result ≢ Status.NotLegal }
     ensures no_file { lost ≡ Lost.NoFile → EndsWhole result (replied (no_file_of (name_of (option_map (λ name. name.now) state.entry)))) (S.written out.old) (S.written out.new) }
     ensures bad_state { lost ≡ Lost.BadState → EndsWhole result (replied (bad_state_of (name_of (option_map (λ name. name.now) state.entry)))) (S.written out.old) (S.written out.new) }
     ensures failed { lost ≡ Lost.Failed → (result ≡ Status.ReadFault) × (out.new ≡ out.old) }

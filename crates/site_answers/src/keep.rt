@@ -36,6 +36,7 @@ pub fn keep_site<F: Files, S: Sink, C: Workers>(
     requires apt { C.apt workers.now }
     requires ready { IsReady (site_view site) }
     ensures never_usage { result ≢ Status.Usage }
+    ensures never_illegal { result ≢ Status.NotLegal }
     ensures written { EndsRun result (λ w. IfSome (F.told files.old) (λ all. AnswersKept (C.callers workers.now) script.now (site_view site) (find_file script.now all) w)) (S.written out.old) (S.written out.new) }
     ensures through { HandsOn result (S.kept_back out.new) }
     ensures told { F.told files.new ≡ F.told files.old }
@@ -66,6 +67,7 @@ fn keep_bytes<S: Sink, C: Workers>(
     requires apt { C.apt workers.now }
     requires ready { IsReady (site_view site) }
     ensures never_usage { result ≢ Status.Usage }
+    ensures never_illegal { result ≢ Status.NotLegal }
     ensures no_read_fault { result ≢ Status.ReadFault }
     ensures written { EndsRun result (AnswersKept (C.callers workers.now) script.now (site_view site) (Some bytes)) (S.written out.old) (S.written out.new) }
     ensures through { HandsOn result (S.kept_back out.new) }
@@ -86,6 +88,7 @@ fn keep_bytes<S: Sink, C: Workers>(
 /// Writes a state file, in one piece; nothing where more turns came than may be taken.
 fn write_file<S: Sink>(alloc: Global, file: Option<Text>, out: &mut S) -> Status
     ensures never_usage { result ≢ Status.Usage }
+    ensures never_illegal { result ≢ Status.NotLegal }
     ensures no_read_fault { result ≢ Status.ReadFault }
     ensures written { EndsWhole result (answered file) (S.written out.old) (S.written out.new) }
     ensures through { HandsOn result (S.kept_back out.new) }

@@ -16,6 +16,7 @@ use site_run::Status;
 /// Writes a reply.
 pub fn write_reply<S: Sink>(reply: &Reply, out: &mut S) -> Status
     ensures never_usage { result ≢ Status.Usage }
+    ensures never_illegal { result ≢ Status.NotLegal }
     ensures no_read_fault { result ≢ Status.ReadFault }
     ensures written { EndsWhole result (replied (reply_view reply.now)) (S.written out.old) (S.written out.new) }
     ensures through { HandsOn result (S.kept_back out.new) }
@@ -34,6 +35,7 @@ pub fn write_reply<S: Sink>(reply: &Reply, out: &mut S) -> Status
 /// Writes a reply, where there was memory for it.
 pub fn write_made<S: Sink>(reply: Result<Reply, OutOfMemory>, out: &mut S) -> Status
     ensures never_usage { result ≢ Status.Usage }
+    ensures never_illegal { result ≢ Status.NotLegal }
     ensures no_read_fault { result ≢ Status.ReadFault }
     ensures written { (r : PlainReply) → IfOk reply (λ x. reply_view x ≡ r) → EndsWhole result (replied r) (S.written out.old) (S.written out.new) }
     ensures through { HandsOn result (S.kept_back out.new) }
@@ -50,6 +52,7 @@ pub fn write_made<S: Sink>(reply: Result<Reply, OutOfMemory>, out: &mut S) -> St
 /// Writes nothing, where more turns came than may be taken, and hands on what was kept back.
 pub(crate) fn write_spent<S: Sink>(out: &mut S) -> Status
     ensures never_usage { result ≢ Status.Usage }
+    ensures never_illegal { result ≢ Status.NotLegal }
     ensures no_read_fault { result ≢ Status.ReadFault }
     ensures written { EndsWhole result (answered None) (S.written out.old) (S.written out.new) }
     ensures through { HandsOn result (S.kept_back out.new) }

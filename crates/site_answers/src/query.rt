@@ -40,6 +40,7 @@ pub fn query_site<F: Files, S: Sink, C: Workers>(
     requires apt { C.apt workers.now }
     requires ready { IsReady (site_view site) }
     ensures never_usage { result ≢ Status.Usage }
+    ensures never_illegal { result ≢ Status.NotLegal }
     ensures written { EndsRun result (λ w. IfSome (F.told files.old) (λ all. AnswersQueried (C.callers workers.now) script.now query.now (site_view site) (find_file script.now all) (find_file query.now all) w)) (S.written out.old) (S.written out.new) }
     ensures through { HandsOn result (S.kept_back out.new) }
     ensures told { F.told files.new ≡ F.told files.old }
@@ -72,6 +73,7 @@ fn after_bytes<F: Files, S: Sink, C: Workers>(
     requires apt { C.apt workers.now }
     requires ready { IsReady (site_view site) }
     ensures never_usage { result ≢ Status.Usage }
+    ensures never_illegal { result ≢ Status.NotLegal }
     ensures written { EndsRun result (λ w. IfSome (F.told files.old) (λ all. AnswersQueried (C.callers workers.now) script.now query.now (site_view site) (Some bytes) (find_file query.now all) w)) (S.written out.old) (S.written out.new) }
     ensures through { HandsOn result (S.kept_back out.new) }
     ensures told { F.told files.new ≡ F.told files.old }
@@ -102,6 +104,7 @@ fn after_turns<F: Files, S: Sink, C: Workers>(
     requires apt { C.apt workers.now }
     requires ready { IsReady (site_view site) }
     ensures never_usage { result ≢ Status.Usage }
+    ensures never_illegal { result ≢ Status.NotLegal }
     ensures written { EndsRun result (λ w. IfSome (F.told files.old) (λ all. AnswersAsked (C.callers workers.now) query.now (find_file query.now all) (site_view site) turns w)) (S.written out.old) (S.written out.new) }
     ensures through { HandsOn result (S.kept_back out.new) }
     ensures told { F.told files.new ≡ F.told files.old }
@@ -133,6 +136,7 @@ fn answer_bytes<S: Sink, C: Workers>(
     requires apt { C.apt workers.now }
     requires ready { IsReady (site_view site) }
     ensures never_usage { result ≢ Status.Usage }
+    ensures never_illegal { result ≢ Status.NotLegal }
     ensures no_read_fault { result ≢ Status.ReadFault }
     ensures written { EndsRun result (AnswersAsked (C.callers workers.now) name.now (Some bytes.now) (site_view site) turns) (S.written out.old) (S.written out.new) }
     ensures through { HandsOn result (S.kept_back out.new) }
@@ -160,6 +164,7 @@ fn query_of(alloc: Global, bytes: &Blob) -> Result<Query, QueryError>
 /// Writes the text of an answer; nothing where more turns came than may be taken.
 fn write_answer<S: Sink>(alloc: Global, answer: Option<Text>, out: &mut S) -> Status
     ensures never_usage { result ≢ Status.Usage }
+    ensures never_illegal { result ≢ Status.NotLegal }
     ensures no_read_fault { result ≢ Status.ReadFault }
     ensures written { EndsWhole result (answered answer) (S.written out.old) (S.written out.new) }
     ensures through { HandsOn result (S.kept_back out.new) }

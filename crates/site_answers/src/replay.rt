@@ -46,6 +46,7 @@ pub fn replay_site<F: Files, S: Sink, C: Workers>(
     requires apt { C.apt workers.now }
     requires ready { IsReady (site_view site) }
     ensures never_usage { result ≢ Status.Usage }
+    ensures never_illegal { result ≢ Status.NotLegal }
     ensures written { EndsRun result (λ w. IfSome (F.told files.old) (λ all. AnswersReplayed (C.callers workers.now) style recur (option_map (λ name. name.now) state.entry) script.now all (site_view site) w)) (S.written out.old) (S.written out.new) }
     ensures through { HandsOn result (S.kept_back out.new) }
     ensures told { F.told files.new ≡ F.told files.old }
@@ -80,6 +81,7 @@ fn replay_over<F: Files, S: Sink, C: Workers>(
     requires ready { IsReady (site_view site) }
     requires books { AreOf (site_view site) books.items }
     ensures never_usage { result ≢ Status.Usage }
+    ensures never_illegal { result ≢ Status.NotLegal }
     ensures written { EndsRun result (λ w. IfSome (F.told files.old) (λ all. AnswersBytes (C.callers workers.now) style recur script.now (site_view site) (histories_of books.items) (find_file script.now all) w)) (S.written out.old) (S.written out.new) }
     ensures through { HandsOn result (S.kept_back out.new) }
     ensures told { F.told files.new ≡ F.told files.old }
@@ -116,6 +118,7 @@ fn replay_bytes<S: Sink, C: Workers>(
     requires ready { IsReady (site_view site) }
     requires books { AreOf (site_view site) books.items }
     ensures never_usage { result ≢ Status.Usage }
+    ensures never_illegal { result ≢ Status.NotLegal }
     ensures no_read_fault { result ≢ Status.ReadFault }
     ensures written { EndsRun result (AnswersBytes (C.callers workers.now) style recur script.now (site_view site) (histories_of books.items) (Some bytes)) (S.written out.old) (S.written out.new) }
     ensures through { HandsOn result (S.kept_back out.new) }

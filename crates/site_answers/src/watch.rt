@@ -35,6 +35,7 @@ pub fn watch_site<F: Files, W: World, S: Sink, C: Workers>(
     requires apt { C.apt workers.now }
     requires ready { IsReady (site_view site) }
     ensures never_usage { result ≢ Status.Usage }
+    ensures never_illegal { result ≢ Status.NotLegal }
     ensures written { EndsRun result (λ w. IfSome (F.told files.old) (λ all. AnswersWatched (C.callers workers.now) style recur (option_map (λ name. name.now) state.entry) (W.turns world.old) all (site_view site) w)) (S.written out.old) (S.written out.new) }
     ensures came { CameBehind result (C.callers workers.now) style recur (option_map (λ name. name.now) state.entry) (F.told files.old) (site_view site) (outside (W.turns world.old) (W.started world.old) (W.calls world.old) (S.written out.old) (S.kept_back out.old)) (outside (W.turns world.new) (W.started world.new) (W.calls world.new) (S.written out.new) (S.kept_back out.new)) }
     ensures through { HandsOn result (S.kept_back out.new) }

@@ -58,7 +58,8 @@ status_numbered n =
     (cond (nat_eq n 3) status.ReadFault
     (cond (nat_eq n 4) status.WriteFault
     (cond (nat_eq n 5) status.WorldFault
-    (cond (nat_eq n 6) status.OutOfMemory status.TurnsSpent))))))
+    (cond (nat_eq n 6) status.OutOfMemory
+    (cond (nat_eq n 7) status.TurnsSpent status.NotLegal)))))))
 
 numbered : (s : Status) → status_numbered (number_of s) ≡ s
 unfolding status_numbered
@@ -70,6 +71,7 @@ numbered status.WriteFault = refl
 numbered status.WorldFault = refl
 numbered status.OutOfMemory = refl
 numbered status.TurnsSpent = refl
+numbered status.NotLegal = refl
 
 same_status : (s t : Status) → ((s ≡ t → ⊥) → ⊥) → s ≡ t
 same_status s t h =
@@ -149,3 +151,4 @@ calm_runs_end status.WriteFault t files turns old new w e read write world is = 
 calm_runs_end status.WorldFault t files turns old new w e read write world is = absurd (world refl)
 calm_runs_end status.OutOfMemory t files turns old new w e read write world is = inl refl
 calm_runs_end status.TurnsSpent t files turns old new w e read write world is = inr (ended status.TurnsSpent t files turns old new w is e)
+calm_runs_end status.NotLegal t files turns old new w e read write world is = inr (ended status.NotLegal t files turns old new w is e)

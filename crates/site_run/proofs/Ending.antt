@@ -124,6 +124,7 @@ less_asked s callers c limit P Q o n h e = record { done = e.done; logs = e.logs
     by status.Diagnosed x = absurd x
     by status.Usage x = absurd x
     by status.ReadFault x = absurd x
+    by status.NotLegal x = absurd x
 
 -- what is kept back when it ends
 pub hands_on : (s : Status) (callers : ℕ) (c : Course) (limit : ℕ) (stands : List Turn → List TurnLog → Type 0) (o n : Outside) → Ends s callers c limit stands o n → o.kept_back ≡ 0 → HandsOn s n.kept_back
@@ -139,6 +140,7 @@ hands_on s callers c limit stands o n e h = by s e.ends
     by status.Diagnosed x = absurd x
     by status.Usage x = absurd x
     by status.ReadFault x = absurd x
+    by status.NotLegal x = absurd x
 
 -- From turn to turn.
 

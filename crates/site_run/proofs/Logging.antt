@@ -99,19 +99,21 @@ module _ (callers : ℕ) (someone : 1 ≤ callers) (style : Style) (limit : ℕ)
     part_written : AddsPart (text_over c ls) m n → AddsPart (whole came ls).text o n
     part_written p = subst (λ xs. AddsPart xs o n) (sym (text_is came ls)) (part_behind (concat (first_lines style)) (text_over c ls) o m n first p)
 
-    over : (x : Status) → (x ≡ status.Diagnosed → ⊥) → (x ≡ status.Usage → ⊥) → (x ≡ status.ReadFault → ⊥) → WritesText x limit came (text_over c ls) m n → EndsRun x (AnswersWorld callers style limit given turns s) o n
-    over status.Done d u r w = one status.Done turns came ls o n told are (ap end_of (le-ltb limit (length came) w.0), all_written w.1)
-    over status.TurnsSpent d u r w = one status.TurnsSpent turns came ls o n told are (ap end_of (lt-ltb limit (length came) w.0), all_written w.1)
-    over status.WriteFault d u r w = one status.WriteFault turns came ls o n told are (part_written w)
-    over status.WorldFault d u r w = one status.WorldFault turns came ls o n told are (part_written w)
-    over status.OutOfMemory d u r w = inr (one status.OutOfMemory turns came ls o n told are (part_written w))
-    over status.Diagnosed d u r w = absurd (d refl)
-    over status.Usage d u r w = absurd (u refl)
-    over status.ReadFault d u r w = absurd (r refl)
+    over : (x : Status) → (x ≡ status.Diagnosed → ⊥) → (x ≡ status.Usage → ⊥) → (x ≡ status.ReadFault → ⊥) → (x ≡ status.NotLegal → ⊥) → WritesText x limit came (text_over c ls) m n → EndsRun x (AnswersWorld callers style limit given turns s) o n
+    over status.Done d u r v w = one status.Done turns came ls o n told are (ap end_of (le-ltb limit (length came) w.0), all_written w.1)
+    over status.TurnsSpent d u r v w = one status.TurnsSpent turns came ls o n told are (ap end_of (lt-ltb limit (length came) w.0), all_written w.1)
+    over status.WriteFault d u r v w = one status.WriteFault turns came ls o n told are (part_written w)
+    over status.WorldFault d u r v w = one status.WorldFault turns came ls o n told are (part_written w)
+    over status.OutOfMemory d u r v w = inr (one status.OutOfMemory turns came ls o n told are (part_written w))
+    over status.Diagnosed d u r v w = absurd (d refl)
+    over status.Usage d u r v w = absurd (u refl)
+    over status.ReadFault d u r v w = absurd (r refl)
+    over status.NotLegal d u r v w = absurd (v refl)
 
 -- a run ends with none of these
-never : (callers : ℕ) (c : Course) (limit : ℕ) (stands : List Turn → List TurnLog → Type 0) (old new : Outside) (x : Status) → Ends x callers c limit stands old new → (x ≡ status.Diagnosed → ⊥) × (x ≡ status.Usage → ⊥) × (x ≡ status.ReadFault → ⊥)
+never : (callers : ℕ) (c : Course) (limit : ℕ) (stands : List Turn → List TurnLog → Type 0) (old new : Outside) (x : Status) → Ends x callers c limit stands old new → (x ≡ status.Diagnosed → ⊥) × (x ≡ status.Usage → ⊥) × (x ≡ status.ReadFault → ⊥) × (x ≡ status.NotLegal → ⊥)
 never callers c limit stands old new x e = (
+  λ is. (subst (λ y. Ends y callers c limit stands old new) is e).ends,
   λ is. (subst (λ y. Ends y callers c limit stands old new) is e).ends,
   λ is. (subst (λ y. Ends y callers c limit stands old new) is e).ends,
   λ is. (subst (λ y. Ends y callers c limit stands old new) is e).ends,
@@ -127,7 +129,7 @@ over_written callers someone style limit s given names x old new p =
     let ends : t.more ≡ [] → rest.0 ≡ [] = λ e. subst (λ ts. AreLogsOf callers behind ts rest.0) e rest.1 in
     let all : AreLogsOf callers c (take limit t.came) (t.logs ++ rest.0) = subst (λ ts. AreLogsOf callers c ts (t.logs ++ rest.0)) (sym t.front) (logs_joined callers c t.taken t.more t.logs rest.0 t.are rest.1) in
     over callers someone style limit s given names p.zone p.is_zone old.turns old.written p.begun.written new.written p.first.written t.came (t.logs ++ rest.0)
-    (subst (λ turns. Came turns t.came) (nothing_taken old.turns p.begun.turns p.first.turns) t.told) all x none.0 none.1 none.2 (t.written rest.0 ends)
+    (subst (λ turns. Came turns t.came) (nothing_taken old.turns p.begun.turns p.first.turns) t.told) all x none.0 none.1 none.2 none.3 (t.written rest.0 ends)
 
 module _ {F : Type 0} (gives : Giving F) (after : Changing F) (first : F) (histories : Histories) where
   -- the run of an engine before its first turn

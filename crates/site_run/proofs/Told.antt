@@ -201,6 +201,7 @@ module _ (callers : ℕ) (c : Course) (limit : ℕ) (o n : Outside) where
   by status.Diagnosed stands d ls few are x = absurd x
   by status.Usage stands d ls few are x = absurd x
   by status.ReadFault stands d ls few are x = absurd x
+  by status.NotLegal stands d ls few are x = absurd x
 
   -- a run tells of the turns that came
   pub tells_as : (s : Status) (stands : List Turn → List TurnLog → Type 0) → Ends s callers c limit stands o n → TellsAs s callers c limit o n

@@ -134,6 +134,7 @@ EndsBehind status.OutOfMemory callers c limit stands done ls old new =
 EndsBehind status.Diagnosed callers c limit stands done ls old new = ⊥
 EndsBehind status.Usage callers c limit stands done ls old new = ⊥
 EndsBehind status.ReadFault callers c limit stands done ls old new = ⊥
+EndsBehind status.NotLegal callers c limit stands done ls old new = ⊥
 
 -- a run of so many callers and of at most so many turns ended so
 pub record Ends (s : Status) (callers : ℕ) (c : Course) (limit : ℕ) (stands : List Turn → List TurnLog → Type 0) (old new : Outside) : Type 0 where
@@ -173,6 +174,7 @@ abbrev pub HandsOn : Status → ℕ → Type 0
 HandsOn status.Done kept = kept ≡ 0
 HandsOn status.Diagnosed kept = kept ≡ 0
 HandsOn status.TurnsSpent kept = kept ≡ 0
+HandsOn status.NotLegal kept = kept ≡ 0
 HandsOn status.WorldFault kept = kept ≡ 0
 HandsOn status.Usage kept = Unit {0}
 HandsOn status.ReadFault kept = Unit {0}

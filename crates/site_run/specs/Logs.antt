@@ -63,6 +63,7 @@ abbrev pub EndsWhole : Status → Whole → Option (List ℕ) → Option (List �
 EndsWhole status.Done w old new = (w.ends ≡ status.Done) × Adds w.text old new
 EndsWhole status.Diagnosed w old new = (w.ends ≡ status.Diagnosed) × Adds w.text old new
 EndsWhole status.TurnsSpent w old new = (w.ends ≡ status.TurnsSpent) × Adds w.text old new
+EndsWhole status.NotLegal w old new = (w.ends ≡ status.NotLegal) × Adds w.text old new
 EndsWhole status.Usage w old new = ⊥
 EndsWhole status.ReadFault w old new = new ≡ old
 EndsWhole status.WriteFault w old new = AddsPart w.text old new

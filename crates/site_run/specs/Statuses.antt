@@ -1,7 +1,7 @@
 -- The numbers and names of statuses.
 use Rattle.std.specs.Prelude.{ℕ, List, codes}
 use Rattle.site_run.specs.declared.status.Status.{Status}
-use Rattle.site_run.specs.declared.status.Status.TheVariants.{Done, Diagnosed, Usage, ReadFault, WriteFault, WorldFault, OutOfMemory, TurnsSpent}
+use Rattle.site_run.specs.declared.status.Status.TheVariants.{Done, Diagnosed, Usage, ReadFault, WriteFault, WorldFault, OutOfMemory, TurnsSpent, NotLegal}
 
 -- the number with which the process ends
 abbrev pub number_of : Status → ℕ
@@ -13,6 +13,7 @@ number_of WriteFault = 4
 number_of WorldFault = 5
 number_of OutOfMemory = 6
 number_of TurnsSpent = 7
+number_of NotLegal = 8
 
 -- the name by which standard error tells it
 abbrev pub name_of : Status → List ℕ
@@ -24,3 +25,4 @@ name_of WriteFault = codes "WriteFault"
 name_of WorldFault = codes "WorldFault"
 name_of OutOfMemory = codes "OutOfMemory"
 name_of TurnsSpent = codes "TurnsSpent"
+name_of NotLegal = codes "NotLegal"

@@ -55,6 +55,7 @@ pub fn write_log<W: World, S: Sink, F: Feed, C: Workers>(
         EndsRun result (AnswersWorld (C.callers workers.now) style limit (given_by histories F.gives F.after feed.old) (W.turns world.old) (site_view engine.old.run.site)) (S.written out.old) (S.written out.new) }
     ensures through { HandsOn result (S.kept_back out.new) }
     ensures never_usage { result ≢ Status.Usage }
+    ensures never_illegal { result ≢ Status.NotLegal }
     ensures no_read_fault { result ≢ Status.ReadFault }
     ensures never_diagnosed { result ≢ Status.Diagnosed }
     ensures write_fault { result ≡ Status.WriteFault → Rose (S.faults out.old) (S.faults out.new) }

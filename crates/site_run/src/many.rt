@@ -41,6 +41,10 @@ impl<
         ((alloc : _) (style : _) (site : _) (turn : _) (out : _) → L.post w.tell alloc style site turn out →
         (l : TurnLog) → Tells turn.now l → IfOk out (λ lines. lines ≡ turn_lines style (site_view site.now) l)) };
 
+    fn count(&self) -> u32 {
+        self.count
+    }
+
     fn turn(&self, engine: &mut Engine, turn: &Turn) -> Result<TurnOut, OutOfMemory> {
         (self.take)(engine, turn)
     }

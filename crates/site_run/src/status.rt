@@ -22,6 +22,8 @@ pub enum Status {
     OutOfMemory,
     /// As many turns were taken as may be, and one more came.
     TurnsSpent,
+    /// A log was read that no run writes, and it was written where it goes wrong.
+    NotLegal,
 }
 
 impl Status {
@@ -41,6 +43,7 @@ impl Status {
             Status::WorldFault => 5,
             Status::OutOfMemory => 6,
             Status::TurnsSpent => 7,
+            Status::NotLegal => 8,
         }
     }
 
@@ -57,6 +60,7 @@ impl Status {
             Status::WorldFault => "WorldFault",
             Status::OutOfMemory => "OutOfMemory",
             Status::TurnsSpent => "TurnsSpent",
+            Status::NotLegal => "NotLegal",
         }
     }
 }

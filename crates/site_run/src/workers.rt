@@ -26,6 +26,10 @@ pub trait Workers {
     /// What has to hold so that they take turns as `turn` says.
     ghost apt: { Self → Type 0 };
 
+    /// How many callers they are.
+    fn count(&self) -> u32
+        ensures { result ≡ callers self.now };
+
     /// Takes a turn of an engine. They are 1 to 64 callers, the engine isn't spent, and fewer than 2^40 turns were taken of it.
     ///
     /// # Errors
@@ -69,6 +73,10 @@ impl Workers for OneWorker {
     ghost callers = { λ _. 1 };
 
     ghost apt = { λ _. Unit {0} };
+
+    fn count(&self) -> u32 {
+        1
+    }
 
     fn turn(&self, engine: &mut Engine, turn: &Turn) -> Result<TurnOut, OutOfMemory> {
         engine.turn_one(turn)

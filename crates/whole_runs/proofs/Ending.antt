@@ -21,3 +21,4 @@ ended_as status.WriteFault P Q old new f h = one_as status.WriteFault P Q old ne
 ended_as status.WorldFault P Q old new f h = one_as status.WorldFault P Q old new f h
 ended_as status.OutOfMemory P Q old new f h = either_as P Q old new f h
 ended_as status.TurnsSpent P Q old new f h = one_as status.TurnsSpent P Q old new f h
+ended_as status.NotLegal P Q old new f h = one_as status.NotLegal P Q old new f h

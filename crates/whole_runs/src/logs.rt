@@ -57,6 +57,7 @@ pub fn write_site_log<W: World, S: Sink, C: Workers>(
     ensures written { EndsRun result (AnswersTurns (C.callers workers.now) style recur limit (W.turns world.old) (site_view site) (histories_of books.items)) (S.written out.old) (S.written out.new) }
     ensures through { HandsOn result (S.kept_back out.new) }
     ensures never_usage { result ≢ Status.Usage }
+    ensures never_illegal { result ≢ Status.NotLegal }
     ensures no_read_fault { result ≢ Status.ReadFault }
     ensures never_diagnosed { result ≢ Status.Diagnosed }
     ensures write_fault { result ≡ Status.WriteFault → Rose (S.faults out.old) (S.faults out.new) }
@@ -96,6 +97,7 @@ fn write_from<W: World, S: Sink, C: Workers>(
         EndsRun result (AnswersTurns (C.callers workers.now) style recur limit (W.turns world.old) (site_view engine.old.run.site) histories) (S.written out.old) (S.written out.new) }
     ensures through { HandsOn result (S.kept_back out.new) }
     ensures never_usage { result ≢ Status.Usage }
+    ensures never_illegal { result ≢ Status.NotLegal }
     ensures no_read_fault { result ≢ Status.ReadFault }
     ensures never_diagnosed { result ≢ Status.Diagnosed }
     ensures write_fault { result ≡ Status.WriteFault → Rose (S.faults out.old) (S.faults out.new) }
@@ -132,6 +134,7 @@ fn write_plain<W: World, S: Sink, C: Workers>(
         EndsRun result (AnswersTurns (C.callers workers.now) style false limit (W.turns world.old) (site_view engine.old.run.site) histories) (S.written out.old) (S.written out.new) }
     ensures through { HandsOn result (S.kept_back out.new) }
     ensures never_usage { result ≢ Status.Usage }
+    ensures never_illegal { result ≢ Status.NotLegal }
     ensures no_read_fault { result ≢ Status.ReadFault }
     ensures never_diagnosed { result ≢ Status.Diagnosed }
     ensures write_fault { result ≡ Status.WriteFault → Rose (S.faults out.old) (S.faults out.new) }
@@ -166,6 +169,7 @@ fn write_recurring<W: World, S: Sink, C: Workers>(
         EndsRun result (AnswersTurns (C.callers workers.now) style true limit (W.turns world.old) (site_view engine.old.run.site) histories) (S.written out.old) (S.written out.new) }
     ensures through { HandsOn result (S.kept_back out.new) }
     ensures never_usage { result ≢ Status.Usage }
+    ensures never_illegal { result ≢ Status.NotLegal }
     ensures no_read_fault { result ≢ Status.ReadFault }
     ensures never_diagnosed { result ≢ Status.Diagnosed }
     ensures write_fault { result ≡ Status.WriteFault → Rose (S.faults out.old) (S.faults out.new) }
