@@ -1,5 +1,4 @@
-pub mod Ending
-pub mod Finding
+pub mod TurnLogs
 pub mod Losing
 pub mod Lines
 pub mod OneAnswer

@@ -1,16 +1,16 @@
 -- The entries before the first turn, or why there are none.
 use Rattle.std.proofs.Common.{◌≡◌, ◌⊎◌, inl, inr, true, ℕ, List, [], Option, Some, None, IfSome, refl, sym, ap, subst}
 use Rattle.run_meaning.specs.Turns.{Histories}
-use Rattle.site_answers.specs.Runs.{replied}
-use Rattle.site_answers.specs.SiteAnswers.{Before, Files, OnBefore, absent, bad, has, has_none, name_of}
+use Rattle.run_replies.specs.Runs.{Files, replied}
+use Rattle.site_answers.specs.SiteAnswers.{Before, OnBefore, absent, bad, has, has_none, name_of}
 use Rattle.site_answers.specs.declared.before.Lost.{Lost}
 use Rattle.site_answers.specs.declared.before.Lost.TheVariants as lost
 use Rattle.site_replies.specs.Replies.{bad_state, no_file}
 use Rattle.site_run.specs.Logs.{EndsRun, EndsWhole, Whole}
 use Rattle.site_run.specs.declared.status.Status.{Status}
 use Rattle.site_run.specs.declared.status.Status.TheVariants as status
-use Rattle.site_answers.proofs.Finding.{always}
-use Rattle.site_answers.proofs.Ending.{ended}
+use Rattle.run_replies.proofs.Finding.{always}
+use Rattle.site_run.proofs.Wholes.{ended}
 
 -- what holds of what there is holds of what the files tell
 pub on_before : (told : Option Files) (at : Files → Before) (b : Before) (Q : Files → Before → Type 0) → ((files : Files) → told ≡ Some files → at files ≡ b) → IfSome told (λ all. Q all b) → IfSome told (λ all. Q all (at all))

@@ -7,8 +7,9 @@ use Rattle.site_edge.specs.declared.turn.Turn.{Turn}
 use Rattle.site_model.specs.PlainSite.{PlainSite}
 use Rattle.site_model.specs.Sound.{HasNames}
 use Rattle.site_answers.specs.SiteAnswers as answers
-use Rattle.site_answers.specs.SiteAnswers.{AnswersAsked, AnswersBytes, AnswersKept, AnswersLeft, AnswersQueried, AnswersReplayed, AnswersWatched, Before, Files, OnBefore, OnQuery, OnScript, OnTurns, answered, before, most_turns}
-use Rattle.site_answers.proofs.Finding.{log_as}
+use Rattle.site_answers.specs.SiteAnswers.{AnswersAsked, AnswersBytes, AnswersKept, AnswersLeft, AnswersQueried, AnswersReplayed, AnswersWatched, Before, OnBefore, OnQuery, OnScript, OnTurns, answered, before, most_turns}
+use Rattle.run_replies.specs.Runs.{Files}
+use Rattle.site_answers.proofs.TurnLogs.{log_as}
 use Rattle.site_query.specs.Lines as query_lines
 use Rattle.site_query.specs.declared.query.Query.{Query}
 use Rattle.site_query.proofs.QueryLaws.{has_read as query_is}

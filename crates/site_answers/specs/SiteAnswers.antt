@@ -6,7 +6,7 @@ use Rattle.run_text.specs.declared.style.Style.{Style}
 use Rattle.site_edge.specs.Told.{find_file}
 use Rattle.site_edge.specs.declared.turn.Turn.{Turn}
 use Rattle.site_model.specs.PlainSite.{PlainSite}
-use Rattle.site_answers.specs.Runs.{replied}
+use Rattle.run_replies.specs.Runs.{Files, replied}
 use Rattle.site_keep.specs.Reading.{state_read}
 use Rattle.site_query.specs.Lines as query_lines
 use Rattle.site_replies.specs.Replies.{bad_query, bad_script, bad_state, no_file}
@@ -18,9 +18,6 @@ use Rattle.site_text.specs.Scripts.{Answer, Has, told, bad_line}
 use Rattle.kept_runs.specs.Kept.{AnswersKeep}
 use Rattle.whole_runs.specs.Logs.{AnswersTurns, IsSiteLog, WentOver}
 use Rattle.whole_runs.specs.Queried.{AnswersQuery}
-
-abbrev pub Files : Type 0
-Files = List (List ℕ × List ℕ)
 
 -- Logs.
 

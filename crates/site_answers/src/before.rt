@@ -8,11 +8,11 @@ ghost use Rattle.site_replies.specs.Replies.{bad_state as bad_state_of, no_file 
 ghost use Rattle.site_run.specs.Ends.{HandsOn};
 ghost use Rattle.site_run.specs.Logs.{EndsWhole};
 ghost use Rattle.turn_engine.specs.Checkables.{AreOf};
-ghost use Rattle.site_answers.specs.Runs.{replied};
-ghost use Rattle.site_answers.specs.SiteAnswers.{Files as ToldFiles, absent, bad, before, before_in, has, name_of};
+ghost use Rattle.run_replies.specs.Runs.{Files as ToldFiles, replied};
+ghost use Rattle.site_answers.specs.SiteAnswers.{absent, bad, before, before_in, has, name_of};
 
-use crate::output::write_made;
 use checkable_core::Checkable;
+use run_replies::write_made;
 use site_base::Blob;
 use site_edge::{FileFault, Files, Sink};
 use site_keep::{KeepError, restore};

@@ -8,12 +8,13 @@ ghost use Rattle.site_replies.specs.Replies.{reply_view};
 ghost use Rattle.site_run.specs.Callers.{AreCallers};
 ghost use Rattle.site_run.specs.Ends.{HandsOn};
 ghost use Rattle.site_run.specs.Logs.{EndsRun, EndsWhole};
-ghost use Rattle.site_answers.specs.Runs.{replied};
+ghost use Rattle.run_replies.specs.Runs.{replied};
 ghost use Rattle.site_answers.specs.SiteAnswers.{AnswersKept, answered};
 
-use crate::output::{write_made, write_reply, write_spent};
 use crate::replay::{MOST_TURNS, turns_of};
+use crate::spent::write_spent;
 use kept_runs::keep_turns;
+use run_replies::{write_made, write_reply};
 use site_base::{Blob, OutOfMemory, Text, Texts};
 use site_edge::{FileFault, Files, Sink};
 use site_model::Site;

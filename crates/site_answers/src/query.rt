@@ -10,11 +10,12 @@ ghost use Rattle.site_replies.specs.Replies.{reply_view};
 ghost use Rattle.site_run.specs.Callers.{AreCallers};
 ghost use Rattle.site_run.specs.Ends.{HandsOn};
 ghost use Rattle.site_run.specs.Logs.{EndsRun, EndsWhole};
-ghost use Rattle.site_answers.specs.Runs.{replied};
+ghost use Rattle.run_replies.specs.Runs.{replied};
 ghost use Rattle.site_answers.specs.SiteAnswers.{AnswersAsked, AnswersQueried, answered};
 
-use crate::output::{write_made, write_reply, write_spent};
 use crate::replay::{MOST_TURNS, turns_of};
+use crate::spent::write_spent;
+use run_replies::{write_made, write_reply};
 use site_base::{Blob, OutOfMemory, Row, Text, Texts};
 use site_edge::{FileFault, Files, Sink, Turn};
 use site_model::Site;

@@ -13,8 +13,8 @@ ghost use Rattle.site_run.specs.Logs.{EndsRun};
 ghost use Rattle.site_answers.specs.SiteAnswers.{AnswersBytes, AnswersReplayed};
 
 use crate::before::{books_before, write_lost};
-use crate::output::write_made;
 use checkable_core::Checkable;
+use run_replies::write_made;
 use run_text::Style;
 use site_base::{Blob, Row};
 use site_edge::{FileFault, Files, Sink, Turn};

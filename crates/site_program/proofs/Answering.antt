@@ -11,9 +11,8 @@ use Rattle.site_model.specs.declared.site.Site.{Site}
 use Rattle.site_phases.specs.Phases.{FilesStay, answer_view}
 use Rattle.site_phases.specs.declared.answer.Answer.{Answer}
 use Rattle.site_phases.specs.declared.answer.Answer.TheVariants as answer
-use Rattle.site_answers.specs.Runs.{replied}
+use Rattle.run_replies.specs.Runs.{Files, replied}
 use Rattle.site_run.specs.Logs.{Whole}
-use Rattle.site_answers.specs.SiteAnswers.{Files}
 use Rattle.site_program.specs.TaskAnswers.{AnswersOver, AnswersRoot, AnswersShown, AnswersSite, HasNoSite, IsSiteOf}
 use Rattle.site_replies.specs.Replies.{config_reply, diagnoses, files_in}
 use Rattle.site_replies.specs.declared.replies.Shown.{Shown}

@@ -19,8 +19,8 @@ use Rattle.site_model.specs.PlainSite.{PlainObject, PlainSite}
 use Rattle.site_model.specs.Sound.{HasNames}
 use Rattle.site_phases.specs.Constants.{PlainGlobals, settings_of}
 use Rattle.site_phases.specs.Phases.{phases, site_made}
-use Rattle.site_answers.specs.Runs.{replied}
-use Rattle.site_answers.specs.SiteAnswers.{AnswersKept, AnswersQueried, AnswersReplayed, AnswersWatched, Files}
+use Rattle.run_replies.specs.Runs.{Files, replied}
+use Rattle.site_answers.specs.SiteAnswers.{AnswersKept, AnswersQueried, AnswersReplayed, AnswersWatched}
 use Rattle.site_program.specs.TaskAnswers.{Answers, AnswersOver, AnswersShown, AnswersSite, IsCounted, files_of, root_name}
 use Rattle.site_replies.specs.Replies.{listed}
 use Rattle.site_replies.specs.declared.replies.Shown.{Shown}

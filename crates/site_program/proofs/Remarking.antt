@@ -9,7 +9,7 @@ use Rattle.site_load.specs.Loads.{load_outcome}
 use Rattle.site_phases.specs.Phases.{answer_view}
 use Rattle.site_phases.specs.declared.answer.Answer.{Answer}
 use Rattle.site_program.specs.Runs.{status_by}
-use Rattle.site_answers.specs.SiteAnswers.{Files}
+use Rattle.run_replies.specs.Runs.{Files}
 use Rattle.site_program.specs.TaskAnswers.{RemarkedOf, RemarksOn}
 use Rattle.site_replies.specs.Remarks.{remarks_of, with_remarks}
 use Rattle.site_replies.specs.declared.remarks.Remark.{Remark}

@@ -15,8 +15,8 @@ use Rattle.site_load.specs.Configs.{IsBadZone, config_outcome, names_of}
 use Rattle.site_load.specs.Idle.{idle_by, rules_of}
 use Rattle.site_load.specs.Loads.{load_outcome}
 use Rattle.site_model.specs.PlainSite.{PlainSite}
-use Rattle.site_answers.specs.Runs.{replied}
-use Rattle.site_answers.specs.SiteAnswers.{Files, AnswersKept, AnswersReplayed, AnswersWatched, AnswersQueried, IsUnanswered, CameBehind}
+use Rattle.run_replies.specs.Runs.{Files, replied}
+use Rattle.site_answers.specs.SiteAnswers.{AnswersKept, AnswersReplayed, AnswersWatched, AnswersQueried, IsUnanswered, CameBehind}
 use Rattle.site_replies.specs.Remarks.{remarks_of, with_remarks}
 use Rattle.site_replies.specs.Replies.{config_reply, diagnoses, listed}
 use Rattle.site_replies.specs.declared.remarks.Remark.{Remark}

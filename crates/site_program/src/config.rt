@@ -9,7 +9,7 @@ ghost use Rattle.site_replies.specs.declared.replies.Shown.TheVariants as shown_
 
 use crate::committers::Committers;
 use crate::remarked::answer_remarked;
-use site_answers::write_made;
+use run_replies::write_made;
 use site_conf::LoadFault;
 use site_edge::{Files, Sink};
 use site_replies::{Remarks, Shown, reply_to_config};

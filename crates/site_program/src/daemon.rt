@@ -10,8 +10,9 @@ ghost use Rattle.site_program.specs.TaskAnswers.{AnswersSite, CameFar, RemarkedO
 use crate::committers::Committers;
 use crate::config::status_of;
 use crate::remarked::answer_remarked;
+use run_replies::write_made;
 use run_text::Style;
-use site_answers::{watch_site, write_made};
+use site_answers::watch_site;
 use site_edge::{Files, Sink, World};
 use site_phases::Answer;
 use site_replies::{Remarks, diagnoses};

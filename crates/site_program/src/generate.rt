@@ -4,13 +4,13 @@ ghost use Rattle.site_edge.specs.Told.{Rose};
 ghost use Rattle.site_model.specs.PlainSite.{site_view};
 ghost use Rattle.site_phases.specs.Phases.{IsReady};
 ghost use Rattle.site_replies.specs.Replies.{reply_view};
-ghost use Rattle.site_answers.specs.Runs.{replied};
+ghost use Rattle.run_replies.specs.Runs.{replied};
 ghost use Rattle.site_run.specs.Ends.{HandsOn};
 ghost use Rattle.site_run.specs.Logs.{EndsRun};
 ghost use Rattle.site_program.specs.TaskAnswers.{AnswersGenerated, IsCounted, files_of as files_in};
 
 use crate::config::status_of;
-use site_answers::{write_made, write_reply};
+use run_replies::{write_made, write_reply};
 use site_base::{Blob, OutOfMemory, Row, Text};
 use site_edge::{Files, MemFiles, Sink};
 use site_gen::{count_run, lines_of, root_text};

@@ -9,7 +9,8 @@ ghost use Rattle.site_program.specs.TaskAnswers.{AnswersSite};
 
 use crate::committers::Committers;
 use crate::config::status_of;
-use site_answers::{keep_site, write_made};
+use run_replies::write_made;
+use site_answers::keep_site;
 use site_edge::{Files, Sink};
 use site_phases::Answer;
 use site_replies::diagnoses;

@@ -1,7 +1,7 @@
 // What is known of what the program writes.
 ghost use Rattle.std.specs.Prelude.{◌≡◌, ◌⊎◌, ℕ, List, Option, Some};
 ghost use Rattle.site_edge.specs.declared.turn.Turn.{Turn};
-ghost use Rattle.site_answers.specs.SiteAnswers.{Files};
+ghost use Rattle.run_replies.specs.Runs.{Files};
 ghost use Rattle.site_program.specs.TaskAnswers.{Answers};
 ghost use Rattle.site_run.specs.Logs.{EndsRun, EndsWhole, Whole};
 ghost use Rattle.site_run.specs.declared.status.Status.{Status};

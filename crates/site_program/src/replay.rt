@@ -9,8 +9,9 @@ ghost use Rattle.site_program.specs.TaskAnswers.{AnswersSite};
 
 use crate::committers::Committers;
 use crate::config::status_of;
+use run_replies::write_made;
 use run_text::Style;
-use site_answers::{replay_site, write_made};
+use site_answers::replay_site;
 use site_edge::{Files, Sink};
 use site_phases::Answer;
 use site_replies::diagnoses;

@@ -7,4 +7,5 @@ pub mod OnSite
 pub mod OneLog
 pub mod Stopping
 pub mod Told
+pub mod Wholes
 pub mod Zones

@@ -1,4 +1,3 @@
-pub mod Ending
 pub mod Zones
 pub mod Recurring
 pub mod Given

@@ -1,5 +1,5 @@
 use Rattle.std.proofs.Common.{ℕ, List, subst}
-use Rattle.site_answers.specs.Runs.{replied}
+use Rattle.run_replies.specs.Runs.{replied}
 use Rattle.site_replies.specs.Replies.{bad_state, no_file}
 use Rattle.site_run.specs.Logs.{EndsWhole}
 use Rattle.site_answers.proofs.before.write_lost.Goals as goal

@@ -1,11 +1,11 @@
 -- The script is read, and its turns leave what they leave.
 use Rattle.std.proofs.Common.{◌≡◌, IfOk, Some, refl, rules}
 use Rattle.site_model.specs.PlainSite.{site_view}
-use Rattle.site_answers.specs.Runs.{replied}
+use Rattle.run_replies.specs.Runs.{replied}
 use Rattle.site_answers.specs.SiteAnswers.{AnswersKept, answered}
 use Rattle.site_replies.specs.Replies.{bad_script, reply_view}
 use Rattle.site_text.specs.Scripts.{Has, bad_line, told}
-use Rattle.site_answers.proofs.Ending.{ended}
+use Rattle.site_run.proofs.Wholes.{ended}
 use Rattle.site_answers.proofs.keep.keep_bytes.Goals as goal
 
 pub returns-in-Ok-keep_turns-clause-written : goal.returns-in-Ok-keep_turns-clause-written

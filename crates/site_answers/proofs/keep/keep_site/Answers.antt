@@ -2,12 +2,11 @@
 use Rattle.std.proofs.Common.{IfSome, None, Some, refl, subst}
 use Rattle.site_edge.specs.Told.{ReadsFile, find_file}
 use Rattle.site_model.specs.PlainSite.{site_view}
-use Rattle.site_answers.specs.Runs.{replied}
+use Rattle.run_replies.specs.Runs.{replied}
 use Rattle.site_answers.specs.SiteAnswers.{AnswersKept}
 use Rattle.site_replies.specs.Replies.{no_file}
-use Rattle.site_answers.proofs.Finding.{as_found}
-use Rattle.whole_runs.proofs.Ending.{ended_as}
-use Rattle.site_answers.proofs.Ending.{ended}
+use Rattle.run_replies.proofs.Finding.{as_found}
+use Rattle.site_run.proofs.Wholes.{ended, ended_as}
 use Rattle.site_answers.proofs.keep.keep_site.Goals as goal
 
 pub returns-in-Ok-Some-clause-written : goal.returns-in-Ok-Some-clause-written

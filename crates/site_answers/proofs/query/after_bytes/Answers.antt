@@ -1,13 +1,12 @@
 use Rattle.std.proofs.Common.{◌≡◌, IfOk, IfSome, Some, refl, rules}
 use Rattle.site_edge.specs.Told.{find_file}
 use Rattle.site_model.specs.PlainSite.{site_view}
-use Rattle.site_answers.specs.Runs.{replied}
+use Rattle.run_replies.specs.Runs.{replied}
 use Rattle.site_answers.specs.SiteAnswers.{AnswersAsked, AnswersQueried}
 use Rattle.site_replies.specs.Replies.{bad_script, reply_view}
 use Rattle.site_text.specs.Scripts.{Has, bad_line, told}
-use Rattle.site_answers.proofs.Finding.{always, on_some}
-use Rattle.whole_runs.proofs.Ending.{ended_as}
-use Rattle.site_answers.proofs.Ending.{ended}
+use Rattle.run_replies.proofs.Finding.{always, on_some}
+use Rattle.site_run.proofs.Wholes.{ended, ended_as}
 use Rattle.site_answers.proofs.query.after_bytes.Goals as goal
 
 pub returns-in-Ok-clause-written : goal.returns-in-Ok-clause-written

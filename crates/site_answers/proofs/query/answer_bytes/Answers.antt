@@ -1,11 +1,11 @@
 use Rattle.std.proofs.Common.{◌≡◌, IfOk, Some, refl, rules}
 use Rattle.site_model.specs.PlainSite.{site_view}
-use Rattle.site_answers.specs.Runs.{replied}
+use Rattle.run_replies.specs.Runs.{replied}
 use Rattle.site_answers.specs.SiteAnswers.{AnswersAsked, answered, most_turns}
 use Rattle.site_query.specs.Lines.{Has, bad_line, told}
 use Rattle.site_replies.specs.Replies.{bad_query, reply_view}
 use Rattle.whole_runs.specs.Queried.{AnswersQuery}
-use Rattle.site_answers.proofs.Ending.{ended}
+use Rattle.site_run.proofs.Wholes.{ended}
 use Rattle.site_answers.proofs.query.answer_bytes.Goals as goal
 
 pub returns-in-Ok-query_turns-clause-written : goal.returns-in-Ok-query_turns-clause-written

@@ -1,12 +1,11 @@
 use Rattle.std.proofs.Common.{IfSome, None, Some, refl, subst}
 use Rattle.site_edge.specs.Told.{ReadsFile, find_file}
 use Rattle.site_model.specs.PlainSite.{site_view}
-use Rattle.site_answers.specs.Runs.{replied}
-use Rattle.site_answers.specs.SiteAnswers.{AnswersQueried, Files}
+use Rattle.run_replies.specs.Runs.{Files, replied}
+use Rattle.site_answers.specs.SiteAnswers.{AnswersQueried}
 use Rattle.site_replies.specs.Replies.{no_file}
-use Rattle.site_answers.proofs.Finding.{always, found_among, on_some}
-use Rattle.whole_runs.proofs.Ending.{ended_as}
-use Rattle.site_answers.proofs.Ending.{ended}
+use Rattle.run_replies.proofs.Finding.{always, found_among, on_some}
+use Rattle.site_run.proofs.Wholes.{ended, ended_as}
 use Rattle.site_answers.proofs.query.query_site.Goals as goal
 
 pub returns-in-Ok-Some-clause-written : goal.returns-in-Ok-Some-clause-written

@@ -1,14 +1,13 @@
 use Rattle.std.proofs.Common.{◌≡◌, IfOk, Some, refl, rules}
 use Rattle.site_model.specs.PlainSite.{site_view}
 use Rattle.site_posts.specs.Books.{histories_of}
-use Rattle.site_answers.specs.Runs.{replied}
+use Rattle.run_replies.specs.Runs.{replied}
 use Rattle.site_answers.specs.SiteAnswers.{AnswersBytes, most_turns}
 use Rattle.site_replies.specs.Replies.{bad_script, reply_view}
 use Rattle.whole_runs.specs.Logs.{AnswersTurns}
 use Rattle.site_text.specs.Scripts.{Has, bad_line, told}
-use Rattle.site_answers.proofs.Finding.{script_log}
-use Rattle.whole_runs.proofs.Ending.{ended_as}
-use Rattle.site_answers.proofs.Ending.{ended}
+use Rattle.site_answers.proofs.TurnLogs.{script_log}
+use Rattle.site_run.proofs.Wholes.{ended, ended_as}
 use Rattle.site_answers.proofs.replay.replay_bytes.Goals as goal
 
 pub returns-in-Ok-clause-written : goal.returns-in-Ok-clause-written

@@ -4,7 +4,7 @@ use Rattle.site_model.specs.PlainSite.{site_view}
 use Rattle.site_posts.specs.Books.{histories_of}
 use Rattle.site_answers.specs.SiteAnswers.{AnswersBytes, AnswersReplayed, OnBefore, before, has}
 use Rattle.site_answers.proofs.Losing.{lost_ends, on_before}
-use Rattle.whole_runs.proofs.Ending.{ended_as}
+use Rattle.site_run.proofs.Wholes.{ended_as}
 use Rattle.site_answers.proofs.replay.replay_site.Goals as goal
 
 pub returns-in-Ok-clause-written : goal.returns-in-Ok-clause-written

@@ -2,10 +2,10 @@ use Rattle.std.proofs.Common.{◌≡◌, Err, IfSome, ap, inl, inr, option_map, 
 use Rattle.site_model.specs.PlainSite.{site_view}
 use Rattle.site_posts.specs.Books.{histories_of}
 use Rattle.site_answers.specs.SiteAnswers.{AnswersWatched, OnBefore, before, has, most_turns}
-use Rattle.site_answers.proofs.Finding.{always}
+use Rattle.run_replies.proofs.Finding.{always}
 use Rattle.site_answers.proofs.Losing.{each, lost_ends, none_there, on_before}
 use Rattle.whole_runs.specs.Logs.{AnswersTurns}
-use Rattle.whole_runs.proofs.Ending.{ended_as}
+use Rattle.site_run.proofs.Wholes.{ended_as}
 use Rattle.site_answers.proofs.watch.watch_site.Goals as goal
 
 pub returns-in-Ok-clause-written : goal.returns-in-Ok-clause-written

@@ -1,12 +1,12 @@
 use Rattle.std.proofs.Common.{false, IfSome}
 use Rattle.site_phases.specs.Phases.{answer_view}
-use Rattle.site_answers.specs.Runs.{replied}
+use Rattle.run_replies.specs.Runs.{replied}
 use Rattle.site_program.specs.TaskAnswers.{AnswersShown}
 use Rattle.site_replies.specs.Replies.{config_reply, files_in}
 use Rattle.site_replies.specs.declared.replies.Shown.TheVariants as shown
 use Rattle.site_program.proofs.Answering.{shown_answers}
 use Rattle.site_program.proofs.Remarking.{remarked_on, unread_unremarked}
-use Rattle.site_answers.proofs.Ending.{ended}
+use Rattle.site_run.proofs.Wholes.{ended}
 use Rattle.site_program.proofs.Ending.{unread, unread_through}
 use Rattle.site_program.proofs.config.count_objects.Goals as goal
 

@@ -1,13 +1,12 @@
 use Rattle.std.proofs.Common.{◌≡◌, IfOk, IfSome, Option, inl, inr, option_map, refl, rules, subst}
 use Rattle.site_model.specs.PlainSite.{site_view}
-use Rattle.site_answers.specs.Runs.{replied}
-use Rattle.site_answers.specs.SiteAnswers.{AnswersWatched, CameBehind, Files}
+use Rattle.run_replies.specs.Runs.{Files, replied}
+use Rattle.site_answers.specs.SiteAnswers.{AnswersWatched, CameBehind}
 use Rattle.site_program.specs.TaskAnswers.{AnswersSite}
 use Rattle.site_replies.specs.Replies.{diagnoses, reply_view}
 use Rattle.site_run.specs.Ends.{outside}
 use Rattle.site_program.proofs.Answering.{diags_answer, no_site_found, site_answers, site_found}
-use Rattle.whole_runs.proofs.Ending.{ended_as}
-use Rattle.site_answers.proofs.Ending.{ended}
+use Rattle.site_run.proofs.Wholes.{ended, ended_as}
 use Rattle.site_program.proofs.Ending.{unanswered, unread_through}
 use Rattle.site_program.proofs.Remarking.{remarked_on, unread_unremarked}
 use Rattle.site_program.proofs.daemon.watch.Goals as goal

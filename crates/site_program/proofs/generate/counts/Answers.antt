@@ -3,7 +3,7 @@ use Rattle.std.proofs.Common.{ℕ, false, List, length, map, ap, ◌∙◌}
 use Rattle.site_gen.specs.Lines.{count_lines}
 use Rattle.site_model.specs.PlainSite.{object_view}
 use Rattle.site_model.specs.declared.object.Object.{Object}
-use Rattle.site_answers.specs.Runs.{replied}
+use Rattle.run_replies.specs.Runs.{replied}
 use Rattle.site_replies.specs.Replies.{listed}
 use Rattle.site_program.proofs.generate.counts.Goals as goal
 

@@ -1,12 +1,11 @@
 -- What is written is what answers to the one file.
 use Rattle.std.proofs.Common.{◌≡◌, IfOk, Some, ◌∙◌, rules}
 use Rattle.site_model.specs.PlainSite.{site_view}
-use Rattle.site_answers.specs.Runs.{replied}
+use Rattle.run_replies.specs.Runs.{replied}
 use Rattle.site_program.specs.TaskAnswers.{AnswersGenerated, IsCounted, files_of, root_name}
 use Rattle.site_replies.specs.Replies.{diagnoses, reply_view}
 use Rattle.site_program.proofs.Answering.{diags_answer, site_answers}
-use Rattle.whole_runs.proofs.Ending.{ended_as}
-use Rattle.site_answers.proofs.Ending.{ended}
+use Rattle.site_run.proofs.Wholes.{ended, ended_as}
 use Rattle.site_program.proofs.generate.generate.Goals as goal
 
 pub returns-in-Ok-Site-clause-written : goal.returns-in-Ok-Site-clause-written

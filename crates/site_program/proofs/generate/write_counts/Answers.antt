@@ -1,8 +1,8 @@
 use Rattle.site_model.specs.PlainSite.{site_view}
-use Rattle.site_answers.specs.Runs.{replied}
+use Rattle.run_replies.specs.Runs.{replied}
 use Rattle.site_program.specs.TaskAnswers.{IsCounted}
 use Rattle.site_replies.specs.Replies.{reply_view}
-use Rattle.site_answers.proofs.Ending.{ended}
+use Rattle.site_run.proofs.Wholes.{ended}
 use Rattle.site_program.proofs.generate.write_counts.Goals as goal
 
 pub returns-in-Ok-clause-written : goal.returns-in-Ok-clause-written

@@ -1,13 +1,12 @@
 use Rattle.std.proofs.Common.{◌≡◌, IfOk, IfSome, Option, rules, subst}
 use Rattle.site_edge.specs.Told.{find_file}
 use Rattle.site_model.specs.PlainSite.{site_view}
-use Rattle.site_answers.specs.Runs.{replied}
-use Rattle.site_answers.specs.SiteAnswers.{AnswersKept, Files}
+use Rattle.run_replies.specs.Runs.{Files, replied}
+use Rattle.site_answers.specs.SiteAnswers.{AnswersKept}
 use Rattle.site_program.specs.TaskAnswers.{AnswersSite}
 use Rattle.site_replies.specs.Replies.{diagnoses, reply_view}
 use Rattle.site_program.proofs.Answering.{diags_answer, site_answers}
-use Rattle.whole_runs.proofs.Ending.{ended_as}
-use Rattle.site_answers.proofs.Ending.{ended}
+use Rattle.site_run.proofs.Wholes.{ended, ended_as}
 use Rattle.site_program.proofs.Ending.{unread_through}
 use Rattle.site_program.proofs.keep.keep.Goals as goal
 

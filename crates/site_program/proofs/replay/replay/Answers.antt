@@ -1,12 +1,11 @@
 use Rattle.std.proofs.Common.{◌≡◌, IfOk, IfSome, Option, option_map, rules, subst}
 use Rattle.site_model.specs.PlainSite.{site_view}
-use Rattle.site_answers.specs.Runs.{replied}
-use Rattle.site_answers.specs.SiteAnswers.{AnswersReplayed, Files}
+use Rattle.run_replies.specs.Runs.{Files, replied}
+use Rattle.site_answers.specs.SiteAnswers.{AnswersReplayed}
 use Rattle.site_program.specs.TaskAnswers.{AnswersSite}
 use Rattle.site_replies.specs.Replies.{diagnoses, reply_view}
 use Rattle.site_program.proofs.Answering.{diags_answer, site_answers}
-use Rattle.whole_runs.proofs.Ending.{ended_as}
-use Rattle.site_answers.proofs.Ending.{ended}
+use Rattle.site_run.proofs.Wholes.{ended, ended_as}
 use Rattle.site_program.proofs.Ending.{unread_through}
 use Rattle.site_program.proofs.replay.replay.Goals as goal
 

@@ -3,7 +3,7 @@ use Rattle.std.proofs.Common.{[], false, inr}
 use Rattle.site_model.specs.PlainSite.{site_view}
 use Rattle.site_run.specs.Logs.{AnswersWorld, given_by}
 use Rattle.whole_runs.specs.Logs.{AnswersTurns}
-use Rattle.whole_runs.proofs.Ending.{ended_as}
+use Rattle.site_run.proofs.Wholes.{ended_as}
 use Rattle.whole_runs.proofs.Given.{nothing_is}
 use Rattle.whole_runs.proofs.logs.write_plain.Goals as goal
 

@@ -7,7 +7,7 @@ use Rattle.site_run.specs.Logs.{AnswersWorld, given_by}
 use Rattle.turn_engine.specs.Ready.{IsZoneOf}
 use Rattle.whole_runs.specs.Logs.{AnswersTurns}
 use Rattle.whole_runs.specs.declared.feeding.RecurFeed.{RecurFeed}
-use Rattle.whole_runs.proofs.Ending.{ended_as}
+use Rattle.site_run.proofs.Wholes.{ended_as}
 use Rattle.whole_runs.proofs.Given.{recurring_is}
 use Rattle.whole_runs.proofs.logs.write_recurring.Goals as goal
 

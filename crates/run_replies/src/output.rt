@@ -1,9 +1,8 @@
 // Replies that are written.
-ghost use Rattle.std.specs.Prelude.{◌≡◌, ◌≢◌, ◌≤◌, None, Result, IfOk};
+ghost use Rattle.std.specs.Prelude.{◌≡◌, ◌≢◌, IfOk};
 ghost use Rattle.site_edge.specs.Told.{Rose};
 ghost use Rattle.site_replies.specs.Replies.{PlainReply, reply_view};
-ghost use Rattle.site_answers.specs.Runs.{replied};
-ghost use Rattle.site_answers.specs.SiteAnswers.{answered};
+ghost use Rattle.run_replies.specs.Runs.{replied};
 ghost use Rattle.site_run.specs.Ends.{HandsOn};
 ghost use Rattle.site_run.specs.Logs.{EndsWhole};
 
@@ -46,23 +45,5 @@ pub fn write_made<S: Sink>(reply: Result<Reply, OutOfMemory>, out: &mut S) -> St
     match reply {
         Ok(reply) => write_reply(&reply, out),
         Err(_) => Status::OutOfMemory,
-    }
-}
-
-/// Writes nothing, where more turns came than may be taken, and hands on what was kept back.
-pub(crate) fn write_spent<S: Sink>(out: &mut S) -> Status
-    ensures never_usage { result ≢ Status.Usage }
-    ensures never_illegal { result ≢ Status.NotLegal }
-    ensures no_read_fault { result ≢ Status.ReadFault }
-    ensures written { EndsWhole result (answered None) (S.written out.old) (S.written out.new) }
-    ensures through { HandsOn result (S.kept_back out.new) }
-    ensures write_fault { result ≡ Status.WriteFault → Rose (S.faults out.old) (S.faults out.new) }
-    ensures calm_sink { S.calm out.old → result ≢ Status.WriteFault }
-    ensures no_world_fault { result ≢ Status.WorldFault }
-{
-    match out.flush() {
-        Ok(()) => Status::TurnsSpent,
-        Err(SinkFault::Failed) => Status::WriteFault,
-        Err(SinkFault::OutOfMemory) => Status::OutOfMemory,
     }
 }

@@ -1,8 +1,20 @@
--- How runs end.
+-- Runs that write one of some wholes.
 use Rattle.std.proofs.Common.{◌≡◌, ◌⊎◌, inl, inr, ℕ, List, Option}
 use Rattle.site_run.specs.Logs.{EndsOne, EndsRun, Whole}
 use Rattle.site_run.specs.declared.status.Status.{Status}
 use Rattle.site_run.specs.declared.status.Status.TheVariants as status
+
+-- a run of one of these
+pub ended : (end : Status) (Is : Whole → Type 0) (old new : Option (List ℕ)) → EndsOne end Is old new → EndsRun end Is old new
+ended status.Done Is old new h = h
+ended status.Diagnosed Is old new h = h
+ended status.Usage Is old new h = h
+ended status.ReadFault Is old new h = h.2
+ended status.WriteFault Is old new h = h
+ended status.WorldFault Is old new h = h
+ended status.OutOfMemory Is old new h = inr h
+ended status.TurnsSpent Is old new h = h
+ended status.NotLegal Is old new h = h
 
 one_as : (end : Status) (P Q : Whole → Type 0) (old new : Option (List ℕ)) → ((w : Whole) → P w → Q w) → EndsOne end P old new → EndsOne end Q old new
 one_as end P Q old new f h = (h.0, f h.0 h.1, h.2)
