@@ -1,13 +1,13 @@
 -- The first block that isn't legal is the first one that doesn't agree.
-use Rattle.std.proofs.Common.{◌≡◌, ◌≢◌, ◌==◌, ◌+◌, ◌<◌, ◌≤◌, Option, Some, None, Result, Ok, Err, IfOk, ℕ, zero, suc, Bool, true, false, cond, List, [], ◌∷◌, ◌++◌, length, take, drop, map, refl, sym, ap, ◌∙◌, subst, arith, ◌⊎◌, inl, inr}
+use Rattle.std.proofs.Common.{◌≡◌, ◌==◌, ◌+◌, ◌<◌, ◌≤◌, Option, Some, None, Result, Ok, Err, IfOk, ℕ, zero, suc, Bool, true, false, cond, List, [], ◌∷◌, ◌++◌, length, take, drop, map, refl, sym, ap, ◌∙◌, subst, arith, ◌⊎◌, inl, inr}
 use Rattle.std.proofs.lemmas.Bool.{cases_lt}
 use Rattle.std.proofs.lemmas.Bool.Decides.{nat_tests}
 use Rattle.std.proofs.lemmas.List.{length-append}
 use Rattle.std.specs.List.{flat_map}
 use Rattle.log_text.specs.Fronts.{behind}
 use Rattle.log_text.specs.LogLines.{log_two}
-use Rattle.run_meaning.specs.Alone.{turn_alone}
-use Rattle.run_meaning.specs.Runs.{Basis, Stage, no_entries, stage_after, start}
+use Rattle.run_meaning.proofs.Lists.{length_map}
+use Rattle.run_meaning.specs.Runs.{Basis, IsRunFrom, Stage, TurnLog, no_entries, stage_after, start}
 use Rattle.run_meaning.specs.Turns.{ReadTurn}
 use Rattle.run_text.specs.TurnReading.{turn_read}
 use Rattle.run_text.specs.declared.style.Style.{Style}
@@ -16,10 +16,10 @@ use Rattle.site_base.specs.declared.memory.OutOfMemory.{OutOfMemory}
 use Rattle.site_edge.specs.declared.turn.Turn.{Turn}
 use Rattle.site_model.specs.PlainSite.{PlainSite}
 use Rattle.turn_engine.specs.Stages.{basis_of_site}
-use Rattle.site_audit.specs.Agreeing.{agreeing, is_block, AgreeSo}
-use Rattle.site_audit.specs.Audit.{is_written, is_legal, IsFirstBad, IsBadLine, Says, IsVerdictOf, IsVerdictTwo, IsVerdictBy, IsVerdict, is_cut_off, verdict_from}
+use Rattle.site_audit.specs.Agreeing.{AgreeBy, AgreeUpTo, AreBlocks, IsWritten}
+use Rattle.site_audit.specs.Audit.{IsFirstBad, IsLegal, Says, IsVerdictOf, IsVerdictTwo, IsVerdictBy, IsVerdict, is_cut_off, verdict_from}
 use Rattle.site_audit.specs.Blocks.{begins_turn, blocks_of, line_len, lines_of, with_line}
-use Rattle.site_audit.specs.Told.{all_told, block_told, first_turns, no_orders, orders_behind, turns_from, turns_with}
+use Rattle.site_audit.specs.Told.{block_told, first_turns, no_orders, orders_behind, turns_from, turns_in, turns_with}
 use Rattle.site_audit.specs.declared.auditing.Verdict.{Verdict}
 use Rattle.site_audit.specs.declared.auditing.Verdict.TheVariants as verdict
 use Rattle.site_audit.specs.declared.telling.Open.{Open}
@@ -31,123 +31,142 @@ is_same a b e = grind (arith, nat_tests)
 same_is : (a b : ℕ) → a ≡ b → (a == b) ≡ true
 same_is a b e = grind (arith, nat_tests)
 
-not_same : (a b : ℕ) → a ≢ b → (a == b) ≡ false
-not_same a b h = by (a == b) refl
-  where
-    by : (t : Bool) → (a == b) ≡ t → t ≡ false
-    by true e = absurd (h (is_same a b e))
-    by false e = refl
-
 abbrev Block : Type 0
 Block = List (List ℕ)
 
-taken_length : (k : ℕ) (xs : List Block) → k ≤ length xs → length (take k xs) ≡ k
+taken_length : {A : Type 0} (k : ℕ) (xs : List A) → k ≤ length xs → length (take k xs) ≡ k
 taken_length zero xs l = refl
 taken_length (suc k) [] l = absurd (omega (arith, l))
 taken_length (suc k) (x ∷ xs) l = ap suc (taken_length k xs (omega (arith, l)))
 
-module _ (style : Style) (b : Basis) (s : PlainSite) where
-  -- how many blocks a run over the turns that they tell writes
-  abbrev agreed : List (Option Open) → Stage → List Block → ℕ
-  agreed os st xs = agreeing style b st (map (turn_read s) (turns_from 1 s style os xs)) xs
+same_take : {A B : Type 0} (k : ℕ) (xs : List A) (ys : List B) → length xs ≡ length ys → length (take k xs) ≡ length (take k ys)
+same_take zero xs ys e = refl
+same_take (suc k) [] [] e = refl
+same_take (suc k) [] (y ∷ ys) e = absurd (omega (arith, e))
+same_take (suc k) (x ∷ xs) [] e = absurd (omega (arith, e))
+same_take (suc k) (x ∷ xs) (y ∷ ys) e = ap suc (same_take k xs ys (omega (arith, e)))
 
-  abbrev after : Stage → Turn → Stage
-  after st t = stage_after b st (turn_read s t) (turn_alone b st (turn_read s t))
+enough : {A : Type 0} (k : ℕ) (xs : List A) → length (take k xs) ≡ k → k ≤ length xs
+enough zero xs e = omega arith
+enough (suc k) [] e = absurd (omega (arith, e))
+enough (suc k) (x ∷ xs) e = let more = enough k xs (omega (arith, e)) in omega (arith, more)
 
-  abbrev is_own : Stage → Turn → Block → Bool
-  is_own st t x = is_block style b.rules.site (turn_alone b st (turn_read s t)) x
+take_map : {A B : Type 0} (f : A → B) (k : ℕ) (xs : List A) → take k (map f xs) ≡ map f (take k xs)
+take_map f zero xs = refl
+take_map f (suc k) [] = refl
+take_map f (suc k) (x ∷ xs) = ap (λ ys. f x ∷ ys) (take_map f k xs)
 
-  -- with what a block tells, and whether it is what the run writes
-  abbrev step_with : (List (Option Open)) → Stage → Block → List Block → Option Turn → ℕ
-  step_with os st x xs None = 0
-  step_with os st x xs (Some t) = cond (is_own st t x) (suc (agreed (orders_behind s style os x) (after st t) xs)) 0
+whole_take : {A : Type 0} (k : ℕ) (xs : List A) → length xs ≡ k → take k xs ≡ xs
+whole_take zero [] e = refl
+whole_take zero (x ∷ xs) e = absurd (omega (arith, e))
+whole_take (suc k) [] e = absurd (omega (arith, e))
+whole_take (suc k) (x ∷ xs) e = ap (λ ys. x ∷ ys) (whole_take k xs (omega (arith, e)))
 
-  step : (os : List (Option Open)) (st : Stage) (x : Block) (xs : List Block) → agreed os st (x ∷ xs) ≡ step_with os st x xs (block_told 1 s style os x)
-  step os st x xs = by (block_told 1 s style os x)
+-- Of what is written the beginning is written too.
+module _ (style : Style) (b : Basis) (callers : ℕ) where
+  part_written : (k : ℕ) (st : Stage) (ts : List ReadTurn) (ls : List TurnLog) (xs : List Block) → IsRunFrom b callers st ts ls → AreBlocks style b.rules.site ls xs → IsWritten style b callers st (take k ts) (take k xs)
+  part_written zero st ts ls xs run texts = record { logs = []; run = refl; texts = tt }
+  part_written (suc k) st [] [] [] run texts = record { logs = []; run = refl; texts = tt }
+  part_written (suc k) st [] [] (x ∷ xs) run texts = absurd texts
+  part_written (suc k) st [] (l ∷ ls) xs run texts = absurd cc
+  part_written (suc k) st (t ∷ ts) [] xs run texts = absurd run
+  part_written (suc k) st (t ∷ ts) (l ∷ ls) [] run texts = absurd texts
+  part_written (suc k) st (t ∷ ts) (l ∷ ls) (x ∷ xs) run texts =
+      let w = part_written k (stage_after b st t l) ts ls xs run.1 texts.1 in
+      record { logs = l ∷ w.logs; run = (run.0, w.run); texts = (texts.0, w.texts) }
+
+module _ (style : Style) (b : Basis) (callers : ℕ) (s : PlainSite) where
+  -- The turns that the first blocks tell are the first turns.
+
+  abbrev turns_at : List (Option Open) → List Block → List Turn
+  turns_at os xs = turns_from callers s style os xs
+
+  first_told : (k : ℕ) (os : List (Option Open)) (xs : List Block) → turns_at os (take k xs) ≡ take k (turns_at os xs)
+  first_told zero os xs = refl
+  first_told (suc k) os [] = refl
+  first_told (suc k) os (x ∷ xs) = by (block_told callers s style os x) (λ ns. first_told k ns xs)
     where
-      by : (t : Option Turn) → agreeing style b st (map (turn_read s) (turns_with (λ ns. turns_from 1 s style ns xs) (orders_behind s style os x) t)) (x ∷ xs) ≡ step_with os st x xs t
-      by None = refl
-      by (Some t) = refl
+      by : (t : Option Turn) → ((ns : List (Option Open)) → turns_at ns (take k xs) ≡ take k (turns_at ns xs)) → turns_with (λ ns. turns_at ns (take k xs)) (orders_behind s style os x) t ≡ take (suc k) (turns_with (λ ns. turns_at ns xs) (orders_behind s style os x) t)
+      by None again = refl
+      by (Some t) again = ap (λ ts. t ∷ ts) (again (orders_behind s style os x))
 
-  through : (k : ℕ) (os : List (Option Open)) (st : Stage) (xs : List Block) → k ≤ agreed os st xs → agreed os st (take k xs) ≡ k
-  through zero os st xs l = refl
-  through (suc k) os st [] l = absurd (omega (arith, l))
-  through (suc k) os st (x ∷ xs) l = step os st x (take k xs) ∙ by (block_told 1 s style os x) (subst (λ n. suc k ≤ n) (step os st x xs) l) (λ t w. through k (orders_behind s style os x) (after st t) xs w)
+  few_told : (os : List (Option Open)) (xs : List Block) → length (turns_at os xs) ≤ length xs
+  few_told os [] = omega arith
+  few_told os (x ∷ xs) = by (block_told callers s style os x) (λ ns. few_told ns xs)
     where
-      by : (t : Option Turn) → suc k ≤ step_with os st x xs t → ((t : Turn) → k ≤ agreed (orders_behind s style os x) (after st t) xs → agreed (orders_behind s style os x) (after st t) (take k xs) ≡ k) → step_with os st x (take k xs) t ≡ suc k
-      by None l again = absurd (omega (arith, l))
-      by (Some t) l again = at (is_own st t x) l
-        where
-          at : (c : Bool) → suc k ≤ cond c (suc (agreed (orders_behind s style os x) (after st t) xs)) 0 → cond c (suc (agreed (orders_behind s style os x) (after st t) (take k xs))) 0 ≡ suc k
-          at true l = ap suc (again t (omega (arith, l)))
-          at false l = absurd (omega (arith, l))
-
-  past : (k : ℕ) (os : List (Option Open)) (st : Stage) (xs : List Block) → agreed os st xs < k → agreed os st (take k xs) ≡ agreed os st xs
-  past zero os st xs l = absurd (omega (arith, l))
-  past (suc k) os st [] l = refl
-  past (suc k) os st (x ∷ xs) l =
-      step os st x (take k xs) ∙ (by (block_told 1 s style os x) (subst (λ n. n < suc k) (step os st x xs) l) (λ t w. past k (orders_behind s style os x) (after st t) xs w) ∙ sym (step os st x xs))
-    where
-      by : (t : Option Turn) → step_with os st x xs t < suc k → ((t : Turn) → agreed (orders_behind s style os x) (after st t) xs < k → agreed (orders_behind s style os x) (after st t) (take k xs) ≡ agreed (orders_behind s style os x) (after st t) xs)
-          → step_with os st x (take k xs) t ≡ step_with os st x xs t
-      by None l again = refl
-      by (Some t) l again = at (is_own st t x) l
-        where
-          at : (c : Bool) → cond c (suc (agreed (orders_behind s style os x) (after st t) xs)) 0 < suc k → cond c (suc (agreed (orders_behind s style os x) (after st t) (take k xs))) 0 ≡ cond c (suc (agreed (orders_behind s style os x) (after st t) xs)) 0
-          at true l = ap suc (again t (omega (arith, l)))
-          at false l = refl
-
-  most : (os : List (Option Open)) (st : Stage) (xs : List Block) → agreed os st xs ≤ length xs
-  most os st [] = omega arith
-  most os st (x ∷ xs) = subst (λ n. n ≤ suc (length xs)) (sym (step os st x xs)) (by (block_told 1 s style os x) (λ t. most (orders_behind s style os x) (after st t) xs))
-    where
-      by : (t : Option Turn) → ((t : Turn) → agreed (orders_behind s style os x) (after st t) xs ≤ length xs) → step_with os st x xs t ≤ suc (length xs)
+      by : (t : Option Turn) → ((ns : List (Option Open)) → length (turns_at ns xs) ≤ length xs) → length (turns_with (λ ns. turns_at ns xs) (orders_behind s style os x) t) ≤ suc (length xs)
       by None again = omega arith
-      by (Some t) again = at (is_own st t x) (again t)
-        where
-          at : (c : Bool) → agreed (orders_behind s style os x) (after st t) xs ≤ length xs → cond c (suc (agreed (orders_behind s style os x) (after st t) xs)) 0 ≤ suc (length xs)
-          at true l = omega (arith, l)
-          at false l = omega arith
+      by (Some t) again = let more = again (orders_behind s style os x) in omega (arith, more)
 
-  -- where all agree, all tell turns
-  all_tell : (os : List (Option Open)) (st : Stage) (xs : List Block) → agreed os st xs ≡ length xs → length (turns_from 1 s style os xs) ≡ length xs
-  all_tell os st [] e = refl
-  all_tell os st (x ∷ xs) e = by (block_told 1 s style os x) (sym (step os st x xs) ∙ e) (λ t w. all_tell (orders_behind s style os x) (after st t) xs w)
+  abbrev told : List Block → List Turn
+  told xs = first_turns callers s style xs
+
+  all_are_told : (xs : List Block) → length (told xs) ≡ length xs → turns_in callers s style xs ≡ Some (told xs)
+  all_are_told xs e = ap (λ t. cond t (Some (told xs)) None) (same_is (length (told xs)) (length xs) e)
+
+  told_are : (xs : List Block) (turns : List Turn) → turns_in callers s style xs ≡ Some turns → (turns ≡ told xs) × (length (told xs) ≡ length xs)
+  told_are xs turns e = by (length (told xs) == length xs) refl e
     where
-      by : (t : Option Turn) → step_with os st x xs t ≡ suc (length xs) → ((t : Turn) → agreed (orders_behind s style os x) (after st t) xs ≡ length xs → length (turns_from 1 s style (orders_behind s style os x) xs) ≡ length xs)
-          → length (turns_with (λ ns. turns_from 1 s style ns xs) (orders_behind s style os x) t) ≡ suc (length xs)
-      by None e again = absurd (omega (arith, e))
-      by (Some t) e again = at (is_own st t x) e
-        where
-          at : (c : Bool) → cond c (suc (agreed (orders_behind s style os x) (after st t) xs)) 0 ≡ suc (length xs) → suc (length (turns_from 1 s style (orders_behind s style os x) xs)) ≡ suc (length xs)
-          at true e = ap suc (again t (omega (arith, e)))
-          at false e = absurd (omega (arith, e))
+      by : (t : Bool) → (length (told xs) == length xs) ≡ t → cond t (Some (told xs)) None ≡ Some turns → (turns ≡ told xs) × (length (told xs) ≡ length xs)
+      by true same is = (let w : told xs ≡ turns = cc in sym w, is_same (length (told xs)) (length xs) same)
+      by false other is = absurd cc
 
-  -- From the start.
+  -- What is legal.
 
-  abbrev legal_blocks : List Block → ℕ
-  legal_blocks xs = agreed (no_orders s) (start s (no_entries s)) xs
+  abbrev Legal : List Block → Type 0
+  Legal xs = IsLegal style b callers s xs
 
-  abbrev test : List Block → Bool → Bool
-  test xs told = is_written style b s xs (cond told (Some (first_turns 1 s style xs)) None)
+  abbrev at_first : Stage
+  at_first = start s (no_entries s)
 
-  is_legal_where : (xs : List Block) → legal_blocks xs ≡ length xs → is_legal style b s xs ≡ true
-  is_legal_where xs e =
-      ap (test xs) (same_is (length (first_turns 1 s style xs)) (length xs) (all_tell (no_orders s) (start s (no_entries s)) xs e)) ∙ same_is (legal_blocks xs) (length xs) e
+  -- blocks of which each tells a turn, and which a run over these turns writes
+  legal_so : (xs : List Block) → length (told xs) ≡ length xs → IsWritten style b callers at_first (map (turn_read s) (told xs)) xs → Legal xs
+  legal_so xs all w = record { turns = told xs; told = all_are_told xs all; written = w }
 
-  not_legal_where : (xs : List Block) → legal_blocks xs ≢ length xs → is_legal style b s xs ≡ false
-  not_legal_where xs h = by (length (first_turns 1 s style xs) == length xs)
-    where
-      by : (t : Bool) → test xs t ≡ false
-      by true = not_same (legal_blocks xs) (length xs) h
-      by false = refl
+  -- the beginning of what is legal is legal
+  legal_before : (k : ℕ) (xs : List Block) → Legal xs → Legal (take k xs)
+  legal_before k xs h =
+      let are = told_are xs h.turns h.told in
+      let first : told (take k xs) ≡ take k (told xs) = first_told k (no_orders s) xs in
+      let turns : take k (map (turn_read s) h.turns) ≡ map (turn_read s) (told (take k xs)) = ap (λ ts. take k (map (turn_read s) ts)) are.0 ∙ (take_map (turn_read s) k (told xs) ∙ ap (map (turn_read s)) (sym first)) in
+      legal_so (take k xs) (ap length first ∙ same_take k (told xs) xs are.1)
+      (subst (λ ts. IsWritten style b callers at_first ts (take k xs)) turns (part_written style b callers k at_first (map (turn_read s) h.turns) h.written.logs xs h.written.run h.written.texts))
 
-  first_bad : (n : ℕ) (xs : List Block) → n ≡ legal_blocks xs → n < length xs → IsFirstBad style b s xs n
-  first_bad n xs is l = record {
-    within = l;
-    before = λ k w. is_legal_where (take k xs) (through k (no_orders s) (start s (no_entries s)) xs (omega (arith, w, is)) ∙ sym (taken_length k xs (omega (arith, w, l))));
-    bad = not_legal_where (take (suc n) xs) (λ e. let p = past (suc n) (no_orders s) (start s (no_entries s)) xs (omega (arith, is)) in let t = taken_length (suc n) xs (omega (arith, l)) in absurd (omega (arith, e, p, t, is)));
-  }
+  -- Blocks that agree up to some number.
+  module _ (xs : List Block) (n : ℕ) (a : AgreeUpTo style b callers at_first (map (turn_read s) (told xs)) xs n) where
+    many_turns : n ≤ length (told xs)
+    many_turns = let l = a.turns_within in let m = length_map (turn_read s) (told xs) in omega (arith, l, m)
+
+    legal_so_far : Legal (take n xs)
+    legal_so_far =
+        let first : told (take n xs) ≡ take n (told xs) = first_told n (no_orders s) xs in
+        let own = many_turns in
+        let within = a.blocks_within in
+        let turns : take n (map (turn_read s) (told xs)) ≡ map (turn_read s) (told (take n xs)) = take_map (turn_read s) n (told xs) ∙ ap (map (turn_read s)) (sym first) in
+        legal_so (take n xs) (ap length first ∙ (taken_length n (told xs) own ∙ sym (taken_length n xs within))) (subst (λ ts. IsWritten style b callers at_first ts (take n xs)) turns a.written)
+
+    not_one_more : n < length xs → Legal (take (suc n) xs) → ⊥
+    not_one_more more h =
+        let are = told_are (take (suc n) xs) h.turns h.told in
+        let first : told (take (suc n) xs) ≡ take (suc n) (told xs) = first_told (suc n) (no_orders s) xs in
+        let many : length (take (suc n) (told xs)) ≡ suc n = sym (ap length first) ∙ (are.1 ∙ taken_length (suc n) xs (omega (arith, more))) in
+        let own = enough (suc n) (told xs) many in
+        let m = length_map (turn_read s) (told xs) in
+        let turns : map (turn_read s) h.turns ≡ take (suc n) (map (turn_read s) (told xs)) = ap (map (turn_read s)) (are.0 ∙ first) ∙ sym (take_map (turn_read s) (suc n) (told xs)) in
+        a.no_more (omega (arith, own, m)) more (subst (λ ts. IsWritten style b callers at_first ts (take (suc n) xs)) turns h.written)
+
+    bad_from_here : n < length xs → IsFirstBad style b callers s xs n
+    bad_from_here more = record {
+      within = more;
+      before = λ k l. subst Legal (taken_again k n xs l) (legal_before k (take n xs) legal_so_far);
+      bad = not_one_more more;
+    }
+      where
+        taken_again : (k n : ℕ) (xs : List Block) → k ≤ n → take k (take n xs) ≡ take k xs
+        taken_again zero n xs l = refl
+        taken_again (suc k) zero xs l = absurd (omega (arith, l))
+        taken_again (suc k) (suc n) [] l = refl
+        taken_again (suc k) (suc n) (x ∷ xs) l = ap (λ ys. x ∷ ys) (taken_again k n xs (omega (arith, l)))
 
   all_legal : (line n : ℕ) (xs : List Block) → length xs ≤ n → verdict_from line n xs ≡ verdict.Legal
   all_legal line n [] l = refl
@@ -161,14 +180,17 @@ module _ (style : Style) (b : Basis) (s : PlainSite) where
       bad_line (line + length x) n xs (omega (arith, l))
       ∙ (let a = length-append x (flat_map (λ y. y) (take n xs)) in let e : line + length x + length (flat_map (λ y. y) (take n xs)) ≡ line + length (x ++ flat_map (λ y. y) (take n xs)) = omega (arith, a) in ap (λ k. verdict.Illegal k) e)
 
-  verdict_is : (first n : ℕ) (xs : List Block) → n ≡ legal_blocks xs → Says style b s first xs (verdict_from first n xs)
-  verdict_is first n xs is = by (cases_lt n (length xs))
+  verdict_is : (first n : ℕ) (xs : List Block) → AgreeUpTo style b callers at_first (map (turn_read s) (told xs)) xs n → Says style b callers s first xs (verdict_from first n xs)
+  verdict_is first n xs a = by (cases_lt n (length xs))
     where
-      by : (n < length xs) ⊎ (length xs ≤ n) → Says style b s first xs (verdict_from first n xs)
+      by : (n < length xs) ⊎ (length xs ≤ n) → Says style b callers s first xs (verdict_from first n xs)
       by (inl l) =
-          subst (Says style b s first xs) (sym (bad_line first n xs l))
-          (record { count = n; is_first = first_bad n xs is l; whole = not_legal_where xs (λ e. absurd (omega (arith, e, is, l))); is = refl })
-      by (inr l) = let m = most (no_orders s) (start s (no_entries s)) xs in subst (Says style b s first xs) (sym (all_legal first n xs l)) (is_legal_where xs (omega (arith, l, m, is)))
+          subst (Says style b callers s first xs) (sym (bad_line first n xs l))
+          (record { count = n; is_first = bad_from_here xs n a l; whole = λ h. not_one_more xs n a l (legal_before (suc n) xs h); is = refl })
+      by (inr l) =
+          let within = a.blocks_within in
+          let all : length xs ≡ n = omega (arith, l, within) in
+          subst (Says style b callers s first xs) (sym (all_legal first n xs l)) (subst Legal (whole_take n xs all) (legal_so_far xs n a))
 
 -- where none more agrees, the next block is bad
 bad_first : (line : ℕ) (l : List ℕ) (bs : List Block) → verdict_from line 0 (with_line l bs) ≡ verdict.Illegal line
@@ -189,26 +211,27 @@ bad_next line n rest v none some so_far =
 abbrev blocks_in : List ℕ → List Block
 blocks_in log = blocks_of (lines_of log)
 
-pub verdict_of : (style : Style) (s : PlainSite) (first n : ℕ) (log : List ℕ) (turns : List Turn) (v : Verdict) → turns ≡ first_turns 1 s style (blocks_in log) → AgreeSo style s turns log n → v ≡ verdict_from first n (blocks_in log) → IsVerdictOf style s first log v
-verdict_of style s first n log turns v told a is = record {
+pub verdict_of : (style : Style) (callers : ℕ) (s : PlainSite) (first n : ℕ) (log : List ℕ) (turns : List Turn) (v : Verdict) → turns ≡ first_turns callers s style (blocks_in log) → AgreeBy style callers s turns log n → v ≡ verdict_from first n (blocks_in log) → IsVerdictOf style callers s first log v
+verdict_of style callers s first n log turns v told a is = record {
   zone = a.zone;
   is_zone = a.is_zone;
-  says = subst (Says style (basis_of_site s a.zone) s first (blocks_in log)) (sym is)
-      (verdict_is style (basis_of_site s a.zone) s first n (blocks_in log) (a.is ∙ ap (λ (ts : List Turn). agreeing style (basis_of_site s a.zone) (start s (no_entries s)) (map (turn_read s) ts) (blocks_in log)) told));
+  says = subst (Says style (basis_of_site s a.zone) callers s first (blocks_in log)) (sym is)
+      (verdict_is style (basis_of_site s a.zone) callers s first n (blocks_in log) (subst (λ ts. AgreeUpTo style (basis_of_site s a.zone) callers (start s (no_entries s)) (map (turn_read s) ts) (blocks_in log) n) told a.is));
 }
 
 -- By the line of the version.
 
-abbrev Audits : PlainSite → List ℕ → Result Verdict OutOfMemory → Type 0
-Audits s log r = IfOk r (IsVerdict s log)
+module _ (callers : ℕ) where
+  abbrev Audits : PlainSite → List ℕ → Result Verdict OutOfMemory → Type 0
+  Audits s log r = IfOk r (IsVerdict callers s log)
 
-pub of_one : (s : PlainSite) (log : List ℕ) (r : Result Verdict OutOfMemory) → behind log_two log ≡ None → IfOk r (IsVerdictOf One s 1 log) → Audits s log r
-of_one s log (Ok v) none h = subst (λ o. IsVerdictBy s log o v) (sym none) h
-of_one s log (Err e) none h = tt
+  pub of_one : (s : PlainSite) (log : List ℕ) (r : Result Verdict OutOfMemory) → behind log_two log ≡ None → IfOk r (IsVerdictOf One callers s 1 log) → Audits s log r
+  of_one s log (Ok v) none h = subst (λ o. IsVerdictBy callers s log o v) (sym none) h
+  of_one s log (Err e) none h = tt
 
-pub of_two : (s : PlainSite) (log rest : List ℕ) (r : Result Verdict OutOfMemory) → behind log_two log ≡ Some rest → is_cut_off rest ≡ true → IfOk r (IsVerdictOf Two s 2 rest) → Audits s log r
-of_two s log rest (Ok v) some cut h = subst (λ o. IsVerdictBy s log o v) (sym some) (subst (λ t. IsVerdictTwo t s rest v) (sym cut) h)
-of_two s log rest (Err e) some cut h = tt
+  pub of_two : (s : PlainSite) (log rest : List ℕ) (r : Result Verdict OutOfMemory) → behind log_two log ≡ Some rest → is_cut_off rest ≡ true → IfOk r (IsVerdictOf Two callers s 2 rest) → Audits s log r
+  of_two s log rest (Ok v) some cut h = subst (λ o. IsVerdictBy callers s log o v) (sym some) (subst (λ t. IsVerdictTwo t callers s rest v) (sym cut) h)
+  of_two s log rest (Err e) some cut h = tt
 
-pub of_none : (s : PlainSite) (log rest : List ℕ) → behind log_two log ≡ Some rest → is_cut_off rest ≡ false → IsVerdict s log (verdict.Illegal 1)
-of_none s log rest some cut = subst (λ o. IsVerdictBy s log o (verdict.Illegal 1)) (sym some) (subst (λ t. IsVerdictTwo t s rest (verdict.Illegal 1)) (sym cut) refl)
+  pub of_none : (s : PlainSite) (log rest : List ℕ) → behind log_two log ≡ Some rest → is_cut_off rest ≡ false → IsVerdict callers s log (verdict.Illegal 1)
+  of_none s log rest some cut = subst (λ o. IsVerdictBy callers s log o (verdict.Illegal 1)) (sym some) (subst (λ t. IsVerdictTwo t callers s rest (verdict.Illegal 1)) (sym cut) refl)

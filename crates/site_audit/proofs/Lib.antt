@@ -7,8 +7,14 @@ pub mod Walk
 pub mod Taking
 pub mod Tracking
 pub mod Loops
+pub mod Bytes
+pub mod Spelling
+pub mod Seen
+pub mod WholeLines
+pub mod ToldBack
 pub mod AgreeLaws
 pub mod TurnLaws
 pub mod AuditLaws
+pub mod OneCaller
 pub mod HearLaws
 pub mod Naming

@@ -323,7 +323,7 @@ order_read style s bs n k lacks has texts h =
     ap (line_read style (names_of s)) (h.whole ∙ command_is style s n k h.command)
     ∙ (order_complete style s n k h.command (subst AreDistinct has.checkables.named has.checkables.distinct) texts.checkables h.number_fits h.own h.texts ∙ ap (λ m. Some (line.Order n k m)) h.missing_is)
 
-entry_dispatch : (style : Style) (s : PlainSite) (k : ℕ) (e : Entry) → line_read style (names_of s) (styled_entry style s k e) ≡ entry_line_read style (names_of s) (styled_entry style s k e)
+pub entry_dispatch : (style : Style) (s : PlainSite) (k : ℕ) (e : Entry) → line_read style (names_of s) (styled_entry style s k e) ≡ entry_line_read style (names_of s) (styled_entry style s k e)
 unfolding line_read start_text
 entry_dispatch One s k e = refl
 entry_dispatch Two s k e = refl

@@ -11,4 +11,5 @@ pub mod Hearing
 pub mod Filling
 pub mod Told
 pub mod Agreeing
+pub mod ByCallers
 pub mod Audit

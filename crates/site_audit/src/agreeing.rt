@@ -1,21 +1,24 @@
 // How far a log is that of a run over given turns.
-ghost use Rattle.std.specs.Prelude.{◌≡◌, ◌<◌, ◌-◌, ◌^◌, List, false, length, map, All, IfOk, OnOk, MatchOption};
+ghost use Rattle.std.specs.Prelude.{◌≡◌, ◌<◌, ◌≤◌, ◌-◌, ◌^◌, List, false, length, map, All, IfOk, OnOk, MatchOption};
+ghost use Rattle.std.specs.Bool.{OnTrue};
 ghost use Rattle.std.specs.List.{concat};
 ghost use Rattle.std.specs.Str.{bytes_eq};
 ghost use Rattle.depend_graph.specs.Cycles.{IsOnCycle};
+ghost use Rattle.log_text.specs.SiteNames.{names_of};
 ghost use Rattle.time_range.specs.Zone.{IsBadFile};
-ghost use Rattle.run_meaning.specs.Alone.{turn_alone};
-ghost use Rattle.run_meaning.specs.Runs.{begun_by, stage_after};
+ghost use Rattle.run_meaning.specs.Runs.{begun_by};
 ghost use Rattle.run_meaning.specs.Turns.{Begun};
 ghost use Rattle.run_text.specs.TurnReading.{turn_read};
 ghost use Rattle.site_model.specs.PlainSite.{site_view};
 ghost use Rattle.site_model.specs.Sound.{IsSound};
 ghost use Rattle.turn_engine.specs.Stages.{basis_of_site, stage_of};
-ghost use Rattle.site_audit.specs.Agreeing.{agreeing, is_block, AgreeSo};
+ghost use Rattle.site_audit.specs.Agreeing.{AgreeBy, AgreeUpTo};
 ghost use Rattle.site_audit.specs.Blocks.{blocks_of, lines_of};
+ghost use Rattle.site_audit.specs.ByCallers.{round_of, turn_of, AgreesSo, AreToldIn, IsToldIn};
 
 use crate::blocks::cut_block;
 use crate::fields::strip;
+use crate::rounds::ToldTurn;
 use engine_log::turn_lines;
 use run_text::Style;
 use site_base::{OutOfMemory, Text};
@@ -27,32 +30,36 @@ use turn_engine::Engine;
 /// An engine takes at most so many turns.
 const MOST_TURNS: u64 = 1 << 40;
 
-/// How many blocks of a log a run with one worker over these turns writes, from the first block on. Blocks are what begins with the line of a
-/// turn and goes on to just before the next such line; the line `log 2` isn't in the log. The site is one that an engine can be made of.
+/// How many blocks of a log a run of so many callers over these turns writes, from the first block on. Blocks are what begins with the line
+/// of a turn and goes on to just before the next such line; the line `log 2` isn't in the log. The site is one that an engine can be made
+/// of, and the rounds are those that the blocks tell.
 ///
-/// It takes a time that grows with the log and the run.
+/// It takes a time that grows with the log and the run, times a logarithm.
 ///
 /// # Errors
 ///
 /// `OutOfMemory` where there is none for the run, also where it has more than 2^40 turns.
-pub fn blocks_agreed(
+pub(crate) fn blocks_agreed(
     alloc: Global,
     site: Site,
     style: Style,
+    callers: u32,
     log: &[u8],
-    turns: &[Turn],
+    turns: Vec<ToldTurn>,
 ) -> Result<usize, OutOfMemory>
     requires sound { IsSound (site_view site) }
     requires few { length (site_view site).checkables < 2 ^ 32 - 1 }
     requires free { All (λ d. IsOnCycle (site_view site) d → ⊥) (site_view site).depends }
     requires zone { MatchOption (site_view site).zone (Unit {0}) (λ bytes. IsBadFile bytes → ⊥) }
-    ensures { IfOk result (AgreeSo style (site_view site) turns.now log.now) }
+    requires callers { (1 ≤ callers) × (callers ≤ 64) }
+    requires rounds { 2 ≤ callers → AreToldIn style (names_of (site_view site)) (map round_of turns.items) (blocks_of (lines_of log.now)) }
+    ensures { IfOk result (AgreeBy style callers (site_view site) (map turn_of turns.items) log.now) }
 {
     let mut engine = Engine::new(alloc, site)?;
-    agreed(alloc, &mut engine, style, log, turns)
+    agreed(alloc, &mut engine, style, callers, log, turns)
 }
 
-/// How many blocks of a log an engine writes over these turns, from the first block on.
+/// How many blocks of a log so many callers of an engine write over these turns, from the first block on.
 ///
 /// # Errors
 ///
@@ -61,29 +68,63 @@ fn agreed(
     alloc: Global,
     engine: &mut Engine,
     style: Style,
+    callers: u32,
     log: &[u8],
-    turns: &[Turn],
+    turns: Vec<ToldTurn>,
 ) -> Result<usize, OutOfMemory>
     requires fresh { engine.old.spent ≡ false }
     requires sound { IsSound (site_view engine.old.run.site) }
-    ensures { (begun : List Begun) → IfOk result (λ n. n ≡ agreeing style (basis_of_site (site_view engine.old.run.site) engine.old.run.zone) (stage_of engine.old.run begun) (map (turn_read (site_view engine.old.run.site)) turns.now) (blocks_of (lines_of log.now))) }
+    requires callers { (1 ≤ callers) × (callers ≤ 64) }
+    requires rounds { 2 ≤ callers → AreToldIn style (names_of (site_view engine.old.run.site)) (map round_of turns.items) (blocks_of (lines_of log.now)) }
+    ensures { (begun : List Begun) → IfOk result (AgreeUpTo style (basis_of_site (site_view engine.old.run.site) engine.old.run.zone) callers (stage_of engine.old.run begun) (map (turn_read (site_view engine.old.run.site)) (map turn_of turns.items)) (blocks_of (lines_of log.now))) }
 {
     let mut rest = log;
-    for (count, turn) in turns.iter().enumerate() {
+    let mut count = 0;
+    for told in turns {
         if rest.is_empty() {
             return Ok(count);
         }
         let (block, behind) = cut_block(rest);
-        if !agrees(alloc, engine, style, turn, block)? {
+        if !agrees(alloc, engine, style, callers, told, block)? {
             return Ok(count);
         }
         rest = behind;
+        count += 1;
     }
-    Ok(turns.len())
+    Ok(count)
 }
 
-/// Takes a turn, and tells whether a block is what is written of it.
+/// Takes a turn of so many callers, and tells whether a block is what is written of it. The engine is spent where it isn't.
 fn agrees(
+    alloc: Global,
+    engine: &mut Engine,
+    style: Style,
+    callers: u32,
+    told: ToldTurn,
+    block: &[u8],
+) -> Result<bool, OutOfMemory>
+    requires fresh { engine.old.spent ≡ false }
+    requires sound { IsSound (site_view engine.old.run.site) }
+    requires callers { (1 ≤ callers) × (callers ≤ 64) }
+    requires round { 2 ≤ callers → IsToldIn style (names_of (site_view engine.old.run.site)) (lines_of block.now) told.round.items }
+    ensures agrees { (begun : List Begun) →
+        IfOk result (AgreesSo style (basis_of_site (site_view engine.old.run.site) engine.old.run.zone) callers (stage_of engine.old.run begun) (turn_read (site_view engine.old.run.site) told.turn) (lines_of block.now) (stage_of engine.new.run (begun_by (stage_of engine.old.run begun) engine.new.run.moment))) }
+    ensures site { OnOk result (engine.new.run.site ≡ engine.old.run.site) }
+    ensures zone { OnOk result (engine.new.run.zone ≡ engine.old.run.zone) }
+    ensures fresh { IfOk result (λ same. OnTrue same (engine.new.spent ≡ false)) }
+{
+    if engine.turns() >= MOST_TURNS {
+        return Err(OutOfMemory);
+    }
+    if callers == 1 {
+        agrees_alone(alloc, engine, style, &told.turn, block)
+    } else {
+        agrees_told(alloc, engine, style, callers, told, block)
+    }
+}
+
+/// The same of one caller, whose turn has one log.
+fn agrees_alone(
     alloc: Global,
     engine: &mut Engine,
     style: Style,
@@ -91,21 +132,43 @@ fn agrees(
     block: &[u8],
 ) -> Result<bool, OutOfMemory>
     requires fresh { engine.old.spent ≡ false }
+    requires few { engine.old.run.turns < 2 ^ 40 }
     requires sound { IsSound (site_view engine.old.run.site) }
-    ensures tells { (begun : List Begun) →
-        IfOk result (λ same. same ≡ is_block style (site_view engine.old.run.site) (turn_alone (basis_of_site (site_view engine.old.run.site) engine.old.run.zone) (stage_of engine.old.run begun) (turn_read (site_view engine.old.run.site) turn.now)) (lines_of block.now)) }
-    ensures stage { (begun : List Begun) →
-        OnOk result (stage_of engine.new.run (begun_by (stage_of engine.old.run begun) engine.new.run.moment)
-        ≡ stage_after (basis_of_site (site_view engine.old.run.site) engine.old.run.zone) (stage_of engine.old.run begun) (turn_read (site_view engine.old.run.site) turn.now)
-        (turn_alone (basis_of_site (site_view engine.old.run.site) engine.old.run.zone) (stage_of engine.old.run begun) (turn_read (site_view engine.old.run.site) turn.now))) }
+    ensures agrees { (begun : List Begun) →
+        IfOk result (AgreesSo style (basis_of_site (site_view engine.old.run.site) engine.old.run.zone) 1 (stage_of engine.old.run begun) (turn_read (site_view engine.old.run.site) turn.now) (lines_of block.now) (stage_of engine.new.run (begun_by (stage_of engine.old.run begun) engine.new.run.moment))) }
     ensures site { OnOk result (engine.new.run.site ≡ engine.old.run.site) }
     ensures zone { OnOk result (engine.new.run.zone ≡ engine.old.run.zone) }
-    ensures fresh { OnOk result (engine.new.spent ≡ false) }
+    ensures fresh { IfOk result (λ same. OnTrue same (engine.new.spent ≡ false)) }
 {
-    if engine.turns() >= MOST_TURNS {
-        return Err(OutOfMemory);
-    }
     let out = engine.turn_one(turn)?;
+    let lines = turn_lines(alloc, style, engine.site(), &out)?;
+    Ok(is_text_of(block, lines.as_slice()))
+}
+
+/// The same of several callers, whose turn has one log at most with a round that is told so.
+fn agrees_told(
+    alloc: Global,
+    engine: &mut Engine,
+    style: Style,
+    callers: u32,
+    told: ToldTurn,
+    block: &[u8],
+) -> Result<bool, OutOfMemory>
+    requires fresh { engine.old.spent ≡ false }
+    requires few { engine.old.run.turns < 2 ^ 40 }
+    requires sound { IsSound (site_view engine.old.run.site) }
+    requires callers { (1 ≤ callers) × (callers ≤ 64) }
+    requires round { IsToldIn style (names_of (site_view engine.old.run.site)) (lines_of block.now) told.round.items }
+    ensures agrees { (begun : List Begun) →
+        IfOk result (AgreesSo style (basis_of_site (site_view engine.old.run.site) engine.old.run.zone) callers (stage_of engine.old.run begun) (turn_read (site_view engine.old.run.site) told.turn) (lines_of block.now) (stage_of engine.new.run (begun_by (stage_of engine.old.run begun) engine.new.run.moment))) }
+    ensures site { OnOk result (engine.new.run.site ≡ engine.old.run.site) }
+    ensures zone { OnOk result (engine.new.run.zone ≡ engine.old.run.zone) }
+    ensures fresh { IfOk result (λ same. OnTrue same (engine.new.spent ≡ false)) }
+{
+    let ToldTurn { turn, round } = told;
+    let Some(out) = engine.turn_given(&turn, callers, round)? else {
+        return Ok(false);
+    };
     let lines = turn_lines(alloc, style, engine.site(), &out)?;
     Ok(is_text_of(block, lines.as_slice()))
 }

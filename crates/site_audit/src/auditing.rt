@@ -26,8 +26,8 @@ pub enum Verdict {
     Illegal { line: u64 },
 }
 
-/// Whether a log is one that a run with one worker writes, without given histories and with nothing fed. Its first line tells its version.
-/// Blocks are what begins with the line of a turn and goes on to just before the next such line; what stands before the first of these is
+/// Whether a log is one that a run of so many callers writes, from 1 to 64, without given histories and with nothing fed. Its first line
+/// tells its version. Blocks are what begins with the line of a turn and goes on to just before the next such line; what stands before the first of these is
 /// a block too. The site is one that an engine can be made of.
 ///
 /// It takes a time that grows with the log, times a logarithm.
@@ -35,18 +35,19 @@ pub enum Verdict {
 /// # Errors
 ///
 /// `OutOfMemory` where there is none for the turns that the log tells or for their run, also where it has more than 2^40 turns.
-pub fn audit(alloc: Global, site: Site, log: &[u8]) -> Result<Verdict, OutOfMemory>
+pub fn audit(alloc: Global, site: Site, callers: u32, log: &[u8]) -> Result<Verdict, OutOfMemory>
     requires sound { IsSound (site_view site) }
     requires few { length (site_view site).checkables < 2 ^ 32 - 1 }
     requires free { All (λ d. IsOnCycle (site_view site) d → ⊥) (site_view site).depends }
     requires zone { MatchOption (site_view site).zone (Unit {0}) (λ bytes. IsBadFile bytes → ⊥) }
-    ensures { IfOk result (IsVerdict (site_view site) log.now) }
+    requires callers { (1 ≤ callers) × (callers ≤ 64) }
+    ensures { IfOk result (IsVerdict callers (site_view site) log.now) }
 {
     let Some(rest) = strip(log, version_line()) else {
-        return audit_blocks(alloc, site, Style::One, log, 1);
+        return audit_blocks(alloc, site, callers, Style::One, log, 1);
     };
     if is_cut_off(rest) {
-        audit_blocks(alloc, site, Style::Two, rest, 2)
+        audit_blocks(alloc, site, callers, Style::Two, rest, 2)
     } else {
         Ok(Verdict::Illegal { line: 1 })
     }
@@ -63,6 +64,7 @@ fn is_cut_off(rest: &[u8]) -> bool
 fn audit_blocks(
     alloc: Global,
     site: Site,
+    callers: u32,
     style: Style,
     log: &[u8],
     first: u64,
@@ -71,11 +73,12 @@ fn audit_blocks(
     requires few { length (site_view site).checkables < 2 ^ 32 - 1 }
     requires free { All (λ d. IsOnCycle (site_view site) d → ⊥) (site_view site).depends }
     requires zone { MatchOption (site_view site).zone (Unit {0}) (λ bytes. IsBadFile bytes → ⊥) }
+    requires callers { (1 ≤ callers) × (callers ≤ 64) }
     requires first { first ≤ 2 }
-    ensures { IfOk result (IsVerdictOf style (site_view site) first log.now) }
+    ensures { IfOk result (IsVerdictOf style callers (site_view site) first log.now) }
 {
-    let turns = first_turns(alloc, 1, &site, style, log)?;
-    let agreed = blocks_agreed(alloc, site, style, log, turns.as_slice())?;
+    let turns = first_turns(alloc, callers, &site, style, log)?;
+    let agreed = blocks_agreed(alloc, site, style, callers, log, turns)?;
     Ok(verdict_after(log, agreed, first))
 }
 

@@ -1,20 +1,22 @@
 // The turns that a log tells.
-ghost use Rattle.std.specs.Prelude.{◌≡◌, ◌<◌, ◌≤◌, length, replicate, None, IfOk, IfSome};
+ghost use Rattle.std.specs.Prelude.{◌≡◌, ◌<◌, ◌≤◌, length, map, replicate, None, IfOk, IfSome};
+ghost use Rattle.std.specs.Option.{option_map};
 ghost use Rattle.log_text.specs.SiteNames.{names_of, names_view};
 ghost use Rattle.site_model.specs.PlainSite.{full_names, site_view};
 ghost use Rattle.site_model.specs.Sound.{IsSound};
 ghost use Rattle.site_audit.specs.Blocks.{blocks_of, lines_of};
 ghost use Rattle.site_audit.specs.BlockReading.{block_read};
+ghost use Rattle.site_audit.specs.ByCallers.{round_of, turn_of, AreToldIn, IsToldIn};
 ghost use Rattle.site_audit.specs.Told.{block_told, first_turns as turns_first, no_orders as none_ordered, orders_behind, IsOf};
 
 use crate::block::{Block, read_block};
 use crate::blocks::cut_block;
+use crate::rounds::{ToldTurn, tell_turn};
 use crate::telling::Open;
-use crate::told::{Named, named_of, tell};
+use crate::told::{Named, named_of};
 use log_text::{EntryError, SiteNames};
 use run_text::Style;
 use site_base::OutOfMemory;
-use site_edge::Turn;
 use site_model::Site;
 use std::alloc::Global;
 
@@ -28,10 +30,11 @@ pub(crate) fn first_turns(
     site: &Site,
     style: Style,
     log: &[u8],
-) -> Result<Vec<Turn>, OutOfMemory>
+) -> Result<Vec<ToldTurn>, OutOfMemory>
     requires callers { callers ≤ 64 }
     requires sound { IsSound (site_view site.now) }
-    ensures { IfOk result (λ turns. turns.items ≡ turns_first callers (site_view site.now) style (blocks_of (lines_of log.now))) }
+    ensures turns { IfOk result (λ turns. map turn_of turns.items ≡ turns_first callers (site_view site.now) style (blocks_of (lines_of log.now))) }
+    ensures rounds { 2 ≤ callers → IfOk result (λ turns. AreToldIn style (names_of (site_view site.now)) (map round_of turns.items) (blocks_of (lines_of log.now))) }
 {
     let names = SiteNames::of(alloc, site)?;
     let named = named_of(site)?;
@@ -83,17 +86,18 @@ fn tell_block(
     named: &Named,
     orders: &mut Vec<Option<Open>>,
     bytes: &[u8],
-) -> Result<Option<Turn>, OutOfMemory>
+) -> Result<Option<ToldTurn>, OutOfMemory>
     requires callers { callers ≤ 64 }
     requires some { 0 < length bytes.now }
     requires names { names_view names.now ≡ names_of (site_view site.now) }
     requires full { site.now.names ≡ full_names (site_view site.now) }
     requires named { IsOf (site_view site.now) named.now }
-    ensures turn { IfOk result (λ t. t ≡ block_told callers (site_view site.now) style orders.old.items (lines_of bytes.now)) }
+    ensures turn { IfOk result (λ t. option_map turn_of t ≡ block_told callers (site_view site.now) style orders.old.items (lines_of bytes.now)) }
+    ensures round { 2 ≤ callers → IfOk result (λ t. IfSome t (λ t. IsToldIn style (names_of (site_view site.now)) (lines_of bytes.now) t.round.items)) }
     ensures orders { IfOk result (λ t. IfSome t (λ _. orders.new.items ≡ orders_behind (site_view site.now) style orders.old.items (lines_of bytes.now))) }
 {
     match read(alloc, style, site, names, bytes)? {
-        Some(block) => tell(alloc, callers, site, named, orders, block),
+        Some(block) => tell_turn(alloc, callers, site, named, orders, block),
         None => Ok(None),
     }
 }

@@ -1,40 +1,20 @@
-use Rattle.std.proofs.Common.{[], ap, sym, ◌∙◌, subst}
-use Rattle.std.specs.List.{concat}
-use Rattle.std.specs.Str.{bytes_eq}
-use Rattle.run_meaning.specs.Alone.{turn_alone}
-use Rattle.run_meaning.specs.Runs.{Basis, TurnLog}
-use Rattle.run_text.specs.LogText.{turn_lines}
+-- One caller's way and that of several.
+use Rattle.std.proofs.Common.{arith}
+use Rattle.run_meaning.specs.Runs.{begun_by}
 use Rattle.run_text.specs.TurnReading.{turn_read}
 use Rattle.site_model.specs.PlainSite.{site_view}
-use Rattle.site_model.specs.Sound.{IsSound}
-use Rattle.site_model.specs.declared.site.Site.{Site}
-use Rattle.engine_log.specs.OnSite.{IsTurnOf}
 use Rattle.turn_engine.specs.Stages.{basis_of_site, stage_of}
-use Rattle.site_audit.proofs.AgreeLaws.{block_is}
+use Rattle.site_audit.specs.Blocks.{lines_of}
+use Rattle.site_audit.proofs.AgreeLaws.{with_callers}
 use Rattle.site_audit.proofs.agreeing.agrees.Goals as goal
 
-pub turn_lines-requires-clause-sound : goal.turn_lines-requires-clause-sound
-turn_lines-requires-clause-sound c = subst (λ (x : Site). IsSound (site_view x)) (sym (c.site.ensures ∙ c.in_ok-out.ensures.site)) c.requires.sound
-
-pub turn_lines-requires-clause-turn : goal.turn_lines-requires-clause-turn
-turn_lines-requires-clause-turn c =
+pub returns-then-callers-eq1-clause-agrees : goal.returns-then-callers-eq1-clause-agrees
+returns-then-callers-eq1-clause-agrees c = λ begun.
     let r = c.args.engine.now.run in
-    subst (λ (x : Site). IsTurnOf (site_view x) c.in_ok-out.out) (sym (c.site.ensures ∙ c.in_ok-out.ensures.site))
-    (record {
-      zone = r.zone;
-      callers = 1;
-      stage = stage_of r [];
-      turn = c.args.turn.now;
-      log = turn_alone (basis_of_site (site_view r.site) r.zone) (stage_of r []) (turn_read (site_view r.site) c.args.turn.now);
-      is = c.in_ok-out.ensures.turn [];
-      tells = c.in_ok-out.ensures.tells [];
-    })
+    let q = c.agrees_alone.new.engine.run in
+    let s = site_view r.site in
+    with_callers c.args.style (basis_of_site s r.zone) c.args.callers (stage_of r begun) (stage_of q (begun_by (stage_of r begun) q.moment)) (turn_read s c.args.told.turn) (lines_of c.args.block.now) c.agrees_alone.result c.if-callers-eq1.true
+    (c.agrees_alone.ensures.agrees begun)
 
-pub returns-clause-tells : goal.returns-clause-tells
-returns-clause-tells c = λ begun.
-    let r = c.args.engine.now.run in
-    let b : Basis = basis_of_site (site_view r.site) r.zone in
-    let l : TurnLog = turn_alone b (stage_of r begun) (turn_read (site_view r.site) c.args.turn.now) in
-    block_is c.args.style b l c.args.block.now c.in_ok-lines.lines c.is_text_of.result
-    (c.in_ok-lines.ensures l (c.in_ok-out.ensures.tells begun) ∙ ap (λ (x : Site). turn_lines c.args.style (site_view x) l) (c.site.ensures ∙ c.in_ok-out.ensures.site))
-    (c.is_text_of.ensures ∙ ap (λ ls. bytes_eq c.args.block.now (concat ls)) c.as_slice.ensures)
+pub agrees_told-requires-clause-round : goal.agrees_told-requires-clause-round
+agrees_told-requires-clause-round c = let some = c.requires.callers.0 in let other = c.if-callers-eq1.false in c.requires.round (omega (arith, some, other))
