@@ -26,16 +26,16 @@ _icinga_site() {
     done
     COMPREPLY=()
     case "${#told[@]} ${told[0]-} $options" in
-    "0   --log --workers --recur --quiet ") mapfile -t COMPREPLY < <(compgen -W "check objects replay daemon query keep resume gen $options --help --version" -- "$word") ;;
-    "0 "*" --log "*"--recur "*) mapfile -t COMPREPLY < <(compgen -W "check objects replay daemon query keep resume gen $options" -- "$word") ;;
+    "0   --log --workers --recur --quiet ") mapfile -t COMPREPLY < <(compgen -W "check objects replay daemon query keep audit resume gen $options --help --version" -- "$word") ;;
+    "0 "*" --log "*"--recur "*) mapfile -t COMPREPLY < <(compgen -W "check objects replay daemon query keep audit resume gen $options" -- "$word") ;;
     "0 "*" --recur "*) mapfile -t COMPREPLY < <(compgen -W "replay daemon resume $options" -- "$word") ;;
     "0 "*) mapfile -t COMPREPLY < <(compgen -W "replay daemon $options" -- "$word") ;;
-    "1 check "* | "1 objects "* | "1 replay "* | "1 daemon "* | "1 query "* | "1 keep "* | "1 resume "*) mapfile -t COMPREPLY < <(compgen -f -- "$word") ;;
-    "2 replay "* | "2 query "* | "2 keep "* | "3 query "* | "2 resume "* | "3 resume "*) mapfile -t COMPREPLY < <(compgen -f -- "$word") ;;
+    "1 check "* | "1 objects "* | "1 replay "* | "1 daemon "* | "1 query "* | "1 keep "* | "1 audit "* | "1 resume "*) mapfile -t COMPREPLY < <(compgen -f -- "$word") ;;
+    "2 replay "* | "2 query "* | "2 keep "* | "2 audit "* | "3 query "* | "2 resume "* | "3 resume "*) mapfile -t COMPREPLY < <(compgen -f -- "$word") ;;
     "2 daemon "*) mapfile -t COMPREPLY < <(compgen -W "$options" -- "$word"; compgen -f -- "$word") ;;
     "3 replay "* | "3 daemon "*) mapfile -t COMPREPLY < <(compgen -W "$options" -- "$word") ;;
     "4 resume "*) mapfile -t COMPREPLY < <(compgen -W "${options/ --recur / }" -- "$word") ;;
-    "2 check "* | "2 objects "* | "2 gen "* | "4 query "* | "3 keep "*)
+    "2 check "* | "2 objects "* | "2 gen "* | "4 query "* | "3 keep "* | "3 audit "*)
         options=${options/ --log / }
         mapfile -t COMPREPLY < <(compgen -W "${options/ --recur / }" -- "$word")
         ;;

@@ -26,6 +26,7 @@ usage:
   icinga_site daemon ROOT STATE           the same, and goes on after the entries of the state file STATE
   icinga_site query ROOT SCRIPT QUERY     answers the query in QUERY once the turns of SCRIPT are over
   icinga_site keep ROOT SCRIPT            writes the state file of the entries that the turns of SCRIPT leave
+  icinga_site audit ROOT LOG              says whether LOG is the log of a run over that site, or where it goes wrong
   icinga_site resume ROOT STATE SCRIPT    writes the log of the turns of SCRIPT after the entries of the state file STATE
   icinga_site gen N                       runs a generated site of N hosts, from 1 to 10000, and writes five counts
   icinga_site --help                      prints this text, as do -h and help
@@ -33,7 +34,8 @@ usage:
 
 --log 1 or --log 2, before or after the words of replay, daemon and resume, chooses the version of the log.
 --recur, before or after those of the first two, has ScheduledDowntime objects make their downtimes.
---workers K, before or after any words, has K workers, from 1 to 64, make objects and take the events of a turn at the same time.
+--workers K, before or after any words, has K workers, from 1 to 64, make objects and take the events of a turn at the same time;
+audit reads LOG as one of K workers.
 --quiet, anywhere among them, leaves out what check and daemon remark of a site on standard error.
 ";
 

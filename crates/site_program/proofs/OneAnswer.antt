@@ -19,6 +19,8 @@ use Rattle.site_model.specs.PlainSite.{PlainObject, PlainSite}
 use Rattle.site_model.specs.Sound.{HasNames}
 use Rattle.site_phases.specs.Constants.{PlainGlobals, settings_of}
 use Rattle.site_phases.specs.Phases.{phases, site_made}
+use Rattle.log_audits.specs.Audits.{AnswersAudited}
+use Rattle.log_audits.proofs.OneVerdict.{audited_one}
 use Rattle.run_replies.specs.Runs.{Files, replied}
 use Rattle.site_answers.specs.SiteAnswers.{AnswersKept, AnswersQueried, AnswersReplayed, AnswersWatched}
 use Rattle.site_program.specs.TaskAnswers.{Answers, AnswersOver, AnswersShown, AnswersSite, IsCounted, files_of, root_name}
@@ -31,7 +33,7 @@ use Rattle.site_run.specs.Statuses.{number_of}
 use Rattle.site_run.specs.declared.status.Status.{Status}
 use Rattle.site_run.specs.declared.status.Status.TheVariants as status
 use Rattle.site_text.specs.Scripts.{told}
-use Rattle.site_words.specs.Tasks.{Task, check, daemon, generate, keep, objects, query, replay, resume}
+use Rattle.site_words.specs.Tasks.{Task, audit, check, daemon, generate, keep, objects, query, replay, resume}
 use Rattle.typed_site.proofs.SoundLaws.{has_names}
 use Rattle.site_answers.proofs.OneAnswer.{IsOne, kept_one, queried_one, replayed_one, watched_one}
 
@@ -130,6 +132,7 @@ one_answer (daemon style recur root state) files turns v w p q = site_one files 
 one_answer (query root script name) files turns v w p q =
     site_one files root (λ s. AnswersQueried 1 script name s (find_file script files) (find_file name files)) (queried_one script name (find_file script files) (find_file name files)) v w p q
 one_answer (keep root script) files turns v w p q = site_one files root (λ s. AnswersKept 1 script s (find_file script files)) (kept_one script (find_file script files)) v w p q
+one_answer (audit root log) files turns v w p q = site_one files root (λ s. AnswersAudited 1 log s (find_file log files)) (λ s names. audited_one 1 log (find_file log files) s) v w p q
 one_answer (resume style root state script) files turns v w p q = site_one files root (AnswersReplayed 1 style false (Some state) script files) (replayed_one style false (Some state) script files) v w p q
 one_answer (generate hosts) files turns v w p q = site_one (files_of hosts) root_name (IsCounted hosts) (counted_one hosts) v w p q
 

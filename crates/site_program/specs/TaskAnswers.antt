@@ -3,6 +3,7 @@ use Rattle.std.specs.Prelude.{ℕ, ◌≡◌, ◌≢◌, ◌≤◌, ◌⊎◌, B
 use Rattle.std.specs.Bool.{Decides}
 use Rattle.commit_meaning.specs.Commits as commits
 use Rattle.commit_meaning.specs.Commits.{Committed}
+use Rattle.log_audits.specs.Audits.{AnswersAudited}
 use Rattle.run_text.specs.declared.style.Style.{Style}
 use Rattle.site_base.specs.declared.diag.Diag.{Diag}
 use Rattle.site_edge.specs.Told.{find_file}
@@ -27,7 +28,7 @@ use Rattle.site_run.specs.Logs.{Whole}
 use Rattle.site_run.specs.declared.status.Status.{Status}
 use Rattle.site_run.specs.declared.status.Status.TheVariants as status
 use Rattle.site_words.specs.Commands.{Command}
-use Rattle.site_words.specs.Tasks.{Task, check, daemon, generate, keep, objects, query, replay, resume}
+use Rattle.site_words.specs.Tasks.{Task, audit, check, daemon, generate, keep, objects, query, replay, resume}
 
 -- Configurations.
 
@@ -81,6 +82,7 @@ Answers callers (generate hosts) files turns w = AnswersGenerated hosts w
 Answers callers (query root script name) files turns w =
     IfSome files (λ all. AnswersSite all root (λ s. AnswersQueried callers script name s (find_file script all) (find_file name all)) w)
 Answers callers (keep root script) files turns w = IfSome files (λ all. AnswersSite all root (λ s. AnswersKept callers script s (find_file script all)) w)
+Answers callers (audit root log) files turns w = IfSome files (λ all. AnswersSite all root (λ s. AnswersAudited callers log s (find_file log all)) w)
 Answers callers (resume style root state script) files turns w =
     IfSome files (λ all. AnswersSite all root (AnswersReplayed callers style false (Some state) script all) w)
 

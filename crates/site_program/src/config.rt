@@ -28,6 +28,7 @@ pub fn count_objects<F: Files, S: Sink, N: Remarks, M: Committers<F>>(
 ) -> Status
     requires apt { M.apt committers.now }
     ensures never_usage { result ≢ Status.Usage }
+    ensures never_illegal { result ≢ Status.NotLegal }
     ensures written { EndsRun result (λ w. IfSome (F.told files.old) (λ all. AnswersShown all shown_as.Count root.now w)) (S.written out.old) (S.written out.new) }
     ensures remarked { RemarkedOf result false root.now (F.told files.old) (N.remarked remarks.old) (N.remarked remarks.new) }
     ensures through { HandsOn result (S.kept_back out.new) }
@@ -54,6 +55,7 @@ pub fn list_objects<F: Files, S: Sink, M: Committers<F>>(
 ) -> Status
     requires apt { M.apt committers.now }
     ensures never_usage { result ≢ Status.Usage }
+    ensures never_illegal { result ≢ Status.NotLegal }
     ensures written { EndsRun result (λ w. IfSome (F.told files.old) (λ all. AnswersShown all shown_as.Listing root.now w)) (S.written out.old) (S.written out.new) }
     ensures through { HandsOn result (S.kept_back out.new) }
     ensures told { F.told files.new ≡ F.told files.old }

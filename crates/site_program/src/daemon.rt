@@ -39,6 +39,7 @@ pub fn watch<F: Files, W: World, S: Sink, N: Remarks, C: Workers, M: Committers<
     requires apt { C.apt workers.now }
     requires committing { M.apt committers.now }
     ensures never_usage { result ≢ Status.Usage }
+    ensures never_illegal { result ≢ Status.NotLegal }
     ensures written { EndsRun result (λ w. IfSome (F.told files.old) (λ all. AnswersSite all root.now (AnswersWatched (C.callers workers.now) style recur (option_map (λ name. name.now) state.entry) (W.turns world.old) all) w)) (S.written out.old) (S.written out.new) }
     ensures remarked { RemarkedOf result recur root.now (F.told files.old) (N.remarked remarks.old) (N.remarked remarks.new) }
     ensures through { HandsOn result (S.kept_back out.new) }

@@ -28,6 +28,7 @@ const ROOT: &str = "gen";
 /// lies in memory.
 pub fn generate<S: Sink>(alloc: Global, hosts: u32, out: &mut S) -> Status
     ensures never_usage { result ≢ Status.Usage }
+    ensures never_illegal { result ≢ Status.NotLegal }
     ensures no_read_fault { result ≢ Status.ReadFault }
     ensures written { EndsRun result (AnswersGenerated hosts) (S.written out.old) (S.written out.new) }
     ensures through { HandsOn result (S.kept_back out.new) }
@@ -65,6 +66,7 @@ fn files_of(alloc: Global, hosts: u32) -> Result<MemFiles, OutOfMemory>
 fn write_counts<S: Sink>(alloc: Global, hosts: u32, site: Site, out: &mut S) -> Status
     requires ready { IsReady (site_view site) }
     ensures never_usage { result ≢ Status.Usage }
+    ensures never_illegal { result ≢ Status.NotLegal }
     ensures no_read_fault { result ≢ Status.ReadFault }
     ensures written { EndsRun result (IsCounted hosts (site_view site)) (S.written out.old) (S.written out.new) }
     ensures through { HandsOn result (S.kept_back out.new) }

@@ -16,6 +16,7 @@ ghost use Rattle.turn_engine.specs.Stages.{Tells, TellsTurn, basis_of_site, stag
 ghost use Rattle.engine_log.specs.OnSite.{IsTurnOf};
 ghost use Rattle.site_edge.specs.Told.{Rose};
 ghost use Rattle.site_words.specs.Commands.{command_of as command_in};
+ghost use Rattle.site_words.specs.Tasks.{is_audit};
 ghost use Rattle.site_run.specs.Callers.{AreCallers};
 ghost use Rattle.site_run.specs.Logs.{EndsRun};
 ghost use Rattle.site_run.specs.Ends.{HandsOn, outside};
@@ -82,6 +83,7 @@ pub fn run<F: Files, W: World, S: Sink, N: Remarks, R: Wait + Threads + Sync, G:
     ensures calm_sink { S.calm out.old → result ≢ Status.WriteFault }
     ensures calm_world { W.calm world.old → result ≢ Status.WorldFault }
     ensures no_world_fault { IfSome (command_in words.now) (λ c. is_daemon c.task ≡ false → result ≢ Status.WorldFault) }
+    ensures no_verdict { IfSome (command_in words.now) (λ c. is_audit c.task ≡ false → result ≢ Status.NotLegal) }
 {
     if let Some(status) = run_one(alloc, words, files, world, out, remarks) {
         return status;

@@ -34,6 +34,7 @@ pub fn answer_query<F: Files, S: Sink, C: Workers, M: Committers<F>>(
     requires apt { C.apt workers.now }
     requires committing { M.apt committers.now }
     ensures never_usage { result ≢ Status.Usage }
+    ensures never_illegal { result ≢ Status.NotLegal }
     ensures written { EndsRun result (λ w. IfSome (F.told files.old) (λ all. AnswersSite all root.now (λ s. AnswersQueried (C.callers workers.now) script.now query.now s (find_file script.now all) (find_file query.now all)) w)) (S.written out.old) (S.written out.new) }
     ensures through { HandsOn result (S.kept_back out.new) }
     ensures told { F.told files.new ≡ F.told files.old }

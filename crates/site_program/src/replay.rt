@@ -37,6 +37,7 @@ pub fn replay<F: Files, S: Sink, C: Workers, M: Committers<F>>(
     requires apt { C.apt workers.now }
     requires committing { M.apt committers.now }
     ensures never_usage { result ≢ Status.Usage }
+    ensures never_illegal { result ≢ Status.NotLegal }
     ensures written { EndsRun result (λ w. IfSome (F.told files.old) (λ all. AnswersSite all root.now (AnswersReplayed (C.callers workers.now) style recur (option_map (λ name. name.now) state.entry) script.now all) w)) (S.written out.old) (S.written out.new) }
     ensures through { HandsOn result (S.kept_back out.new) }
     ensures told { F.told files.new ≡ F.told files.old }

@@ -2,12 +2,13 @@
 ghost use Rattle.std.specs.Prelude.{◌≡◌, ◌≢◌, ◌↔◌, Bool, false, true, None, Some, IfSome};
 ghost use Rattle.site_edge.specs.Told.{Rose};
 ghost use Rattle.site_words.specs.Commands.{command_of as command_in};
-ghost use Rattle.site_words.specs.Tasks.{task_view};
+ghost use Rattle.site_words.specs.Tasks.{is_audit, task_view};
 ghost use Rattle.site_run.specs.Callers.{AreCallers};
 ghost use Rattle.site_run.specs.Logs.{EndsRun};
 ghost use Rattle.site_run.specs.Ends.{HandsOn, outside};
 ghost use Rattle.site_program.specs.TaskAnswers.{Answers, AskForMany, Came, Remarked, is_daemon, is_generate};
 
+use crate::audit::audit_log;
 use crate::committers::{Committers, OneCommitter};
 use crate::config::{count_objects, list_objects};
 use crate::daemon::watch;
@@ -64,6 +65,7 @@ pub fn run_one<F: Files, W: World, S: Sink, N: Remarks>(
     ensures calm_sink { S.calm out.old → result ≢ Some Status.WriteFault }
     ensures calm_world { W.calm world.old → result ≢ Some Status.WorldFault }
     ensures no_world_fault { IfSome (command_in words.now) (λ c. is_daemon c.task ≡ false → result ≢ Some Status.WorldFault) }
+    ensures no_verdict { IfSome (command_in words.now) (λ c. is_audit c.task ≡ false → result ≢ Some Status.NotLegal) }
 {
     match command_of(words) {
         Some(Command { task, workers: 1 }) => {
@@ -112,6 +114,7 @@ pub(crate) fn run_task<F: Files, W: World, S: Sink, N: Remarks, C: Workers, M: C
     ensures calm_sink { S.calm out.old → result ≢ Status.WriteFault }
     ensures calm_world { W.calm world.old → result ≢ Status.WorldFault }
     ensures no_world_fault { is_daemon (task_view task.entry) ≡ false → result ≢ Status.WorldFault }
+    ensures no_verdict { is_audit (task_view task.entry) ≡ false → result ≢ Status.NotLegal }
 {
     match task {
         Task::Check { root } => count_objects(alloc, committers, root, files, out, remarks),
@@ -141,6 +144,7 @@ pub(crate) fn run_task<F: Files, W: World, S: Sink, N: Remarks, C: Workers, M: C
         Task::Keep { root, script } => {
             keep(alloc, workers, committers, root, script, files, out)
         }
+        Task::Audit { root, log } => audit_log(alloc, workers, committers, root, log, files, out),
         Task::Resume {
             style,
             root,

@@ -5,8 +5,8 @@ use Rattle.run_text.specs.declared.style.Style.{Style}
 use Rattle.run_text.specs.declared.style.Style.TheVariants as style
 use Rattle.site_text.specs.ScriptReading.{Read, bad, got}
 use Rattle.site_text.specs.Wholes.{whole_at}
-use Rattle.site_words.specs.declared.words.Task as declared
-use Rattle.site_words.specs.declared.words.Task.TheVariants.{Check, Daemon, Generate, Keep, Objects, Query, Replay, Resume}
+use Rattle.site_words.specs.declared.task.Task as declared
+use Rattle.site_words.specs.declared.task.Task.TheVariants.{Audit, Check, Daemon, Generate, Keep, Objects, Query, Replay, Resume}
 
 -- what words ask for, by the names of files or the number of hosts
 pub data Task : Type 0 where
@@ -23,6 +23,8 @@ pub data Task : Type 0 where
   query : List ℕ → List ℕ → List ℕ → Task
   -- of a root and a script
   keep : List ℕ → List ℕ → Task
+  -- of a root and a log
+  audit : List ℕ → List ℕ → Task
   -- in a version of the log, of a root, a state file and a script
   resume : Style → List ℕ → List ℕ → List ℕ → Task
 
@@ -34,7 +36,12 @@ task_view (Daemon style recur root state) = daemon style recur root.now (option_
 task_view (Generate hosts) = generate hosts
 task_view (Query root script asked) = query root.now script.now asked.now
 task_view (Keep root script) = keep root.now script.now
+task_view (Audit root log) = audit root.now log.now
 task_view (Resume style root state script) = resume style root.now state.now script.now
+
+abbrev pub is_audit : Task → Bool
+is_audit (audit root log) = true
+is_audit task = false
 
 -- a file's name: it isn't empty and doesn't begin with `-`
 abbrev pub is_file_word : List ℕ → Bool
@@ -74,6 +81,10 @@ query_task w root script asked =
 abbrev pub keep_task : List ℕ → List ℕ → Option Task
 keep_task root script = if is_file_word root && is_file_word script then Some (keep root script) else None
 
+-- `audit ROOT LOG`
+abbrev pub audit_task : List ℕ → List ℕ → Option Task
+audit_task root log = if is_file_word root && is_file_word log then Some (audit root log) else None
+
 -- a number of hosts: from 1 to 10,000, and nothing stands behind its digits
 abbrev pub few_hosts : Read ℕ → Option ℕ
 few_hosts (got n []) = if nat_le 1 n && nat_le n 10000 then Some n else None
@@ -100,7 +111,10 @@ three_words version recur w x y =
 
 -- of which none asks for a version of the log, nor for downtimes that recur
 abbrev pub three_plain : List ℕ → List ℕ → List ℕ → Option Task
-three_plain w x y = if bytes_eq w (codes "keep") then keep_task x y else three_words style.One false w x y
+three_plain w x y =
+    if bytes_eq w (codes "keep") then keep_task x y
+    else if bytes_eq w (codes "audit") then audit_task x y
+    else three_words style.One false w x y
 
 abbrev pub four_words : List ℕ → List ℕ → List ℕ → List ℕ → Option Task
 four_words w x y z = if bytes_eq w (codes "resume") then resume_task style.One w x y z else query_task w x y z

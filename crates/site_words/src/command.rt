@@ -3,7 +3,8 @@ ghost use Rattle.std.specs.Prelude.{◌≡◌, ◌≤◌, IfSome, length, option
 ghost use Rattle.site_words.specs.Commands.{AreFew, AreWorkers, command_behind, command_by as command_with, command_from, command_of as command_in, command_own, command_view, first_option, own_many};
 
 use crate::options::{Options, is_option, is_recur};
-use crate::words::{Task, task_of};
+use crate::task::Task;
+use crate::words::task_of;
 use site_base::Text;
 
 /// A task, and how many workers do it.

@@ -1,62 +1,14 @@
 // What a command's own words ask for.
 ghost use Rattle.std.specs.Prelude.{◌≡◌, ◌&&◌, option_map};
-ghost use Rattle.site_words.specs.Tasks.{daemon_on as daemon_with, daemon_task as task_of_daemon, four_words as task_of_four, generate_task as task_of_generate, hosts_in, is_file_word as names_file, keep_task as task_of_keep, logged_task as task_logged, plain_task as task_plain, plain_words as words_plain, query_task as task_of_query, replay_task as task_of_replay, resume_task as task_of_resume, task_of as task_in, task_view, three_plain as plain_of_three, three_words as task_of_three, two_words as task_of_two};
+ghost use Rattle.site_words.specs.Tasks.{audit_task as task_of_audit, daemon_on as daemon_with, daemon_task as task_of_daemon, four_words as task_of_four, generate_task as task_of_generate, hosts_in, is_file_word as names_file, keep_task as task_of_keep, logged_task as task_logged, plain_task as task_plain, plain_words as words_plain, query_task as task_of_query, replay_task as task_of_replay, resume_task as task_of_resume, task_of as task_in, task_view, three_plain as plain_of_three, three_words as task_of_three, two_words as task_of_two};
 
+use crate::task::Task;
 use run_text::Style;
 use site_base::Text;
 use site_text::read_whole;
 
 /// How many hosts a generated site has at most.
 const MOST_HOSTS: u64 = 10_000;
-
-/// What a command's own words ask for. Each but `gen` names files: a root, and a script.
-#[derive(Clone, Copy)]
-pub enum Task<'a> {
-    /// `check ROOT`: how many objects the files from the root on make.
-    Check {
-        root: &'a str,
-    },
-    /// `objects ROOT`: the objects that the files from the root on make.
-    Objects {
-        root: &'a str,
-    },
-    /// `replay ROOT SCRIPT`: the log of the script's turns over the site that they make, in a version, with downtimes that recur or don't.
-    Replay {
-        style: Style,
-        recur: bool,
-        root: &'a str,
-        script: &'a str,
-    },
-    /// `daemon ROOT` or `daemon ROOT STATE`: the same of the world's turns, behind the entries of a state file, if one is named.
-    Daemon {
-        style: Style,
-        recur: bool,
-        root: &'a str,
-        state: Option<&'a str>,
-    },
-    /// `gen N`: what is counted of the run of a generated site of so many hosts.
-    Generate {
-        hosts: u32,
-    },
-    /// `query ROOT SCRIPT QUERY`: what the query is answered once the script's turns are over.
-    Query {
-        root: &'a str,
-        script: &'a str,
-        query: &'a str,
-    },
-    /// `keep ROOT SCRIPT`: the state file of the entries that the script's turns leave.
-    Keep {
-        root: &'a str,
-        script: &'a str,
-    },
-    /// `resume ROOT STATE SCRIPT`: the log of the script's turns behind the entries of a state file, in a version.
-    Resume {
-        style: Style,
-        root: &'a str,
-        state: &'a str,
-        script: &'a str,
-    },
-}
 
 /// What a command's own words ask for, by the version of the log that is asked for, if one is, and whether downtimes are to recur; `None` for all
 /// words that ask for nothing that the program does. A version can be asked of `replay`, `daemon` and `resume` alone, and downtimes that recur of the
@@ -185,6 +137,7 @@ fn three_plain<'a>(word: &'a Text, root: &'a Text, other: &'a Text) -> Option<Ta
 {
     match word.as_str() {
         "keep" => keep_task(root, other),
+        "audit" => audit_task(root, other),
         _ => three_words(Style::One, false, word, root, other),
     }
 }
@@ -254,6 +207,19 @@ fn keep_task<'a>(root: &'a Text, script: &'a Text) -> Option<Task<'a>>
         Some(Task::Keep {
             root: root.as_str(),
             script: script.as_str(),
+        })
+    } else {
+        None
+    }
+}
+
+fn audit_task<'a>(root: &'a Text, log: &'a Text) -> Option<Task<'a>>
+    ensures { option_map task_view result ≡ task_of_audit root.now log.now }
+{
+    if is_file_word(root) && is_file_word(log) {
+        Some(Task::Audit {
+            root: root.as_str(),
+            log: log.as_str(),
         })
     } else {
         None

@@ -35,6 +35,11 @@ returns-in-Keep-clause-written g c =
     subst (λ (t : Task). EndsRun c.keep.result (Answers (g.C.Workers.callers c.args.workers.now) t (g.F.Files.told c.args.files.now) (g.W.World.turns c.args.world.now)) (g.S.Sink.written c.args.out.now) (g.S.Sink.written c.keep.new.out))
     (sym (ap task_view c.in-Keep.is)) c.keep.ensures.written
 
+pub returns-in-Audit-clause-written : goal.returns-in-Audit-clause-written
+returns-in-Audit-clause-written g c =
+    subst (λ (t : Task). EndsRun c.audit_log.result (Answers (g.C.Workers.callers c.args.workers.now) t (g.F.Files.told c.args.files.now) (g.W.World.turns c.args.world.now)) (g.S.Sink.written c.args.out.now) (g.S.Sink.written c.audit_log.new.out))
+    (sym (ap task_view c.in-Audit.is)) c.audit_log.ensures.written
+
 pub returns-in-Resume-clause-written : goal.returns-in-Resume-clause-written
 returns-in-Resume-clause-written g c =
     subst (λ (t : Task). EndsRun c.replay-in-Resume.result (Answers (g.C.Workers.callers c.args.workers.now) t (g.F.Files.told c.args.files.now) (g.W.World.turns c.args.world.now)) (g.S.Sink.written c.args.out.now) (g.S.Sink.written c.replay-in-Resume.new.out))

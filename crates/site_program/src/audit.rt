@@ -1,0 +1,50 @@
+// The verdict on a log.
+ghost use Rattle.std.specs.Prelude.{◌≡◌, ◌≢◌, IfSome};
+ghost use Rattle.site_edge.specs.Told.{Rose, find_file};
+ghost use Rattle.site_run.specs.Callers.{AreCallers};
+ghost use Rattle.site_run.specs.Ends.{HandsOn};
+ghost use Rattle.site_run.specs.Logs.{EndsRun};
+ghost use Rattle.log_audits.specs.Audits.{AnswersAudited};
+ghost use Rattle.site_program.specs.TaskAnswers.{AnswersSite};
+
+use crate::committers::Committers;
+use crate::config::status_of;
+use log_audits::audit_site;
+use run_replies::write_made;
+use site_edge::{Files, Sink};
+use site_phases::Answer;
+use site_replies::diagnoses;
+use site_run::{Status, Workers};
+use std::alloc::Global;
+
+/// Writes whether a log is one that a run with as many workers as these writes over the site that the files from the root on make, and else
+/// in which line it goes wrong, or why there is no site. The log is read only where there is one. The workers are 1 to 64.
+pub fn audit_log<F: Files, S: Sink, C: Workers, M: Committers<F>>(
+    alloc: Global,
+    workers: &C,
+    committers: &M,
+    root: &str,
+    log: &str,
+    files: &mut F,
+    out: &mut S,
+) -> Status
+    requires callers { AreCallers (C.callers workers.now) }
+    requires committing { M.apt committers.now }
+    ensures never_usage { result ≢ Status.Usage }
+    ensures written { EndsRun result (λ w. IfSome (F.told files.old) (λ all. AnswersSite all root.now (λ s. AnswersAudited (C.callers workers.now) log.now s (find_file log.now all)) w)) (S.written out.old) (S.written out.new) }
+    ensures through { HandsOn result (S.kept_back out.new) }
+    ensures told { F.told files.new ≡ F.told files.old }
+    ensures read_fault { result ≡ Status.ReadFault → Rose (F.faults files.old) (F.faults files.new) }
+    ensures write_fault { result ≡ Status.WriteFault → Rose (S.faults out.old) (S.faults out.new) }
+    ensures calm_files { F.calm files.old → result ≢ Status.ReadFault }
+    ensures calm_sink { S.calm out.old → result ≢ Status.WriteFault }
+    ensures no_world_fault { result ≢ Status.WorldFault }
+{
+    match committers.answer(alloc, files, root) {
+        Ok(Answer::Site(site)) => audit_site(alloc, workers.count(), log, site, files, out),
+        Ok(Answer::Diags { files, list }) => {
+            write_made(diagnoses(alloc, &files, list.as_slice()), out)
+        }
+        Err(fault) => status_of(fault),
+    }
+}
