@@ -1,5 +1,5 @@
 -- Orders that are split by whether their reports are there.
-use Rattle.std.proofs.Common.{◌≡◌, ℕ, List, [], ◌∷◌, ◌++◌, map, sym, ap, ◌∙◌, subst}
+use Rattle.std.proofs.Common.{◌≡◌, ℕ, List, [], ◌∷◌, ◌++◌, sym, ap, ◌∙◌, subst}
 use Rattle.std.specs.List.Sorted.{IsPermutation}
 use Rattle.std.proofs.lemmas.List.{append_assoc, map-append}
 use Rattle.std.proofs.lemmas.List.Sorted.{IsPermutation-trans, IsPermutation-append_right, IsPermutation-middle}
@@ -31,3 +31,7 @@ taken_out all reports left rest r report is h =
     subst (IsPermutation all) (sym (
     ap (λ (l : List ℕ). l ++ (numbers left ++ numbers rest)) (reported_more reports report ∙ ap (λ (n : ℕ). reported reports ++ n ∷ []) is)
     ∙ append_assoc (reported reports) (r.number ∷ []) (numbers left ++ numbers rest))) moved
+
+-- what was begun again in between is split like what was there before
+pub split_again : (all some left : List ℕ) (reports : List Report) → some ≡ all → IsPermutation some (reported reports ++ left) → IsPermutation all (reported reports ++ left)
+split_again all some left reports same h = subst (λ (l : List ℕ). IsPermutation l (reported reports ++ left)) same h

@@ -1,4 +1,6 @@
 // The lines of standard input.
+ghost use Rattle.std.specs.Prelude.{◌≡◌, IsTrue, length};
+
 use crate::lines::Lines;
 use crate::ready::is_ready;
 use site_base::{Blob, OutOfMemory, Row};
@@ -38,16 +40,21 @@ impl InputLines {
         })
     }
 
-    pub fn has_ended(&self) -> bool {
+    pub fn has_ended(&self) -> bool
+        ensures { result ≡ self.now.has_ended }
+    {
         self.has_ended
     }
 
     /// Whether the input has ended, and each line of it was taken.
-    pub fn is_over(&self) -> bool {
+    pub fn is_over(&self) -> bool
+        ensures ended { IsTrue result → IsTrue self.now.has_ended }
+        ensures taken { IsTrue result → length self.now.lines.whole ≡ 0 }
+    {
         self.has_ended && self.lines.is_empty()
     }
 
-    /// Waits for input, so long at most, and reads what is there.
+    /// Waits for input, so long at most, and reads what is there. `Failed` if it can't be waited for or read.
     pub fn wait(&mut self, rt: &HostRuntime, most: Duration) -> Result<(), WorldError> {
         let mut patience = most;
         for _ in 0..u64::MAX {
@@ -55,7 +62,10 @@ impl InputLines {
                 thread::sleep(rt, patience);
                 break;
             }
-            if !is_ready(STANDARD_INPUT, patience) {
+            let Ok(has_come) = is_ready(STANDARD_INPUT, patience) else {
+                return Err(WorldError::Failed);
+            };
+            if !has_come {
                 break;
             }
             self.read(rt)?;

@@ -2,7 +2,7 @@
 //!
 //! In reading order: the first bytes of what comes piece by piece (`kept`), lines of bytes (`lines`), standard
 //! input (`ready`, `input`), one check program from its start to its report (`exit`, `program`), the orders that
-//! have no report yet (`running`, `reports`), and the world (`live_world`).
+//! have no report yet (`running`, `waiting`, `reports`), and the world (`live_world`).
 #![tactic(auto)]
 
 mod exit;
@@ -14,6 +14,7 @@ mod program;
 mod ready;
 mod reports;
 mod running;
+mod waiting;
 
 pub use lines::lines_are_read;
 pub use live_world::LiveWorld;

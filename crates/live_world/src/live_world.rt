@@ -1,11 +1,12 @@
 // The real world.
-ghost use Rattle.std.specs.Prelude.{◌≡◌, ◌≤◌, ◌++◌, ◌∷◌, [], None, OnOk, OnErr, IfOk, IfSome, IsErrOf, IsPermutation, ◌⊎◌};
+ghost use Rattle.std.specs.Prelude.{◌≡◌, ◌≤◌, ◌++◌, ◌∷◌, [], None, OnOk, OnErr, IfOk, IfSome, IfNone, IsTrue, IsErrOf, IsPermutation, ◌⊎◌, vec_len};
 ghost use Rattle.site_edge.specs.Told.{Rose};
 ghost use Rattle.live_world.specs.Turns.{IsSecondLater, numbers, reported, ordered, StartsPart};
 
 use crate::input::InputLines;
 use crate::reports::split_off_reports;
 use crate::running::Running;
+use crate::waiting::start_waiting;
 use site_base::{Moment, OutOfMemory, Row};
 use site_edge::{Order, Report, Turn, World, WorldError};
 use std::mem;
@@ -27,10 +28,10 @@ const TURN: u64 = 1;
 /// without its report.
 ///
 /// Of a line and of a program's output at most 65,536 bytes are kept, and no part of a character. A program that can't be run, or that a
-/// signal ends, is reported with status 3. If there is no room for one more program, it is tried again until there is. A program has
-/// no time limit.
+/// signal ends, is reported with status 3. If there is no room for one more thread or program, it is tried again once a second until there
+/// is, and turns go on. A program has no time limit.
 ///
-/// `next` is `Failed` if the clock or standard input can't be read, and if the clock shows a moment past the greatest one.
+/// `next` is `Failed` if the clock or standard input can't be read or waited for, and if the clock shows a moment past the greatest one.
 /// `start` is never `Failed`.
 #[derive(Drop)]
 pub struct LiveWorld<T: Threads + Drop> {
@@ -61,6 +62,16 @@ impl<T: Threads + Drop> LiveWorld<T> {
         })
     }
 
+    /// How many orders wait until there is room: descriptors, processes, threads or memory.
+    pub fn waiting(&self) -> usize {
+        self.running.iter().filter(|order| order.waits()).count()
+    }
+
+    /// Whether standard input has ended.
+    pub fn has_ended(&self) -> bool {
+        self.input.has_ended()
+    }
+
     /// Counts an error.
     fn counted<A>(&mut self, answer: Result<A, WorldError>) -> Result<A, WorldError>
         ensures same { result ≡ answer }
@@ -75,15 +86,18 @@ impl<T: Threads + Drop> LiveWorld<T> {
     }
 
     /// The next turn.
+    #[tactic(auto, using(crate::proofs::Splits::split_again))]
     fn turn(&mut self) -> Result<Option<Turn>, WorldError>
         ensures second { IfOk result (λ t. IfSome t (λ _. IsSecondLater self.old.last self.new.last)) }
         ensures reports { IfOk result (λ t. IfSome t (λ turn. IsPermutation (numbers self.old.running.items) (reported turn.reports ++ numbers self.new.running.items))) }
+        ensures over { IfOk result (λ t. IfNone t (IsTrue self.new.input.has_ended × (vec_len self.new.running ≡ 0))) }
         ensures faults { self.new.faults ≡ self.old.faults }
     {
         let Some(now) = self.await_turn()? else {
             return Ok(None);
         };
         let moment = self.moment_at(now)?;
+        self.start_waiting()?;
         let reports = self.take_reports()?;
         let lines = self.input.take();
         self.last = Some(now);
@@ -99,6 +113,7 @@ impl<T: Threads + Drop> LiveWorld<T> {
     #[tactic(auto, using(crate::proofs::Seconds::second_later))]
     fn await_turn(&mut self) -> Result<Option<Instant>, WorldError>
         ensures second { IfOk result (λ now. IsSecondLater self.old.last now) }
+        ensures over { IfOk result (λ now. IfNone now (IsTrue self.new.input.has_ended × (vec_len self.new.running ≡ 0))) }
         ensures running { self.new.running ≡ self.old.running }
         ensures faults { self.new.faults ≡ self.old.faults }
     {
@@ -138,6 +153,17 @@ impl<T: Threads + Drop> LiveWorld<T> {
             Err(_) => 0,
         };
         Moment::of(secs).ok_or(WorldError::Failed)
+    }
+
+    /// Tries again to start the orders that wait for a thread.
+    fn start_waiting(&mut self) -> Result<(), OutOfMemory>
+        ensures ok { OnOk result (numbers self.new.running.items ≡ numbers self.old.running.items) }
+        ensures last { self.new.last ≡ self.old.last }
+        ensures faults { self.new.faults ≡ self.old.faults }
+    {
+        let running = mem::replace(&mut self.running, Vec::new(self.rt.alloc()));
+        self.running = start_waiting(&self.rt, &self.threads, running)?;
+        Ok(())
     }
 
     /// Takes the reports that are there.

@@ -3,7 +3,7 @@ ghost use Rattle.std.specs.Prelude.{◌≡◌, ◌≤◌, IfOk, IfSome, length};
 
 use crate::exit::{UNKNOWN, report_status};
 use crate::kept::{Kept, MOST_KEPT};
-use crate::ready::is_ready;
+use crate::ready::{PollFailed, is_ready};
 use site_base::{OutOfMemory, Text};
 use site_edge::{Order, Report};
 use std::alloc::Global;
@@ -11,6 +11,7 @@ use std::io::{ErrorKind, PipeReader, Read};
 use std::os::fd::AsRawFd;
 use std::os::unix::process::ExitStatusExt;
 use std::process::{Child, Command, ExitStatus, Stdio};
+use std::sync::atomic::{AtomicBool, Ordering};
 use std::time::Duration;
 use std::{env, io, mem, thread};
 
@@ -35,14 +36,14 @@ struct Program {
 /// Its standard input is empty. Its output is what it writes to standard output and to standard error, in the order in which
 /// it comes, of which the first 65,536 bytes are kept; the rest is read too, so that the program ends as it would. The
 /// report comes once the program has ended and all that it wrote was read: what it left running in the background is not
-/// waited for.
-pub fn report_of(rt: &HostRuntime, order: &Order) -> Result<Report, OutOfMemory>
+/// waited for. While there is no room for it, the flag `waits` is set.
+pub fn report_of(rt: &HostRuntime, order: &Order, waits: &AtomicBool) -> Result<Report, OutOfMemory>
     ensures { IfOk result (λ report. report.order ≡ order.now.number) }
 {
     let alloc = rt.alloc();
     let mut output = Kept::new(alloc);
-    let status = match started_with_room(rt, order.argv.as_slice()) {
-        Ok(program) => ended(alloc, program, &mut output)?,
+    let status = match started_with_room(rt, order.argv.as_slice(), waits) {
+        Ok(program) => ended(rt, program, &mut output)?,
         Err(error) => {
             let message = format!(in alloc; "can't be run: {error}")?;
             output.extend(message.as_bytes())?;
@@ -57,11 +58,17 @@ pub fn report_of(rt: &HostRuntime, order: &Order) -> Result<Report, OutOfMemory>
 }
 
 /// Starts a program. If there is no room for one more, it is tried again until there is: that is no fault of the program.
-fn started_with_room(rt: &HostRuntime, argv: &[Text]) -> io::Result<Program> {
+fn started_with_room(rt: &HostRuntime, argv: &[Text], waits: &AtomicBool) -> io::Result<Program> {
     for _ in 0..u64::MAX {
         match started(rt, argv) {
-            Err(error) if wants_room(&error) => thread::sleep(rt, Duration::from_secs(PATIENCE)),
-            answer => return answer,
+            Err(error) if wants_room(&error) => {
+                waits.store(true, Ordering::SeqCst);
+                thread::sleep(rt, Duration::from_secs(PATIENCE));
+            }
+            answer => {
+                waits.store(false, Ordering::SeqCst);
+                return answer;
+            }
         }
     }
     started(rt, argv)
@@ -100,12 +107,13 @@ fn started(rt: &HostRuntime, argv: &[Text]) -> io::Result<Program> {
 }
 
 /// Waits until a program has ended. Of want of memory it is told only then, so that no child is left behind.
-fn ended(alloc: Global, program: Program, kept: &mut Kept) -> Result<u8, OutOfMemory> {
+fn ended(rt: &HostRuntime, program: Program, kept: &mut Kept) -> Result<u8, OutOfMemory> {
+    let alloc = rt.alloc();
     let Program {
         mut child,
         mut output,
     } = program;
-    let read = read_output(&mut child, &mut output, kept);
+    let read = read_output(rt, &mut child, &mut output, kept);
     drop(output);
     let status = child.wait();
     read?;
@@ -125,6 +133,7 @@ fn ended(alloc: Global, program: Program, kept: &mut Kept) -> Result<u8, OutOfMe
 /// Reads a program's output to its end; where something else holds it open once the program has ended, all that the
 /// program wrote, which is no more than a pipe takes.
 fn read_output(
+    rt: &HostRuntime,
     child: &mut Child,
     output: &mut PipeReader,
     kept: &mut Kept,
@@ -134,7 +143,7 @@ fn read_output(
     for _ in 0..u64::MAX {
         let has_ended = !matches!(child.try_wait(), Ok(None));
         let patience = Duration::from_secs(if has_ended { 0 } else { PATIENCE });
-        if is_ready(output.as_raw_fd(), patience) {
+        if has_come(rt, output, patience) {
             let Some(count) = read_some(output, &mut chunk) else {
                 break;
             };
@@ -150,6 +159,17 @@ fn read_output(
         }
     }
     Ok(())
+}
+
+/// Whether a read of a program's output will not wait, which is waited for so long at most. If the system can't be asked, nothing has come.
+fn has_come(rt: &HostRuntime, output: &PipeReader, most: Duration) -> bool {
+    match is_ready(output.as_raw_fd(), most) {
+        Ok(is_ready) => is_ready,
+        Err(PollFailed) => {
+            thread::sleep(rt, most);
+            false
+        }
+    }
 }
 
 /// Reads some bytes; `None` at the end, and where a read fails.

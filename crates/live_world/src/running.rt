@@ -1,7 +1,7 @@
 // Orders that have no report yet.
-ghost use Rattle.std.specs.Prelude.{◌≡◌, IfOk, IfSome};
+ghost use Rattle.std.specs.Prelude.{◌≡◌, IfOk, IsTrue};
 ghost use Rattle.std.proofs.Props.{props};
-ghost use Rattle.live_world.specs.Progress.{order_of};
+ghost use Rattle.live_world.specs.Progress.{order_of, HasThread};
 
 use crate::program::report_of;
 use site_base::OutOfMemory;
@@ -26,25 +26,63 @@ impl Promise<Answer> for ReportOf {
     ghost kept_by = { λ p answer. IfOk answer (λ report. report.order ≡ p.0) };
 }
 
+/// What the thread of an order tells while it is at work.
+#[derive(Drop)]
+pub struct Signs {
+    /// There is no room for its program.
+    waits: AtomicBool,
+    has_report: AtomicBool,
+}
+
 /// How far an order is.
 #[derive(Drop)]
 pub enum Progress {
-    /// A thread runs its program, and sets the flag once it has a report.
-    Thread(Arc<AtomicBool>, PromisedHandle<Answer, ReportOf>),
-    /// Its program has run.
-    Over(Answer),
+    /// There is no room for a thread.
+    Waiting(Order),
+    /// A thread runs its program.
+    Thread(Arc<Signs>, PromisedHandle<Answer, ReportOf>),
 }
 
-/// An order that was started and whose report wasn't handed on.
+impl Progress {
+    /// Has a thread run an order's program. If none can be started, the order waits, and nothing is run.
+    fn of<T: Threads>(rt: &HostRuntime, threads: &T, order: &Order) -> Result<Progress, OutOfMemory>
+        ensures { IfOk result (λ progress. order_of progress ≡ order.now.number) }
+    {
+        let theirs = order.clone()?;
+        let handle = rt.clone()?;
+        let signs = Arc::new(
+            rt.alloc(),
+            Signs {
+                waits: AtomicBool::new(false),
+                has_report: AtomicBool::new(false),
+            },
+        )?;
+        let told = Arc::try_clone(&signs)?;
+        let run = move || {
+            let answer = report_of(&handle, &theirs, &told.waits);
+            told.has_report.store(true, Ordering::SeqCst);
+            answer
+        };
+        let started = Builder::new()
+            .stack_size(STACK)
+            .spawn_with(threads, ReportOf(order.number), run);
+        Ok(match started {
+            Ok(thread) => Progress::Thread(signs, thread),
+            Err(_) => Progress::Waiting(order.clone()?),
+        })
+    }
+}
+
+/// An order that was given and whose report wasn't handed on.
 #[derive(Drop)]
 pub struct Running {
     number: u64,
     progress: Progress,
-    ghost own: { IfSome (order_of progress) (λ n. n ≡ number) } by { Prim.hlevel props },
+    ghost own: { order_of progress ≡ number } by { Prim.hlevel props },
 }
 
 impl Running {
-    /// Starts an order: a thread runs its program. Where no thread can be started, it is run here and waited for.
+    /// Starts an order, or has it wait if there is no room for a thread.
     pub fn start<T: Threads>(
         rt: &HostRuntime,
         threads: &T,
@@ -52,36 +90,50 @@ impl Running {
     ) -> Result<Running, OutOfMemory>
         ensures { IfOk result (λ r. r.number ≡ order.now.number) }
     {
-        let number = order.number;
-        let theirs = order.clone()?;
-        let handle = rt.clone()?;
-        let has_report = Arc::new(rt.alloc(), AtomicBool::new(false))?;
-        let told = Arc::try_clone(&has_report)?;
-        let run = move || {
-            let answer = report_of(&handle, &theirs);
-            told.store(true, Ordering::SeqCst);
-            answer
-        };
-        let progress = match Builder::new()
-            .stack_size(STACK)
-            .spawn_with(threads, ReportOf(number), run)
-        {
-            Ok(thread) => Progress::Thread(has_report, thread),
-            Err(refused) => Progress::Over((refused.value)()),
+        Ok(Running {
+            number: order.number,
+            progress: Progress::of(rt, threads, order)?,
+        })
+    }
+
+    /// Tries again to start an order that waits for a thread.
+    pub fn again<T: Threads>(self, rt: &HostRuntime, threads: &T) -> Result<Running, OutOfMemory>
+        ensures { IfOk result (λ r. r.number ≡ self.number) }
+    {
+        let Running { number, progress } = self;
+        let progress = match progress {
+            Progress::Waiting(order) => Progress::of(rt, threads, &order)?,
+            Progress::Thread(signs, thread) => Progress::Thread(signs, thread),
         };
         Ok(Running { number, progress })
     }
 
-    /// Whether its report can be taken without waiting for its program.
-    pub fn has_report(&self) -> bool {
+    /// Whether there is no room for its thread or its program.
+    pub fn waits(&self) -> bool {
         match &self.progress {
-            Progress::Thread(has_report, _) => has_report.load(Ordering::SeqCst),
-            Progress::Over(_) => true,
+            Progress::Waiting(_) => true,
+            Progress::Thread(signs, _) => signs.waits.load(Ordering::SeqCst),
         }
     }
 
-    /// Its report, once there is one.
+    /// Whether there is no room for its thread.
+    pub fn waits_for_thread(&self) -> bool {
+        matches!(&self.progress, Progress::Waiting(_))
+    }
+
+    /// Whether its report can be taken without waiting for its program.
+    pub fn has_report(&self) -> bool
+        ensures { IsTrue result → HasThread self.now.progress }
+    {
+        match &self.progress {
+            Progress::Waiting(_) => false,
+            Progress::Thread(signs, _) => signs.has_report.load(Ordering::SeqCst),
+        }
+    }
+
+    /// Its report, which its thread gives.
     pub fn report<T: Threads>(self, threads: &T) -> Result<Report, OutOfMemory>
+        requires { HasThread self.progress }
         ensures { IfOk result (λ report. report.order ≡ self.number) }
     {
         let Running {
@@ -89,8 +141,8 @@ impl Running {
             progress,
         } = self;
         match progress {
+            Progress::Waiting(_) => unreachable!(),
             Progress::Thread(_, thread) => thread.join(threads),
-            Progress::Over(answer) => answer,
         }
     }
 }
