@@ -6,7 +6,7 @@
 #
 # usage: bench/faults.sh [--program FILE] [--allocator FILE] [SECTION ..]
 #
-# A section is output, files, limits or calls; without one all are run. The limits of memory are tried with the C library's allocator, and with
+# A section is output, files, room, limits or calls; without one all are run. The limits of memory are tried with the C library's allocator, and with
 # mimalloc if it is installed or named. It takes gcc for the calls, and root for a full disk, reads that are
 # refused and a limit of processes. It prints a line for each section, and above it each run that was otherwise, and ends with 1 if there is one.
 set -u
@@ -125,7 +125,7 @@ BY_NUMBER(posix_spawn, (pid_t *restrict child, const char *restrict path, const 
 C
 cp -r "$top/examples/site" "$room/realistic"
 cd "$room" || exit 1
-python3 - "$program" "$allocator" "$@" <<'PYTHON'
+python3 - "$program" "$top/packaging/icinga_site.sh" "$allocator" "$@" <<'PYTHON'
 import concurrent.futures
 import errno
 import os
@@ -138,7 +138,7 @@ import sys
 import tempfile
 import time
 
-program, allocator, *sections = sys.argv[1:]
+program, wrapper, allocator, *sections = sys.argv[1:]
 SECONDS = 30
 NOBODY = 65534
 LAST = 2**64 - 1
@@ -169,6 +169,7 @@ FILES = {
     + "turn 12\n",
     "query": "GET hosts\nColumns: name state\n",
     "touch": 'object CheckCommand "c" { command = [ "touch", "touched" ] }\nobject Host "h0" { check_command = "c" }\n',
+    "hanging": 'object CheckCommand "c" { command = "exec sleep 30" }\nfor (i in range(3)) { object Host "h" + i { check_command = "c" } }\n',
     "live": 'object CheckCommand "c" { command = "echo fine; sleep 0.2" }\nfor (i in range(3)) { object Host "h" + i { check_command = "c"; check_interval = 1; retry_interval = 1 } }\n',
 }
 WORDS = {
@@ -202,8 +203,9 @@ counts = {}
 tried = failed = 0
 
 
-def run(what, words, stdout=subprocess.PIPE, limits=(), user=None, env=(), stdin=None, close=()):
-    """The status, the output and what is said on standard error of a run. A daemon that waits for descriptors, processes or memory gets some in the end."""
+def run(what, words, stdout=subprocess.PIPE, limits=(), user=None, env=(), stdin=None, close=(), wrapped=False):
+    """The status, the output and what is said on standard error of a run. A daemon that waits for descriptors, processes or memory gets some in the end.
+    A wrapped one is started as the package does it."""
 
     def become():
         if user is not None:
@@ -214,8 +216,8 @@ def run(what, words, stdout=subprocess.PIPE, limits=(), user=None, env=(), stdin
     def prepare():
         for limit, most in limits:
             resource.setrlimit(limit, (most, resource.getrlimit(limit)[1]))
-        # (a file that grows beyond its limit is a signal first, and an error if that is ignored)
-        signal.signal(signal.SIGXFSZ, signal.SIG_IGN)
+        # (a file that grows beyond its limit is a signal first, and an error if that is ignored, which the package sees to)
+        signal.signal(signal.SIGXFSZ, signal.SIG_DFL if wrapped else signal.SIG_IGN)
         for file in close:
             os.close(file)
         become()
@@ -223,11 +225,11 @@ def run(what, words, stdout=subprocess.PIPE, limits=(), user=None, env=(), stdin
     more = ((resource.RLIMIT_NOFILE, "nofile=1000"), (resource.RLIMIT_NPROC, "nproc=1000"), (resource.RLIMIT_AS, "as=unlimited"))
     room = [most for limit, most in more if what in LIVE and limit in dict(limits)]
     started = subprocess.Popen(
-        [program, *words.split()],
+        [wrapper if wrapped else program, *words.split()],
         stdin=subprocess.PIPE if stdin is None else stdin,
         stdout=stdout,
         stderr=subprocess.PIPE,
-        env={"PATH": os.environ["PATH"], "TZ": "UTC", **dict(env)},
+        env={"PATH": os.environ["PATH"], "TZ": "UTC", "ICINGA_SITE_PROGRAM": program, **dict(env)},
         preexec_fn=prepare,
     )
     try:
@@ -375,6 +377,12 @@ def outputs():
             out += some
         os.close(read)
         expect(what, (got[0], out, got[2]), 4 if len(right(what)[1]) > 65536 else right(what)[0], "a pipe that doesn't block")
+    # The same limit for a program that is started as the package does it: no signal ends it.
+    for what in ("objects", "replay", "daemon"):
+        with tempfile.TemporaryFile() as file:
+            got = run(what, WORDS[what], stdout=file, limits=[(resource.RLIMIT_FSIZE, 100)], wrapped=True)
+            file.seek(0)
+            expect(what, (got[0], file.read(), got[2]), 4, "a file of 100 bytes at most, as the package starts it")
     # If the lines of a turn can't be written, none of its checks is started.
     with open("/dev/full", "wb") as full:
         expect("daemon", run("daemon", "daemon touch", stdout=full), 4, "/dev/full, with a check that leaves a file")
@@ -505,9 +513,8 @@ def limits():
         print("a limit of processes isn't tried: it takes root")
 
 
-# Calls whose lasting want a daemon waits out: a check waits until there is room for its program, and without poll it never learns that standard
-# input has ended.
-WAITED_OUT = ("pipe2", "fcntl", "poll", "posix_spawn")
+# Calls whose lasting want a daemon waits out: a check waits until there is room for its thread and its program.
+WAITED_OUT = ("pipe2", "fcntl", "posix_spawn", "pthread_create")
 
 # Of each call with which errors it fails, and the statuses that may come of it.
 CALLS = {
@@ -542,8 +549,69 @@ def counted(what, call, error, first, last):
             return got, struct.unpack("Q", file.read())[0]
 
 
+def makes_calls_fail():
+    """Builds what makes calls fail, if there is gcc."""
+    return os.path.exists("fail.so") or not subprocess.run(["gcc", "-O2", "-shared", "-fPIC", "-w", "-o", "fail.so", "fail.c"]).returncode
+
+
+def turns_of(out):
+    return sum(line.startswith(b"turn ") for line in out.split(b"\n"))
+
+
+def held(words, call, error, first, last, seconds):
+    """How a daemon of which these calls fail stands after so many seconds, a second after whose beginning its input ends; then it is killed."""
+    with tempfile.NamedTemporaryFile(dir=".") as count, tempfile.TemporaryFile() as log, tempfile.TemporaryFile() as errors:
+        count.write(bytes(8))
+        count.flush()
+        env = {"LD_PRELOAD": f"{os.getcwd()}/fail.so", "FAIL_COUNT": f"{os.getcwd()}/{os.path.basename(count.name)}", "FAIL_CALL": call}
+        env |= {"FAIL_FROM": str(first), "FAIL_TO": str(last), "FAIL_ERROR": str(error)}
+        started = subprocess.Popen([program, *words.split()], stdin=subprocess.PIPE, stdout=log, stderr=errors, env={"PATH": os.environ["PATH"], "TZ": "UTC", **env})
+        time.sleep(1.5)
+        started.stdin.close()
+        try:
+            status = started.wait(seconds)
+        except subprocess.TimeoutExpired:
+            started.kill()
+            started.wait()
+            status = None
+        log.seek(0)
+        errors.seek(0)
+        return status, log.read(), errors.read()
+
+
+def rooms():
+    """A want of threads or programs holds up no turn, and is told if it lasts; nothing that hangs is waited for in the place of a turn."""
+    global tried, failed
+    if not makes_calls_fail():
+        print("a want of threads isn't tried: it takes gcc")
+        return
+    want = "icinga_site: checks have waited ten seconds for descriptors, processes, threads or memory: "
+    end = "icinga_site: standard input has ended, and checks are waited for: "
+    no_room = "icinga_site: no check waits for room any more"
+    cases = [
+        # (what fails, of which calls, for how long, how it ends, and what is told)
+        ("hanging", "pthread_create", errno.EAGAIN, 1, LAST, 14, None, [want + "3", end + "0 run, and 3 wait for room"]),
+        ("hanging", "pthread_create", errno.EAGAIN, 2, LAST, 14, None, [want + "2", end + "1 run, and 2 wait for room"]),
+        ("hanging", "posix_spawn", errno.EAGAIN, 1, LAST, 14, None, [want + "3", end + "0 run, and 3 wait for room"]),
+        ("hanging", "pthread_create", 0, LAST, LAST, 14, None, [end + "3 run, and 0 wait for room"]),
+        ("live", "pthread_create", errno.EAGAIN, 1, 6, 14, 0, []),
+        ("live", "pthread_create", errno.EAGAIN, 1, 16, 20, 0, [want + "3", end + "0 run, and 3 wait for room", no_room]),
+        ("live", "poll", errno.ENOMEM, 1, LAST, 14, 5, ["icinga_site: WorldFault"]),
+        ("live", "poll", errno.EINVAL, 3, LAST, 14, 5, ["icinga_site: WorldFault"]),
+    ]
+    answers = spread([lambda it=it: held(f"daemon {it[0]} --log 2", *it[1:6]) for it in cases])
+    for (site, call, error, first, last, seconds, status, told), got in zip(cases, answers):
+        tried += 1
+        counts[got[0]] = counts.get(got[0], 0) + 1
+        said = got[2].decode(errors="replace").splitlines()
+        # (who is killed had a turn each second)
+        if got[0] != status or said != told or not is_log(got[1], status == 0) or status is None and turns_of(got[1]) < seconds - 2:
+            failed += 1
+            print(f"{site}, {call} {first} to {last}: it ends with {got[0]} after {turns_of(got[1])} turns", f"  said: {said}", f"  log: {got[1][-300:]!r}", sep="\n")
+
+
 def calls():
-    if subprocess.run(["gcc", "-O2", "-shared", "-fPIC", "-w", "-o", "fail.so", "fail.c"]).returncode:
+    if not makes_calls_fail():
         print("the calls aren't tried: it takes gcc")
         return
     for what in WORDS:
@@ -572,6 +640,7 @@ def calls():
 
 section("output", outputs)
 section("files", files)
+section("room", rooms)
 section("limits", limits)
 section("calls", calls)
 print(f"{tried} runs, {failed} not as they should be")

@@ -6,6 +6,7 @@ ghost use Rattle.live_world.specs.Turns.{IsSecondLater, numbers, reported, order
 use crate::input::InputLines;
 use crate::reports::split_off_reports;
 use crate::running::Running;
+use crate::telling::Telling;
 use crate::waiting::start_waiting;
 use site_base::{Moment, OutOfMemory, Row};
 use site_edge::{Order, Report, Turn, World, WorldError};
@@ -29,7 +30,8 @@ const TURN: u64 = 1;
 ///
 /// Of a line and of a program's output at most 65,536 bytes are kept, and no part of a character. A program that can't be run, or that a
 /// signal ends, is reported with status 3. If there is no room for one more thread or program, it is tried again once a second until there
-/// is, and turns go on. A program has no time limit.
+/// is, and turns go on. If that lasts, standard error says so, and if the end of standard input is long past and programs still run. A program has
+/// no time limit.
 ///
 /// `next` is `Failed` if the clock or standard input can't be read or waited for, and if the clock shows a moment past the greatest one.
 /// `start` is never `Failed`.
@@ -43,6 +45,7 @@ pub struct LiveWorld<T: Threads + Drop> {
     /// The moment of the last turn.
     moment: Moment,
     faults: u64,
+    telling: Telling,
 }
 
 impl<T: Threads + Drop> LiveWorld<T> {
@@ -59,17 +62,8 @@ impl<T: Threads + Drop> LiveWorld<T> {
             last: None,
             moment: Moment::of(0).unwrap(),
             faults: 0,
+            telling: Telling::new(),
         })
-    }
-
-    /// How many orders wait until there is room: descriptors, processes, threads or memory.
-    pub fn waiting(&self) -> usize {
-        self.running.iter().filter(|order| order.waits()).count()
-    }
-
-    /// Whether standard input has ended.
-    pub fn has_ended(&self) -> bool {
-        self.input.has_ended()
     }
 
     /// Counts an error.
@@ -93,6 +87,7 @@ impl<T: Threads + Drop> LiveWorld<T> {
         ensures over { IfOk result (λ t. IfNone t (IsTrue self.new.input.has_ended × (vec_len self.new.running ≡ 0))) }
         ensures faults { self.new.faults ≡ self.old.faults }
     {
+        self.tell();
         let Some(now) = self.await_turn()? else {
             return Ok(None);
         };
@@ -107,6 +102,18 @@ impl<T: Threads + Drop> LiveWorld<T> {
             reports,
             lines,
         }))
+    }
+
+    /// Tells on standard error if checks are held up.
+    fn tell(&mut self)
+        ensures running { self.new.running ≡ self.old.running }
+        ensures last { self.new.last ≡ self.old.last }
+        ensures faults { self.new.faults ≡ self.old.faults }
+    {
+        let waiting = self.running.iter().filter(|order| order.waits()).count();
+        let running = self.running.len().saturating_sub(waiting);
+        self.telling
+            .take(&self.rt, running, waiting, self.input.has_ended());
     }
 
     /// Waits for the next turn, and gives the time at which it comes.
