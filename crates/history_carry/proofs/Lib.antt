@@ -1,0 +1,4 @@
+pub mod Ascending
+pub mod Filtered
+pub mod Lawful
+pub mod Making

@@ -1,0 +1,5 @@
+pub mod Ascending
+pub mod Moves
+pub mod Entries
+pub mod Carried
+pub mod Examples
