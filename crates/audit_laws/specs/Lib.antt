@@ -1,0 +1,17 @@
+pub mod Types
+pub mod Versions
+pub mod Reports
+pub mod Rereported
+pub mod Names
+pub mod Commits
+pub mod Askable
+pub mod Telling
+pub mod Refilled
+pub mod Orders
+pub mod Retaken
+pub mod Kinds
+pub mod Heard
+pub mod ToldTurns
+pub mod Untold
+pub mod Alike
+pub mod Examples
