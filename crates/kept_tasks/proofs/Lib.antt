@@ -1,0 +1,9 @@
+pub mod Seen
+pub mod Reading
+pub mod Told
+pub mod Numbers
+pub mod Items
+pub mod Instances
+pub mod Pairs
+pub mod Groups
+pub mod Members
