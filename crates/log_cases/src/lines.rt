@@ -61,14 +61,35 @@ fn push_order(
     if checkable as usize >= site.checkables.len() {
         return out.push_str("no such checkable");
     }
-    if !has_words {
-        let name = words.next().unwrap_or("");
-        let line = print_missing(alloc, order, checkable, name, site)?;
-        return push_marked(out, line.as_str());
+    if has_words {
+        push_in_one(alloc, out, order, checkable, site)?;
+        out.push_str("  and  ")?;
+        push_in_two(alloc, out, order, checkable, words, site)
+    } else {
+        push_missing(
+            alloc,
+            out,
+            order,
+            checkable,
+            words.next().unwrap_or(""),
+            site,
+        )
     }
-    push_in_one(alloc, out, order, checkable, site)?;
-    out.push_str("  and  ")?;
-    push_in_two(alloc, out, order, checkable, words, site)
+}
+
+/// Adds an order of which a macro is missing.
+fn push_missing(
+    alloc: Global,
+    out: &mut Text,
+    order: u64,
+    checkable: u32,
+    name: &str,
+    site: &Site,
+) -> Result<(), OutOfMemory>
+    requires { checkable < length site.now.checkables }
+{
+    let line = print_missing(alloc, order, checkable, name, site)?;
+    push_marked(out, line.as_str())
 }
 
 /// Adds an order as version one has it.
@@ -105,7 +126,8 @@ fn push_in_two(
 fn texts_of(alloc: Global, words: &mut SplitWhitespace<'_>) -> Result<Texts, OutOfMemory> {
     let mut texts = Texts::new(alloc);
     for word in words {
-        texts.push(Text::copy_of(alloc, word)?)?;
+        let text = Text::copy_of(alloc, word)?;
+        texts.push(text)?;
     }
     Ok(texts)
 }

@@ -38,9 +38,22 @@ fn write_rows(rt: &HostRuntime, site: &Site, names: &SiteNames<'_>) -> anyhow::R
     requires { names_view names.now ≡ names_of (site_view site.now) }
 {
     for line in BufReader::new(rt.alloc(), rt.reader())?.lines(rt.alloc()) {
-        let told = told(rt.alloc(), line?.as_str(), site, names)?;
-        println!(rt; "{}", told.as_str())?;
+        write_told(rt, line?.as_str(), site, names)?;
     }
+    Ok(())
+}
+
+/// Writes a line, with the answer behind it if it is a row.
+fn write_told(
+    rt: &HostRuntime,
+    line: &str,
+    site: &Site,
+    names: &SiteNames<'_>,
+) -> anyhow::Result<()>
+    requires { names_view names.now ≡ names_of (site_view site.now) }
+{
+    let told = told(rt.alloc(), line, site, names)?;
+    rt.println(told.as_str())?;
     Ok(())
 }
 

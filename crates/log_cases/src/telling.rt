@@ -1,6 +1,6 @@
 // Entries, field by field, in other words than those of a log.
 use site_base::{OutOfMemory, Text, push_quoted};
-use site_model::{Entry, Event, NoteKind, Outcome, State};
+use site_model::{Decision, Entry, Event, NoteKind, Outcome, Sight, State};
 
 /// Adds the place of the checkable, and the entry.
 pub(crate) fn push_entry(out: &mut Text, checkable: u32, entry: &Entry) -> Result<(), OutOfMemory> {
@@ -29,20 +29,28 @@ fn push_state(out: &mut Text, entry: &Entry) -> Result<(), OutOfMemory> {
 
 fn push_sights(out: &mut Text, entry: &Entry) -> Result<(), OutOfMemory> {
     for sight in entry.sights.as_slice() {
-        push_number(out, "; saw ", sight.count)?;
-        push_number(out, " of ", u64::from(sight.checkable))?;
+        push_sight(out, sight)?;
     }
     Ok(())
 }
 
+fn push_sight(out: &mut Text, sight: &Sight) -> Result<(), OutOfMemory> {
+    push_number(out, "; saw ", sight.count)?;
+    push_number(out, " of ", u64::from(sight.checkable))
+}
+
 fn push_decisions(out: &mut Text, entry: &Entry) -> Result<(), OutOfMemory> {
     for decision in entry.decisions.as_slice() {
-        push_number(out, "; on ", u64::from(decision.notification))?;
-        out.push(' ')?;
-        out.push_str(kind_name(decision.kind))?;
-        push_outcome(out, &decision.outcome)?;
+        push_decision(out, decision)?;
     }
     Ok(())
+}
+
+fn push_decision(out: &mut Text, decision: &Decision) -> Result<(), OutOfMemory> {
+    push_number(out, "; on ", u64::from(decision.notification))?;
+    out.push(' ')?;
+    out.push_str(kind_name(decision.kind))?;
+    push_outcome(out, &decision.outcome)
 }
 
 fn push_number(out: &mut Text, name: &str, number: u64) -> Result<(), OutOfMemory> {
@@ -55,6 +63,12 @@ fn push_flag(out: &mut Text, name: &str, flag: bool) -> Result<(), OutOfMemory> 
     out.push_str(if flag { "yes" } else { "no" })
 }
 
+/// Adds a quoted text behind a blank.
+fn push_word(out: &mut Text, text: &str) -> Result<(), OutOfMemory> {
+    out.push(' ')?;
+    push_quoted(out, text)
+}
+
 fn push_event(out: &mut Text, event: &Event) -> Result<(), OutOfMemory> {
     match event {
         Event::Result {
@@ -65,10 +79,8 @@ fn push_event(out: &mut Text, event: &Event) -> Result<(), OutOfMemory> {
         } => {
             push_number(out, "a result, status ", u64::from(*status))?;
             push_flag(out, ", passive ", *passive)?;
-            out.push(' ')?;
-            push_quoted(out, output.as_str())?;
-            out.push(' ')?;
-            push_quoted(out, perf.as_str())
+            push_word(out, output.as_str())?;
+            push_word(out, perf.as_str())
         }
         Event::Tick => out.push_str("the clock"),
         Event::Ack { sticky, notify } => {
@@ -109,24 +121,36 @@ fn push_outcome(out: &mut Text, outcome: &Outcome) -> Result<(), OutOfMemory> {
     match outcome {
         Outcome::Sent { users } => {
             out.push_str(": goes to")?;
-            for user in users.as_slice() {
-                push_number(out, " user ", u64::from(*user))?;
-            }
-            Ok(())
+            push_users(out, users.as_slice())
         }
         Outcome::Dependency { depend } => push_number(out, ": dependency ", u64::from(*depend)),
         Outcome::Host { checkable } => push_number(out, ": host ", u64::from(*checkable)),
         Outcome::Downtime { number } => push_number(out, ": in downtime ", *number),
-        Outcome::Disabled => out.push_str(": off"),
-        Outcome::Flapping => out.push_str(": it flaps"),
-        Outcome::Acknowledged => out.push_str(": it is acknowledged"),
-        Outcome::Period => out.push_str(": outside its period"),
-        Outcome::Kind => out.push_str(": not this kind"),
-        Outcome::State => out.push_str(": not this state"),
-        Outcome::TooEarly => out.push_str(": too young"),
-        Outcome::TooLate => out.push_str(": too old"),
-        Outcome::Repeat => out.push_str(": told before"),
-        Outcome::NoUsers => out.push_str(": nobody takes it"),
+        other => out.push_str(reason(other)),
+    }
+}
+
+fn push_users(out: &mut Text, users: &[u32]) -> Result<(), OutOfMemory> {
+    for user in users {
+        push_number(out, " user ", u64::from(*user))?;
+    }
+    Ok(())
+}
+
+/// Why nobody was told, if that is all that there is to say.
+fn reason(outcome: &Outcome) -> &'static str {
+    match outcome {
+        Outcome::Disabled => ": off",
+        Outcome::Flapping => ": it flaps",
+        Outcome::Acknowledged => ": it is acknowledged",
+        Outcome::Period => ": outside its period",
+        Outcome::Kind => ": not this kind",
+        Outcome::State => ": not this state",
+        Outcome::TooEarly => ": too young",
+        Outcome::TooLate => ": too old",
+        Outcome::Repeat => ": told before",
+        Outcome::NoUsers => ": nobody takes it",
+        _ => ": another outcome",
     }
 }
 
