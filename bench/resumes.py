@@ -97,7 +97,7 @@ def cut_rows(program, rows, workers):
     waiting = []
     for table in sorted(os.listdir(rows.DATA)):
         for row, _, named in rows.rows_of(table):
-            case = rows.case_of(row, named) if row.startswith(("run replay r s ", "replay ")) else None
+            case = rows.case_of(row, named, None) if row.startswith(("run replay r s ", "replay ")) else None
             if case is not None and {"r", "s"} <= set(case[1]):
                 waiting.append(workers.submit(cut_row, program, table, row, case[1]))
     came = [it.result() for it in waiting]
