@@ -1,9 +1,10 @@
 -- Moments and numbers, both ways.
-use Rattle.std.proofs.Common.{◌≡◌, ℕ, ◌<◌, ◌≤◌, Bool, true, false, cond, ◌&&◌, nat_le, List, [], ◌∷◌, length, sym, refl, ap, ap₂, subst, ◌∙◌, arith, Option, Some, None, Result, Ok, Err, IfOk, IfSome, Vec, Global}
+use Rattle.std.proofs.Common.{◌≡◌, ℕ, ◌<◌, ◌≤◌, Bool, true, false, cond, ◌&&◌, nat_le, List, [], ◌∷◌, length, sym, refl, ap, ap₂, subst, ◌∙◌, arith, Option, Some, None, IfSome}
 use Rattle.std.proofs.lemmas.Bool.Decides.{nat_tests}
 use Rattle.std.specs.Char.{is_ascii_digit, digit_value}
 use Rattle.std.specs.List.{list_all}
 use Rattle.std.specs.Str.Parse.{AllDigits, digits_value}
+use Rattle.arrayvec.specs.ArrayVec.{ArrayVec}
 use Rattle.event_text.specs.Lent.{numbers_view}
 use Rattle.event_text.specs.Numbers.{IsNumber, IsNumberWithin, AreNumbers, AreWithin, is_number, number_in, numbers_in, before}
 use Rattle.event_text.specs.declared.limit.Limit.{Limit}
@@ -112,7 +113,6 @@ pub numbers_within : (ls : List Limit) (ts : List (List ℕ)) (ns : List ℕ) �
 numbers_within ls ts ns e = all_within ls ts ns (numbers_sound ls ts ns e)
 
 -- the same of what a call gave
-pub within_ok : {E : Type 0} (ls : List Limit) (ts : List (List ℕ)) (r : Result (Option (Vec ℕ Global)) E) → IfOk r (λ ns. numbers_view ns ≡ numbers_in ls ts) → IfOk r (λ ns. IfSome ns (λ v. AreWithin ls v.items))
-within_ok ls ts (Ok None) h = tt
-within_ok ls ts (Ok (Some v)) h = numbers_within ls ts v.items (sym h)
-within_ok ls ts (Err e) h = tt
+pub within_some : (ls : List Limit) (ts : List (List ℕ)) (r : Option (ArrayVec ℕ)) → numbers_view r ≡ numbers_in ls ts → IfSome r (λ v. AreWithin ls v.items)
+within_some ls ts None h = tt
+within_some ls ts (Some v) h = numbers_within ls ts v.items (sym h)

@@ -150,7 +150,8 @@ impl Command {
 
     /// How many fields it has.
     pub(crate) fn count(self) -> usize
-        ensures { result ≡ count_of self }
+        ensures value { result ≡ count_of self }
+        ensures few { result ≤ 9 }
     {
         let kind = self.kind();
         self.names() + kind.limits().len() + kind.texts()

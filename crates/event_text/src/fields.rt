@@ -1,39 +1,38 @@
 // The fields of commands.
-ghost use Rattle.std.specs.Prelude.{◌≡◌, ◌<◌, IfOk, is_some};
+ghost use Rattle.std.specs.Prelude.{◌≡◌, ◌<◌, ◌≤◌, is_some};
 ghost use Rattle.event_text.specs.Fields.{field as field_at, fields_in, last_field, service_in as service_among};
 ghost use Rattle.event_text.specs.Lent.{fields_view, text_view, texts_view};
 
 use crate::Command;
 use crate::cutting::cut_field;
-use site_base::OutOfMemory;
-use std::alloc::Global;
+use arrayvec::ArrayVec;
 
 /// The fields of a text, where it has so many and no others. The last one takes the rest where it is a text.
 pub(crate) fn split<'a>(
-    alloc: Global,
     text: &'a str,
     count: usize,
     ends_in_text: bool,
-) -> Result<Option<Vec<&'a str>>, OutOfMemory>
-    requires { 0 < count }
-    ensures { IfOk result (λ fs. fields_view fs ≡ fields_in ends_in_text count text.now) }
+) -> Option<ArrayVec<&'a str, 9>>
+    requires some { 0 < count }
+    requires few { count ≤ 9 }
+    ensures { fields_view result ≡ fields_in ends_in_text count text.now }
 {
-    let mut fields = Vec::with_capacity(alloc, count)?;
+    let mut fields: ArrayVec<&'a str, 9> = ArrayVec::new();
     let mut rest = text;
     let mut left = count;
     while left > 1 {
         let Some((front, behind)) = cut_field(rest) else {
-            return Ok(None);
+            return None;
         };
-        fields.push(front)?;
+        fields.push(front);
         rest = behind;
         left -= 1;
     }
     if is_last(rest, ends_in_text) {
-        fields.push(rest)?;
-        Ok(Some(fields))
+        fields.push(rest);
+        Some(fields)
     } else {
-        Ok(None)
+        None
     }
 }
 

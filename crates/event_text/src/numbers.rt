@@ -1,5 +1,5 @@
 // Numbers of a line.
-ghost use Rattle.std.specs.Prelude.{◌≡◌, ◌≤◌, length, slice_index, nat_le, Some, None, IfOk, IfSome, drop, if◌then◌else◌};
+ghost use Rattle.std.specs.Prelude.{◌≡◌, ◌≤◌, length, slice_index, nat_le, Some, None, IfSome, drop, if◌then◌else◌};
 ghost use Rattle.std.specs.Char.{is_ascii_digit};
 ghost use Rattle.std.specs.List.{list_all};
 ghost use Rattle.event_text.specs.Lent.{numbers_view, texts_view};
@@ -8,8 +8,7 @@ ghost use Rattle.event_text.specs.Kinds.{count_of, kind_of, limits_of, names_of}
 
 use crate::Command;
 use crate::limit::Limit;
-use site_base::OutOfMemory;
-use std::alloc::Global;
+use arrayvec::ArrayVec;
 
 /// Whether a text is digits alone, one or more and at most so many.
 pub(crate) fn is_number(text: &str, most: usize) -> bool
@@ -44,36 +43,29 @@ fn at_most(number: u64, most: u64) -> Option<u64>
 }
 
 /// The numbers within these limits that the first texts stand for.
-fn read_numbers(
-    alloc: Global,
-    limits: &[Limit],
-    texts: &[&str],
-) -> Result<Option<Vec<u64>>, OutOfMemory>
-    requires { length limits.now ≤ length texts.now }
-    ensures { IfOk result (λ ns. numbers_view ns ≡ numbers_in limits.now (texts_view texts.now)) }
+fn read_numbers(limits: &[Limit], texts: &[&str]) -> Option<ArrayVec<u64, 5>>
+    requires each { length limits.now ≤ length texts.now }
+    requires few { length limits.now ≤ 5 }
+    ensures { numbers_view result ≡ numbers_in limits.now (texts_view texts.now) }
 {
-    let mut numbers = Vec::with_capacity(alloc, limits.len())?;
+    let mut numbers: ArrayVec<u64, 5> = ArrayVec::new();
     for i in 0..limits.len() {
         let Some(number) = read_number(texts[i], limits[i].digits, limits[i].most) else {
-            return Ok(None);
+            return None;
         };
-        numbers.push(number)?;
+        numbers.push(number);
     }
-    Ok(Some(numbers))
+    Some(numbers)
 }
 
 /// The numbers of a command, which stand behind the names in its fields.
-pub(crate) fn numbers_of(
-    alloc: Global,
-    command: Command,
-    fields: &[&str],
-) -> Result<Option<Vec<u64>>, OutOfMemory>
+pub(crate) fn numbers_of(command: Command, fields: &[&str]) -> Option<ArrayVec<u64, 5>>
     requires { length fields.now ≡ count_of command }
-    ensures value { IfOk result (λ ns. numbers_view ns ≡ numbers_in (limits_of (kind_of command)) (drop (names_of command) (texts_view fields.now))) }
-    ensures within { IfOk result (λ ns. IfSome ns (λ v. AreWithin (limits_of (kind_of command)) v.items)) }
+    ensures value { numbers_view result ≡ numbers_in (limits_of (kind_of command)) (drop (names_of command) (texts_view fields.now)) }
+    ensures within { IfSome result (λ v. AreWithin (limits_of (kind_of command)) v.items) }
 {
     let behind = behind_names(fields, command.names());
-    read_numbers(alloc, command.kind().limits(), behind)
+    read_numbers(command.kind().limits(), behind)
 }
 
 /// The fields behind so many.

@@ -121,9 +121,9 @@ fn read_fields(
 ) -> Result<(u32, Event), LineError>
     ensures { Gives result (fields_read (site_view site.now) command (fields_in (ends_in_text command) (count_of command) text.now)) }
 {
-    match split(alloc, text, command.count(), command.ends_in_text())? {
+    match split(text, command.count(), command.ends_in_text()) {
         None => Err(LineError::Fault(LineFault::FieldCount)),
-        Some(fields) => read_split(alloc, command, &fields, site),
+        Some(fields) => read_split(alloc, command, fields.as_slice(), site),
     }
 }
 
@@ -157,9 +157,9 @@ fn read_placed(
 {
     let kind = command.kind();
     let last = field(fields, command.count() - 1);
-    match numbers_of(alloc, command, fields)? {
+    match numbers_of(command, fields) {
         None => Err(LineError::Fault(LineFault::BadNumber)),
-        Some(numbers) => judge(alloc, site, kind, place, &numbers, last),
+        Some(numbers) => judge(alloc, site, kind, place, numbers.as_slice(), last),
     }
 }
 

@@ -10,12 +10,13 @@ loop-left-preserved c =
     let rest = fields_in c.args.ends_in_text (c.loop-left.left - 1) c.in-Some.behind.now in (
       search rules,
       omega arith,
-      ap (λ ts. option_map (λ fs. texts_view ts ++ fs) rest) c.in_ok-push.ensures.items
+      search rules,
+      ap (λ ts. option_map (λ fs. texts_view ts ++ fs) rest) c.push.ensures.items
           ∙ (ap (λ ts. option_map (λ fs. ts ++ fs) rest) (map-append (λ t. t.now) c.loop-left.fields.items (c.in-Some.front ∷ []))
           ∙ (fields_next c.args.ends_in_text c.loop-left.left c.loop-left.rest.now c.in-Some.front.now c.in-Some.behind.now (texts_view c.loop-left.fields.items) (omega arith) c.in-Some.ensures
-          ∙ c.loop-left.invariant.2)),
+          ∙ c.loop-left.invariant.3)),
     )
 
 pub returns-in_default : goal.returns-in_default
 returns-in_default c =
-    fields_lack c.args.ends_in_text c.loop-left.left c.loop-left.rest.now (texts_view c.loop-left.fields.items) (omega arith) c.in_default.ensures ∙ c.loop-left.invariant.2
+    fields_lack c.args.ends_in_text c.loop-left.left c.loop-left.rest.now (texts_view c.loop-left.fields.items) (omega arith) c.in_default.ensures ∙ c.loop-left.invariant.3
