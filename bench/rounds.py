@@ -12,7 +12,9 @@ it has goes by the orders that one worker's run gave. Each script is replayed so
              worker saw before, and of the worker's own entries exactly those of its earlier events
   schedule   the orders of a turn are those of the hosts and services that are due by the entries so far
 
-With one worker each log has to be that of a run without the option. It ends with 1 if a log breaks a rule, and writes the line.
+With one worker each log has to be that of a run without the option. `audit` has to find each log legal with its number of workers; taken for one
+worker's it has to be illegal from the first turn on in which another worker has an entry, and legal if there is none. It ends with 1 if a log breaks a
+rule, and writes the line.
 """
 import argparse
 import os
@@ -223,6 +225,18 @@ def check(site, turns, workers, log):
     return run
 
 
+def verdict_of_one(log):
+    """What `audit` has to say of a log if one worker is said to have written it."""
+    begun = 0
+    for number, line in enumerate(log.splitlines(), 1):
+        if line.startswith("turn "):
+            begun = number
+        entry = ENTRY.match(line)
+        if entry and entry[3] != "0":
+            return f"illegal {begun}\n"
+    return "legal\n"
+
+
 def text_of(turns):
     lines = []
     for turn in turns:
@@ -273,6 +287,12 @@ def main():
                     file.write(text)
             return subprocess.run([program, "replay", f"{room}/site", f"{room}/script", *more], stdout=subprocess.PIPE, text=True, check=True).stdout
 
+        def audit(log, workers):
+            with open(f"{room}/log", "w", encoding="utf-8") as file:
+                file.write(log)
+            return subprocess.run([program, "audit", f"{room}/site", f"{room}/log", "--workers", str(workers)], stdout=subprocess.PIPE, stderr=subprocess.DEVNULL,
+                                  text=True, check=False).stdout
+
         for _ in range(said.scripts):
             site, turns, moment, run = Site(chance), [], 1000, None
             for _ in range(20):
@@ -288,6 +308,9 @@ def main():
                     want(workers > 1 or log == alone, "one worker's log differs from that without the option")
                     found.add(log)
                     logs += 1
+                for log in found:
+                    want(audit(log, workers) == "legal\n", f"a log of {workers} workers is illegal:\n{log}")
+                    want(audit(log, 1) == verdict_of_one(log), f"a log of {workers} workers, taken for one worker's, isn't {verdict_of_one(log)}{log}")
                 differing += len(found)
     print(f"{logs} logs, {differing} of them different, and each as the rules have it")
 
