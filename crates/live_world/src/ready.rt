@@ -1,5 +1,5 @@
 // Waiting for what can be read.
-ghost use Rattle.std.specs.Prelude.{◌≡◌, ◌≢◌, ◌↔◌, pos, ◌<ℤ◌, ◌≤ℤ◌, IsTrue, IsOk, IfOk, IfErr};
+ghost use Rattle.std.specs.Prelude.{◌≡◌, ◌≢◌, ◌↔◌, pos, ◌<ℤ◌, IsTrue, IfOk, IfErr};
 
 use libc::EINTR;
 use libc::net::{POLLIN, poll};
@@ -28,8 +28,7 @@ pub fn is_ready(fd: RawFd, most: Duration) -> Result<bool, PollFailed> {
 fn has_come(count: i32, error: i32) -> Result<bool, PollFailed>
     ensures ready { IfOk result (λ it. IsTrue it ↔ (pos 0 <ℤ count)) }
     ensures failed { IfErr result (λ _. (count <ℤ pos 0) × (error ≢ pos 4)) }
-    ensures answered { pos 0 ≤ℤ count → IsOk result }
-    ensures interrupted { error ≡ pos 4 → IsOk result }
+    ensures fault { IfOk result (λ _. (count <ℤ pos 0) → error ≡ pos 4) }
 {
     if count < 0 && error != EINTR {
         Err(PollFailed)
