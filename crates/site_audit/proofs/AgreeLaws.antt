@@ -1,5 +1,5 @@
 -- A log that agrees with a run, turn after turn.
-use Rattle.std.proofs.Common.{◌≡◌, ◌==◌, ◌+◌, ◌^◌, ◌<◌, ◌≤◌, Option, Some, None, Result, Ok, Err, IfOk, ℕ, zero, suc, Bool, true, false, cond, List, [], ◌∷◌, ◌++◌, length, take, drop, get_or, map, refl, sym, ap, ◌∙◌, subst, arith}
+use Rattle.std.proofs.Common.{◌≡◌, ◌==◌, ◌+◌, ◌^◌, ◌<◌, ◌≤◌, Option, Some, None, Result, Ok, Err, IfOk, ℕ, suc, Bool, true, false, cond, List, [], ◌∷◌, ◌++◌, length, take, drop, get_or, map, refl, sym, ap, ◌∙◌, subst, arith}
 use Rattle.std.proofs.lemmas.Bool.Decides.{nat_tests}
 use Rattle.std.proofs.lemmas.List.{append_cancel_left, length-append}
 use Rattle.std.proofs.lemmas.Slice.Eq.{bytes_eq-Decides}
@@ -10,7 +10,6 @@ use Rattle.site_text.specs.ScriptReading.{begins}
 use Rattle.log_text.specs.Fronts.{behind}
 use Rattle.log_text.specs.SiteNames.{PlainNames, names_of}
 use Rattle.log_text.proofs.FieldLaws.{behind_sound}
-use Rattle.round_check.specs.Making.{told_in}
 use Rattle.round_check.specs.declared.told.Told.{Told}
 use Rattle.run_meaning.specs.Alone.{turn_alone}
 use Rattle.run_meaning.specs.Runs.{Basis, IsRunFrom, IsTurn, Stage, TurnLog, no_entries, stage_after, start}
@@ -29,7 +28,7 @@ use Rattle.turn_engine.specs.declared.turn_out.TurnOut.{TurnOut}
 use Rattle.turn_engine.proofs.Sole.{log_is}
 use Rattle.run_text.specs.LogText.{turn_lines}
 use Rattle.run_text.specs.declared.style.Style.{Style}
-use Rattle.site_audit.specs.Agreeing.{is_block, AgreeBy, AgreeUpTo, AreBlocks, IsWritten}
+use Rattle.site_audit.specs.Agreeing.{is_block, AgreeBy, AgreeUpTo, AreBlocks}
 use Rattle.site_audit.specs.Blocks.{lines_of, blocks_of}
 use Rattle.site_audit.specs.ByCallers.{AgreesSo, AreToldIn, IsOnlyOf, IsToldIn}
 use Rattle.site_audit.proofs.Cutting.{lines_whole, take_front, drop_front}

@@ -3,16 +3,16 @@ use Rattle.std.proofs.Common.{◌≡◌, ◌==◌, ℕ, suc, Bool, true, false, 
 use Rattle.std.proofs.lemmas.Bool.Decides.{nat_tests}
 use Rattle.run_meaning.proofs.OneLog.{is_log}
 use Rattle.run_meaning.specs.Alone.{IsOnSite, run_alone, turn_alone}
-use Rattle.run_meaning.specs.Runs.{Basis, IsRunFrom, IsTurn, Stage, TurnLog, no_entries, stage_after, start}
+use Rattle.run_meaning.specs.Runs.{Basis, IsRunFrom, Stage, TurnLog, no_entries, stage_after, start}
 use Rattle.run_meaning.specs.Turns.{ReadTurn}
 use Rattle.run_text.specs.TurnReading.{turn_read}
 use Rattle.run_text.specs.declared.style.Style.{Style}
 use Rattle.site_edge.specs.declared.turn.Turn.{Turn}
 use Rattle.site_model.specs.PlainSite.{PlainSite}
 use Rattle.turn_engine.proofs.Sole.{log_is}
-use Rattle.site_audit.specs.Agreeing.{agreeing, is_block, AreBlocks, IsWritten}
+use Rattle.site_audit.specs.Agreeing.{agreeing, is_block, AreBlocks}
 use Rattle.site_audit.specs.Audit.{is_legal, is_written, IsLegal}
-use Rattle.site_audit.specs.Told.{all_told, first_turns, turns_in}
+use Rattle.site_audit.specs.Told.{first_turns, turns_in}
 
 abbrev Block : Type 0
 Block = List (List ℕ)

@@ -2,14 +2,14 @@
 use Rattle.std.proofs.Common.{◌≡◌, ℕ, ◌^◌, ◌<◌, ◌≤◌, ◌==◌, not, true, false, List, [], ◌∷◌, ◌++◌, length, map, codes, get_or, refl, sym, ap, ◌∙◌, append_assoc, arith, ◌⊎◌, inl, inr}
 use Rattle.std.proofs.lemmas.Bool.{cases_lt}
 use Rattle.std.specs.Fmt.{decimal}
-use Rattle.std.specs.List.{AllByRecursion, list_all}
+use Rattle.std.specs.List.{AllByRecursion}
 use Rattle.site_base.specs.Quoted.{quoted}
 use Rattle.site_model.specs.PlainSite.{PlainSite, full_names}
 use Rattle.site_model.specs.Sound.{AreDistinct}
 use Rattle.site_model.specs.declared.sight.Sight.{Sight}
 use Rattle.site_text.proofs.BodyLaws.{quoted_complete}
 use Rattle.site_text.specs.Entries.{list_text, name_text, parts_text, sight_text}
-use Rattle.site_text.specs.ScriptReading.{Read, got, quoted_at}
+use Rattle.site_text.specs.ScriptReading.{got, quoted_at}
 use Rattle.site_audit.proofs.Bytes.{decimal_digits, decimal_is, head_of, is_digit, is_itself, lacks, same_front, tail_of}
 
 -- Names.

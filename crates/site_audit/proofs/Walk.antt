@@ -1,5 +1,5 @@
 -- A walk over spots in order, with the gates behind them.
-use Rattle.std.proofs.Common.{◌≡◌, ◌≢◌, ◌==◌, ◌&&◌, ◌||◌, ◌+◌, ◌<◌, ◌≤◌, ℕ, zero, suc, nat_eq, nat_lt, Bool, true, false, cond, not, List, [], ◌∷◌, ◌++◌, length, refl, sym, ap, ◌∙◌, subst, arith, ◌/◌, ◌^◌, slice_index_or, append_assoc, append-nil, Option, Some, None, ◌⊎◌, inl, inr}
+use Rattle.std.proofs.Common.{◌≡◌, ◌≢◌, ◌==◌, ◌&&◌, ◌||◌, ◌+◌, ◌<◌, ◌≤◌, ℕ, zero, suc, nat_eq, nat_lt, Bool, true, false, cond, not, List, [], ◌∷◌, ◌++◌, length, refl, sym, ap, ◌∙◌, subst, arith, ◌/◌, ◌^◌, slice_index_or, append_assoc, Option, Some, None, ◌⊎◌, inl, inr}
 use Rattle.std.proofs.lemmas.List.Folds.{list_any-append}
 use Rattle.std.proofs.lemmas.Bool.{cases_order}
 use Rattle.std.specs.List.{AllByRecursion, list_any}
@@ -8,7 +8,7 @@ use Rattle.site_audit.specs.Order.{stands, blocked}
 use Rattle.site_audit.specs.Tracks.{track_of, is_earlier, is_held, waits, low_of, next_of, gate_pairs}
 use Rattle.site_audit.specs.declared.tracks.Last.{Last}
 use Rattle.site_audit.specs.declared.tracks.Spot.{Spot}
-use Rattle.site_audit.proofs.Gates.{eq_is, eq_not, is_eq, not_eq, lt_is, lt_not, is_lt, not_lt, and_false, and_true, or_false, or_not, is_done, lets, lows, free_thing, AreClosed, HasNoGate, after, settled, closed_later, none_later}
+use Rattle.site_audit.proofs.Gates.{eq_is, eq_not, is_eq, not_eq, lt_is, lt_not, is_lt, not_lt, and_false, and_true, or_false, or_not, is_done, lets, lows, free_thing, AreClosed, HasNoGate, settled, closed_later, none_later}
 
 -- Spots in order.
 

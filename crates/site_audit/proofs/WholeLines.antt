@@ -25,7 +25,7 @@ use Rattle.log_text.specs.EntryTwo.{told_text}
 use Rattle.log_text.specs.LogLines.{order_start, turn_line, words_text}
 use Rattle.run_meaning.specs.Dealing.{Refusal, checkable_of, line_refusals, refused_line, refused_report, refusing, report_refusals, without}
 use Rattle.run_meaning.specs.Runs.{IsTurn, Stage, TurnLog, refusals_of}
-use Rattle.run_meaning.specs.Turns.{Command, Histories, Line, Ordered, Outstanding, Reported, missing, words}
+use Rattle.run_meaning.specs.Turns.{Command, Histories, Outstanding, Reported, missing, words}
 use Rattle.run_text.specs.LogText.{command_line, ordered_line, refusal_line, round_lines, styled_entry, turn_lines}
 use Rattle.run_text.specs.TurnReading.{as_line, lines_read, turn_read}
 use Rattle.run_text.specs.declared.style.Style.{Style}

@@ -1,5 +1,5 @@
 -- Where the entries of a block stand on tracks.
-use Rattle.std.specs.Prelude.{ℕ, ◌+◌, ◌*◌, ◌^◌, List, [], ◌∷◌, map}
+use Rattle.std.specs.Prelude.{ℕ, ◌+◌, ◌*◌, ◌^◌, List, ◌∷◌, map}
 use Rattle.site_model.specs.declared.sight.Sight.{Sight}
 use Rattle.site_audit.specs.declared.block.EntryLine.{EntryLine}
 use Rattle.site_audit.specs.declared.telling.Said.{Said}

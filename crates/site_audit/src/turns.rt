@@ -7,7 +7,7 @@ ghost use Rattle.site_model.specs.Sound.{IsSound};
 ghost use Rattle.site_audit.specs.Blocks.{blocks_of, lines_of};
 ghost use Rattle.site_audit.specs.BlockReading.{block_read};
 ghost use Rattle.site_audit.specs.ByCallers.{round_of, turn_of, AreToldIn, IsToldIn};
-ghost use Rattle.site_audit.specs.Told.{block_told, first_turns as turns_first, no_orders as none_ordered, orders_behind, IsOf};
+ghost use Rattle.site_audit.specs.Told.{block_told, first_turns as turns_first, no_orders as none_ordered, orders_behind, turns_from, IsOf};
 
 use crate::block::{Block, read_block};
 use crate::blocks::cut_block;
@@ -39,20 +39,41 @@ pub(crate) fn first_turns(
     let names = SiteNames::of(alloc, site)?;
     let named = named_of(site)?;
     let mut orders = no_orders(alloc, site)?;
+    tell_blocks(
+        alloc,
+        callers,
+        site,
+        style,
+        &names,
+        &named,
+        &mut orders,
+        log,
+    )
+}
+
+/// The turns that the blocks of a log tell, where each checkable has this order.
+fn tell_blocks(
+    alloc: Global,
+    callers: u32,
+    site: &Site,
+    style: Style,
+    names: &SiteNames,
+    named: &Named,
+    orders: &mut Vec<Option<Open>>,
+    log: &[u8],
+) -> Result<Vec<ToldTurn>, OutOfMemory>
+    requires callers { callers ≤ 64 }
+    requires names { names_view names.now ≡ names_of (site_view site.now) }
+    requires full { site.now.names ≡ full_names (site_view site.now) }
+    requires named { IsOf (site_view site.now) named.now }
+    ensures turns { IfOk result (λ turns. map turn_of turns.items ≡ turns_from callers (site_view site.now) style orders.old.items (blocks_of (lines_of log.now))) }
+    ensures rounds { 2 ≤ callers → IfOk result (λ turns. AreToldIn style (names_of (site_view site.now)) (map round_of turns.items) (blocks_of (lines_of log.now))) }
+{
     let mut turns = Vec::new(alloc);
     let mut rest = log;
     while !rest.is_empty() {
         let (block, behind) = cut_block(rest);
-        let told = tell_block(
-            alloc,
-            callers,
-            site,
-            style,
-            &names,
-            &named,
-            &mut orders,
-            block,
-        )?;
+        let told = tell_block(alloc, callers, site, style, names, named, orders, block)?;
         let Some(turn) = told else {
             return Ok(turns);
         };

@@ -1,4 +1,4 @@
-use Rattle.std.proofs.Common.{◌≡◌, ◌<◌, ◌-◌, length, rules, arith}
+use Rattle.std.proofs.Common.{◌≡◌, ◌<◌, ◌-◌, length, arith}
 use Rattle.std.proofs.lemmas.Bool.Decides.{nat_tests}
 use Rattle.site_audit.proofs.AuditLaws.{bad_next}
 use Rattle.site_audit.proofs.auditing.verdict_after.Goals as goal

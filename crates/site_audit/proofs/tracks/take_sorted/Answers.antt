@@ -1,4 +1,4 @@
-use Rattle.std.proofs.Common.{rules, ◌≡◌, ◌+◌, length, refl, subst, ◌∙◌, arith, MatchOption}
+use Rattle.std.proofs.Common.{rules, ◌≡◌, ◌+◌, length, refl, ◌∙◌, arith}
 use Rattle.site_audit.proofs.Taking.{none_in, some_in}
 use Rattle.site_audit.proofs.Tracking.{all_within, match_none, match_some}
 use Rattle.site_audit.proofs.tracks.take_sorted.Goals as goal
