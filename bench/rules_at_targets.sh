@@ -53,7 +53,7 @@ rules() {
 # seconds SITE: those of the processor that a check takes, the least of three runs
 seconds() {
     for _ in 1 2 3; do
-        /usr/bin/time -f '%U %S' -o "$work/time" taskset -c 0 "$program" check "$1" >"$work/told"
+        /usr/bin/time -f '%U %S' -o "$work/time" taskset -c 0 "$program" --quiet check "$1" >"$work/told"
         awk '{ print $1 + $2 }' "$work/time"
     done | sort -n | head -n 1
 }
