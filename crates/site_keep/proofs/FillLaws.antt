@@ -27,7 +27,7 @@ begun s slots are = record { histories = refl; many = omega (arith, are.whole); 
 pub begin_filling : (s : PlainSite) (slots : Slots) (books : List Contents) (all : Slots) → books ≡ [] → all ≡ slots → AreSlots s slots → Fills s slots books all
 begin_filling s slots books all none same are = subst (λ xs. Fills s slots books xs) (sym same) (subst (λ bs. Fills s slots bs slots) (sym none) (begun s slots are))
 
-pushed_at : (s : PlainSite) (books : List Contents) (first : ℕ) (new : Contents) → ((k : ℕ) (book : Contents) → slice_get books k ≡ Some book → IsOf s (first + k) book) → IsOf s (first + length books) new
+pub pushed_at : (s : PlainSite) (books : List Contents) (first : ℕ) (new : Contents) → ((k : ℕ) (book : Contents) → slice_get books k ≡ Some book → IsOf s (first + k) book) → IsOf s (first + length books) new
     → (k : ℕ) (book : Contents) → slice_get (books ++ new ∷ []) k ≡ Some book → IsOf s (first + k) book
 pushed_at s [] first new each own zero book at = subst (IsOf s (first + 0)) (same_Some new book at) own
 pushed_at s [] first new each own (suc k) book at = absurd cc
@@ -37,7 +37,7 @@ pushed_at s (b ∷ books) first new each own (suc k) book at =
     subst (λ i. IsOf s i book) (sym (up k))
     (pushed_at s books (suc first) new (λ j other here. subst (λ i. IsOf s i other) (up j) (each (suc j) other here)) (subst (λ i. IsOf s i new) (up (length books)) own) k book at)
 
-histories_pushed : (books : List Contents) (new : Contents) (more : Histories) → histories_of (books ++ new ∷ []) ++ more ≡ histories_of books ++ new.entries ∷ more
+pub histories_pushed : (books : List Contents) (new : Contents) (more : Histories) → histories_of (books ++ new ∷ []) ++ more ≡ histories_of books ++ new.entries ∷ more
 histories_pushed [] new more = refl
 histories_pushed (b ∷ books) new more = ap (λ hs. b.entries ∷ hs) (histories_pushed books new more)
 

@@ -9,3 +9,4 @@ pub mod GivenLaws
 pub mod SlotLaws
 pub mod FillLaws
 pub mod WriteLaws
+pub mod PassLaws

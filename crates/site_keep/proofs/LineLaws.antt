@@ -6,7 +6,7 @@ use Rattle.serde_json.specs.Data.{Data, null, boolean, number, string, array, ob
 use Rattle.serde_json.specs.Find.{as_array, as_str}
 use Rattle.log_text.specs.EntryReading.{entry_two_read}
 use Rattle.log_text.specs.Fronts.{◌>>=◌}
-use Rattle.log_text.specs.SiteNames.{names_of}
+use Rattle.log_text.specs.SiteNames.{PlainNames, names_of}
 use Rattle.log_text.proofs.FieldLaws.{bind_some}
 use Rattle.site_model.specs.PlainSite.{PlainSite}
 use Rattle.site_model.specs.declared.entry.Entry.{Entry}
@@ -50,9 +50,9 @@ entry_sound s k d e h =
     let b = bind_some (entry_two_read (names_of s) (a.0 ++ 10 ∷ [])) (own k) e a.2 in
     (a.0, str_sound d a.0 a.1, b.1 ∙ ap Some (own_sound k b.0 e b.2))
 
-entry_complete : (s : PlainSite) (k : ℕ) (line : List ℕ) (e : Entry) → entry_two_read (names_of s) (line ++ 10 ∷ []) ≡ Some (told_by k e) → entry_in (names_of s) k (string line) ≡ Some e
+pub entry_complete : (names : PlainNames) (k : ℕ) (line : List ℕ) (e : Entry) → entry_two_read names (line ++ 10 ∷ []) ≡ Some (told_by k e) → entry_in names k (string line) ≡ Some e
 unfolding entry_in
-entry_complete s k line e h = ap (λ o. o >>= own k) h ∙ own_complete k e
+entry_complete names k line e h = ap (λ o. o >>= own k) h ∙ own_complete k e
 
 pub lines_sound : (s : PlainSite) (k : ℕ) (ds : Items) (h : List Entry) → entries_among (names_of s) k ds ≡ Some h → (lines : List (List ℕ)) × (ds ≡ line_items lines) × AreLinesOf s k lines h
 lines_sound s k no_items h e = ([], refl, ap (map (λ x. Some (told_by k x))) (same_Some [] h e))
@@ -70,7 +70,7 @@ lines_complete s k (line ∷ lines) [] e = absurd cc
 lines_complete s k (line ∷ lines) (x ∷ h) e =
     let first : entry_two_read (names_of s) (line ++ 10 ∷ []) ≡ Some (told_by k x) = cc in
     let rest : AreLinesOf s k lines h = cc in
-    ap (λ o. o >>= λ y. (entries_among (names_of s) k (line_items lines) >>= before y)) (entry_complete s k line x first) ∙ ap (λ o. o >>= before x) (lines_complete s k lines h rest)
+    ap (λ o. o >>= λ y. (entries_among (names_of s) k (line_items lines) >>= before y)) (entry_complete (names_of s) k line x first) ∙ ap (λ o. o >>= before x) (lines_complete s k lines h rest)
 
 -- the lines tell which entries these are
 pub same_lines : (s : PlainSite) (k : ℕ) (lines : List (List ℕ)) (g h : List Entry) → AreLinesOf s k lines g → AreLinesOf s k lines h → g ≡ h

@@ -14,6 +14,7 @@ use Rattle.serde_json.specs.Written.{compact_text, items_outline, outline}
 use Rattle.serde_json.proofs.Numbers.{number_of-decimal}
 use Rattle.serde_json.proofs.Texts.{print-outline}
 use Rattle.site_keep.specs.Shape.{Saved, line_items, saved_items, state_data}
+use Rattle.site_keep.specs.Writing.{tokens_of}
 use Rattle.site_keep.proofs.NewlineLaws.{tokens_before_newline}
 
 -- Numbers stand where numbers have to.
@@ -62,12 +63,16 @@ state_of xs =
     ap (λ o. option_map object (option_and_then (λ d. option_and_then (λ n. Some (put (codes "version") n (put (codes "checkables") d no_members))) (option_map number (number_of (decimal 1)))) (option_map array o))) (saved_of xs)
     ∙ ap (versioned (saved_items xs)) (number_of-decimal 1 (omega arith))
 
+-- a text with the tokens of a state file has its value
+pub read_tokens : (text : List ℕ) (xs : List Saved) → tokens text ≡ tokens_of (state_data xs) → read text ≡ Some (state_data xs)
+read_tokens text xs same =
+    let j : json.Json = outline (state_data xs) in
+    ap (λ ts. option_and_then of_json (option_and_then (λ p. if_last p.0 p.1) (json.value max_depth ts))) (same ∙ sym (append-nil (json_tokens j)))
+    ∙ ap (λ r. option_and_then of_json (option_and_then (λ p. if_last p.0 p.1) r)) (value-json_tokens j max_depth [] (state_depth xs))
+    ∙ state_of xs
+
 pub read_back : (xs : List Saved) → read (compact_text (state_data xs) ++ 10 ∷ []) ≡ Some (state_data xs)
 read_back xs =
     let j : json.Json = outline (state_data xs) in
     let text : compact_text (state_data xs) ≡ print (json_tokens j) = sym (print-outline (state_data xs)) in
-    let read_tokens : tokens (compact_text (state_data xs) ++ 10 ∷ []) ≡ json_tokens j ++ [] =
-    ap (λ t. tokens (t ++ 10 ∷ [])) text ∙ tokens_before_newline (json_tokens j) (ArePrintable-json_tokens j (state_numbers xs)) ∙ sym (append-nil (json_tokens j)) in
-    ap (λ ts. option_and_then of_json (option_and_then (λ p. if_last p.0 p.1) (json.value max_depth ts))) read_tokens
-    ∙ ap (λ r. option_and_then of_json (option_and_then (λ p. if_last p.0 p.1) r)) (value-json_tokens j max_depth [] (state_depth xs))
-    ∙ state_of xs
+    read_tokens (compact_text (state_data xs) ++ 10 ∷ []) xs (ap (λ t. tokens (t ++ 10 ∷ [])) text ∙ tokens_before_newline (json_tokens j) (ArePrintable-json_tokens j (state_numbers xs)))

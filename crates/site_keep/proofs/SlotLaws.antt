@@ -18,9 +18,11 @@ use Rattle.site_model.specs.PlainSite.{PlainCheck, PlainSite}
 use Rattle.site_model.specs.declared.entry.Entry.{Entry}
 use Rattle.site_keep.specs.Causes.{of_history}
 use Rattle.site_keep.specs.Given.{Fails}
-use Rattle.site_keep.specs.Reading.{Told, before, checkables_in, checked, entries_among, entries_in, entry_in, histories_in, histories_of_told, histories_told, is_untold, none_told, state_read, with_all, with_entries, with_history, with_one}
+use Rattle.site_keep.specs.Reading.{Told, before, checkables_in, checked, entries_among, entries_in, entry_in, histories_of_told, histories_told, is_untold, none_told, state_read, told_in, told_read, with_all, with_entries, with_history, with_lawful, with_one}
 use Rattle.site_keep.specs.Shape.{value_of}
 use Rattle.site_keep.specs.Slots.{told_of, AreSlots, IsOf}
+use Rattle.site_keep.specs.declared.keep_error.KeepError.{KeepError}
+use Rattle.site_keep.specs.declared.keep_error.KeepError.TheVariants as error
 use Rattle.site_keep.proofs.PlaceLaws.{all_at, one_by_one, set_elsewhere, set_here}
 
 abbrev Slots : Type 0
@@ -62,14 +64,9 @@ is_taken slots k o within is h = ap is_untold (untold_of slots k o within is) �
 pub is_free : (slots : Slots) (k : ℕ) (o : Option Contents) → k < length slots → o ≡ get_or slots k o → is_some o ≡ false → is_untold (slice_get (told_of slots) k) ≡ true
 is_free slots k o within is h = ap is_untold (untold_of slots k o within is) ∙ free_by o h
 
-pub at_taken : (s : PlainSite) (told : Told) (d : Data) (k : ℕ) → is_untold (slice_get told k) ≡ false → with_entries s told d k ≡ None
-unfolding with_entries
-at_taken s told d k taken = ap (λ b. cond b (entries_in (names_of s) k d >>= checked s >>= with_history told k) None) taken
-
-pub at_bad_lines : (s : PlainSite) (told : Told) (d : Data) (k : ℕ) → is_untold (slice_get told k) ≡ true → entries_in (names_of s) k d ≡ None → with_entries s told d k ≡ None
-unfolding with_entries
-at_bad_lines s told d k free bad =
-    ap (λ b. cond b (entries_in (names_of s) k d >>= checked s >>= with_history told k) None) free ∙ ap (λ o. o >>= checked s >>= with_history told k) bad
+pub at_taken : (s : PlainSite) (told : Told) (k : ℕ) (h : List Entry) → is_untold (slice_get told k) ≡ false → with_lawful s told k h ≡ None
+unfolding with_lawful
+at_taken s told k h taken = ap (λ b. cond b (checked s h >>= with_history told k) None) taken
 
 not_checked : (s : PlainSite) (h : List Entry) → (IsHistory s h → ⊥) → checked s h ≡ None
 not_checked s h bad = by (is_history_from s 0 0 h) refl
@@ -78,24 +75,39 @@ not_checked s h bad = by (is_history_from s 0 0 h) refl
     by true t = absurd (bad ((history s h).0 t))
     by false t = refl
 
-pub at_bad_history : (s : PlainSite) (told : Told) (d : Data) (k : ℕ) (h : List Entry) → is_untold (slice_get told k) ≡ true → entries_in (names_of s) k d ≡ Some h → (IsHistory s h → ⊥) → with_entries s told d k ≡ None
-unfolding with_entries
-at_bad_history s told d k h free read bad =
-    ap (λ b. cond b (entries_in (names_of s) k d >>= checked s >>= with_history told k) None) free
-    ∙ ap (λ o. o >>= checked s >>= with_history told k) read
-    ∙ ap (λ o. o >>= with_history told k) (not_checked s h bad)
+pub at_bad_history : (s : PlainSite) (told : Told) (k : ℕ) (h : List Entry) → is_untold (slice_get told k) ≡ true → (IsHistory s h → ⊥) → with_lawful s told k h ≡ None
+unfolding with_lawful
+at_bad_history s told k h free bad =
+    ap (λ b. cond b (checked s h >>= with_history told k) None) free ∙ ap (λ o. o >>= with_history told k) (not_checked s h bad)
 
-pub at_good : (s : PlainSite) (told : Told) (d : Data) (k : ℕ) (h : List Entry) → is_untold (slice_get told k) ≡ true → entries_in (names_of s) k d ≡ Some h → IsHistory s h → with_entries s told d k ≡ Some (set told k (Some h))
-unfolding with_entries
-at_good s told d k h free read lawful =
-    ap (λ b. cond b (entries_in (names_of s) k d >>= checked s >>= with_history told k) None) free
-    ∙ ap (λ o. o >>= checked s >>= with_history told k) read
-    ∙ ap (λ b. cond b (Some h) None >>= with_history told k) ((history s h).1 lawful)
+pub at_good : (s : PlainSite) (told : Told) (k : ℕ) (h : List Entry) → is_untold (slice_get told k) ≡ true → IsHistory s h → with_lawful s told k h ≡ Some (set told k (Some h))
+unfolding with_lawful
+at_good s told k h free lawful =
+    ap (λ b. cond b (checked s h >>= with_history told k) None) free ∙ ap (λ b. cond b (Some h) None >>= with_history told k) ((history s h).1 lawful)
 
-pub fault_fails : (s : PlainSite) (told : Told) (d : Data) (k : ℕ) (h : List Entry) (fault : RestoreFault) → is_untold (slice_get told k) ≡ true → entries_in (names_of s) k d ≡ Some h → (fault ≡ restore.BadHistory → IsHistory s h → ⊥)
-    → Fails (of_history fault) (with_entries s told d k)
-fault_fails s told d k h restore.BadHistory free read bad = at_bad_history s told d k h free read (bad refl)
-fault_fails s told d k h restore.OutOfMemory free read bad = tt
+pub fault_fails : (s : PlainSite) (told : Told) (k : ℕ) (h : List Entry) (fault : RestoreFault) → is_untold (slice_get told k) ≡ true → (fault ≡ restore.BadHistory → IsHistory s h → ⊥)
+    → Fails (of_history fault) (with_lawful s told k h)
+fault_fails s told k h restore.BadHistory free bad = at_bad_history s told k h free (bad refl)
+fault_fails s told k h restore.OutOfMemory free bad = tt
+
+-- The entries of a place.
+
+pub entries_given : (s : PlainSite) (told : Told) (d : Data) (k : ℕ) (h : List Entry) → entries_in (names_of s) k d ≡ Some h → with_entries s told d k ≡ with_lawful s told k h
+unfolding with_entries with_lawful
+entries_given s told d k h read = ap (λ o. cond (is_untold (slice_get told k)) (o >>= checked s >>= with_history told k) None) read
+
+none_either : (b : Bool) (o : Option Told) → o ≡ None → cond b o None ≡ None
+none_either true o none = none
+none_either false o none = refl
+
+at_bad_lines : (s : PlainSite) (told : Told) (d : Data) (k : ℕ) → entries_in (names_of s) k d ≡ None → with_entries s told d k ≡ None
+unfolding with_entries
+at_bad_lines s told d k bad =
+    none_either (is_untold (slice_get told k)) (entries_in (names_of s) k d >>= checked s >>= with_history told k) (ap (λ o. o >>= checked s >>= with_history told k) bad)
+
+pub lines_fail : (s : PlainSite) (told : Told) (d : Data) (k : ℕ) (e : KeepError) → Fails e (entries_in (names_of s) k d) → Fails e (with_entries s told d k)
+lines_fail s told d k error.BadState bad = at_bad_lines s told d k bad
+lines_fail s told d k error.OutOfMemory bad = tt
 
 -- Entries, one after the other.
 
@@ -152,16 +164,17 @@ slots_none s slots empty many = (
 
 -- The whole.
 
-pub state_made : (s : PlainSite) (bytes : List ℕ) (d : Data) (ds : Items) (told : Told) → value_of bytes ≡ Some d → checkables_in d ≡ Some ds → with_all s (none_told s) ds ≡ Some told → state_read s bytes ≡ Some (histories_told told)
-state_made s bytes d ds told value checkables all =
-    ap (λ o. o >>= histories_in s) value ∙ ap (λ o. o >>= with_all s (none_told s) >>= histories_of_told) checkables ∙ ap (λ o. o >>= histories_of_told) all
+pub told_is : (s : PlainSite) (bytes : List ℕ) (d : Data) (ds : Items) → value_of bytes ≡ Some d → checkables_in d ≡ Some ds → told_read s bytes ≡ with_all s (none_told s) ds
+told_is s bytes d ds value checkables = ap (λ o. o >>= told_in s) value ∙ ap (λ o. o >>= with_all s (none_told s)) checkables
 
-pub state_without_value : (s : PlainSite) (bytes : List ℕ) → value_of bytes ≡ None → state_read s bytes ≡ None
-state_without_value s bytes value = ap (λ o. o >>= histories_in s) value
+pub told_without_value : (s : PlainSite) (bytes : List ℕ) → value_of bytes ≡ None → told_read s bytes ≡ None
+told_without_value s bytes value = ap (λ o. o >>= told_in s) value
 
-pub state_without_checkables : (s : PlainSite) (bytes : List ℕ) (d : Data) → value_of bytes ≡ Some d → checkables_in d ≡ None → state_read s bytes ≡ None
-state_without_checkables s bytes d value checkables = ap (λ o. o >>= histories_in s) value ∙ ap (λ o. o >>= with_all s (none_told s) >>= histories_of_told) checkables
+pub told_without_checkables : (s : PlainSite) (bytes : List ℕ) (d : Data) → value_of bytes ≡ Some d → checkables_in d ≡ None → told_read s bytes ≡ None
+told_without_checkables s bytes d value checkables = ap (λ o. o >>= told_in s) value ∙ ap (λ o. o >>= with_all s (none_told s)) checkables
 
-pub state_with_bad : (s : PlainSite) (bytes : List ℕ) (d : Data) (ds : Items) → value_of bytes ≡ Some d → checkables_in d ≡ Some ds → with_all s (none_told s) ds ≡ None → state_read s bytes ≡ None
-state_with_bad s bytes d ds value checkables all =
-    ap (λ o. o >>= histories_in s) value ∙ ap (λ o. o >>= with_all s (none_told s) >>= histories_of_told) checkables ∙ ap (λ o. o >>= histories_of_told) all
+pub state_made : (s : PlainSite) (bytes : List ℕ) (told : Told) → told_read s bytes ≡ Some told → state_read s bytes ≡ Some (histories_told told)
+state_made s bytes told read = ap (λ o. o >>= histories_of_told) read
+
+pub state_without : (s : PlainSite) (bytes : List ℕ) → told_read s bytes ≡ None → state_read s bytes ≡ None
+state_without s bytes read = ap (λ o. o >>= histories_of_told) read

@@ -22,7 +22,7 @@ use Rattle.site_model.specs.Names.{place_of}
 use Rattle.site_model.specs.PlainSite.{PlainCheck, PlainSite}
 use Rattle.site_model.specs.Sound.{AreDistinct, HasNames}
 use Rattle.site_model.specs.declared.entry.Entry.{Entry}
-use Rattle.site_keep.specs.Reading.{Told, checkables_in, checkables_with, checked, entries_among, entries_in, histories_in, histories_of_told, histories_told, if_first, is_untold, none_told, state_read, with_all, with_entries, with_history, with_named, with_one, with_parts}
+use Rattle.site_keep.specs.Reading.{Told, checkables_in, checkables_with, checked, entries_among, entries_in, histories_of_told, histories_told, if_first, is_untold, none_told, state_read, told_in, told_read, with_all, with_entries, with_history, with_named, with_one, with_parts}
 use Rattle.site_keep.specs.Shape.{Saved, line_items, saved_data, saved_items, state_data, two_members, value_of}
 use Rattle.site_keep.specs.States.{AreLinesOf, HasLines, IsState}
 use Rattle.site_keep.proofs.LineLaws.{array_sound, lines_complete, lines_sound, same_lines, str_sound}
@@ -313,15 +313,15 @@ checkables_sound d ds e =
     two_sound (codes "checkables") (codes "version") d a.0.0 a.0.1 a.1
     ∙ ap₂ (λ checkables version. object (member (codes "checkables") checkables (member (codes "version") version no_members))) (array_sound a.0.0 ds c.1) (version_sound a.0.1 b.0 b.1 ∙ ap (λ n. number (unsigned n)) c.0)
 
-checkables_complete : (xs : List Saved) → checkables_in (state_data xs) ≡ Some (saved_items xs)
+pub checkables_complete : (xs : List Saved) → checkables_in (state_data xs) ≡ Some (saved_items xs)
 unfolding checkables_in
 checkables_complete xs = ap (λ o. o >>= checkables_with) (two_complete (codes "checkables") (codes "version") (array (saved_items xs)) (number (unsigned 1)))
 
 pub state_sound : (s : PlainSite) → HasNames s → (bytes : List ℕ) (hs : Histories) → state_read s bytes ≡ Some hs → IsState s bytes hs
 state_sound s n bytes hs e =
-    let a = bind_some (value_of bytes) (histories_in s) hs e in
-    let b = bind_some (checkables_in a.0 >>= with_all s (none_told s)) histories_of_told hs a.2 in
-    let c = bind_some (checkables_in a.0) (with_all s (none_told s)) b.0 b.1 in
+    let b = bind_some (told_read s bytes) histories_of_told hs e in
+    let a = bind_some (value_of bytes) (told_in s) b.0 b.1 in
+    let c = bind_some (checkables_in a.0) (with_all s (none_told s)) b.0 a.2 in
     let all = all_sound s (none_told s) c.0 b.0 c.2 in
     let shape : value_of bytes ≡ Some (state_data all.0) =
     a.1 ∙ ap Some (checkables_sound a.0 c.0 c.1 ∙ ap (λ ds. object (member (codes "checkables") (array ds) (member (codes "version") (number (unsigned 1)) no_members))) all.1) in
@@ -376,7 +376,7 @@ free_of s n (x ∷ xs) = (λ k at. none_at s k (omega (arith, slice_get_within s
 
 pub state_complete : (s : PlainSite) → HasNames s → (bytes : List ℕ) (hs : Histories) → IsState s bytes hs → state_read s bytes ≡ Some hs
 state_complete s n bytes hs h =
-    ap (λ o. o >>= histories_in s) (value_found bytes (state_data h.told) h.text h.shape)
+    ap (λ o. o >>= told_in s >>= histories_of_told) (value_found bytes (state_data h.told) h.text h.shape)
     ∙ ap (λ o. o >>= with_all s (none_told s) >>= histories_of_told) (checkables_complete h.told)
     ∙ ap (λ o. o >>= histories_of_told) (all_complete s n.distinct (none_told s) h.told final steps)
     ∙ ap Some (same_at_each (histories_told final) hs many same)

@@ -6,3 +6,4 @@ pub mod Given
 pub mod Causes
 pub mod Slots
 pub mod Writing
+pub mod Passing

@@ -61,6 +61,10 @@ with_history told k h = Some (slice_set told k (Some h))
 unfoldable pub with_entries : PlainSite → Told → Data → ℕ → Option Told
 with_entries s told d k = if is_untold (slice_get told k) then entries_in (names_of s) k d >>= checked s >>= with_history told k else None
 
+-- with this history of the checkable of index k
+unfoldable pub with_lawful : PlainSite → Told → ℕ → List Entry → Option Told
+with_lawful s told k h = if is_untold (slice_get told k) then checked s h >>= with_history told k else None
+
 abbrev pub with_named : PlainSite → Told → Data → List ℕ → Option Told
 with_named s told d name = place_of name s.names >>= with_entries s told d
 
@@ -87,6 +91,13 @@ checkables_with x = as_number x.1 >>= as_u64 >>= if_first (as_array x.0)
 unfoldable pub checkables_in : Data → Option Items
 checkables_in d = two_members (codes "checkables") (codes "version") d >>= checkables_with
 
+abbrev pub told_in : PlainSite → Data → Option Told
+told_in s d = checkables_in d >>= with_all s (none_told s)
+
+-- the entries that bytes tell, by the checkables of the site
+abbrev pub told_read : PlainSite → List ℕ → Option Told
+told_read s bytes = value_of bytes >>= told_in s
+
 -- a checkable that wasn't named has no entries
 abbrev pub histories_told : Told → Histories
 histories_told told = map (λ h. unwrap_or h []) told
@@ -94,9 +105,6 @@ histories_told told = map (λ h. unwrap_or h []) told
 abbrev pub histories_of_told : Told → Option Histories
 histories_of_told told = Some (histories_told told)
 
-abbrev pub histories_in : PlainSite → Data → Option Histories
-histories_in s d = checkables_in d >>= with_all s (none_told s) >>= histories_of_told
-
 -- the histories that bytes tell, one of each checkable of the site
 abbrev pub state_read : PlainSite → List ℕ → Option Histories
-state_read s bytes = value_of bytes >>= histories_in s
+state_read s bytes = told_read s bytes >>= histories_of_told

@@ -1,6 +1,7 @@
 // Reading the entries of a checkable.
-ghost use Rattle.std.specs.Prelude.{◌≡◌};
+ghost use Rattle.std.specs.Prelude.{◌≡◌, ◌++◌, ◌∷◌, []};
 ghost use Rattle.serde_json.specs.View.{items_view, view};
+ghost use Rattle.log_text.specs.EntryReading.{entry_two_read};
 ghost use Rattle.log_text.specs.SiteNames.{names_view};
 ghost use Rattle.site_keep.specs.Given.{Gives};
 ghost use Rattle.site_keep.specs.Reading.{entries_among, entries_in, entry_in};
@@ -43,7 +44,7 @@ fn read_lines(
     Ok(entries)
 }
 
-/// The entry of a line. The buffer takes the line with its newline.
+/// The entry of a line.
 #[tactic(auto, unfolding(crate::specs::Reading::entry_in))]
 fn read_line(
     alloc: Global,
@@ -57,12 +58,24 @@ fn read_line(
     let Some(line) = line.as_str() else {
         return Err(KeepError::BadState);
     };
-    buffer.clear();
-    buffer.push_str(line)?;
-    buffer.push('\n')?;
-    let (named, entry) = read_entry_two(alloc, buffer.as_str(), names)?;
+    let (named, entry) = entry_of(alloc, buffer, line, names)?;
     if named != checkable {
         return Err(KeepError::BadState);
     }
     Ok(entry)
+}
+
+/// The checkable and the entry that a line without its newline is of. The buffer takes the line with its newline.
+pub(crate) fn entry_of(
+    alloc: Global,
+    buffer: &mut String,
+    line: &str,
+    names: &SiteNames,
+) -> Result<(u32, Entry), KeepError>
+    ensures { Gives (λ x. (x.0, x.1)) result (entry_two_read (names_view names.now) (line.now ++ 10 ∷ [])) }
+{
+    buffer.clear();
+    buffer.push_str(line)?;
+    buffer.push('\n')?;
+    Ok(read_entry_two(alloc, buffer.as_str(), names)?)
 }

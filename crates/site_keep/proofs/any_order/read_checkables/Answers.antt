@@ -5,7 +5,7 @@ use Rattle.run_meaning.proofs.Lists.{length_map}
 use Rattle.site_model.specs.PlainSite.{check_view, site_view}
 use Rattle.site_keep.specs.Reading.{with_all}
 use Rattle.site_keep.proofs.SlotLaws.{slots_none}
-use Rattle.site_keep.proofs.restoring.read_checkables.Goals as goal
+use Rattle.site_keep.proofs.any_order.read_checkables.Goals as goal
 
 pub loop-checkable-init : goal.loop-checkable-init
 loop-checkable-init c =

@@ -5,7 +5,7 @@ use Rattle.run_meaning.proofs.Lists.{length_map}
 use Rattle.site_model.specs.PlainSite.{check_view, site_view}
 use Rattle.site_keep.specs.Slots.{IsOf}
 use Rattle.site_keep.proofs.FillLaws.{begin_filling, fill_step, fill_within, first_slot}
-use Rattle.site_keep.proofs.restoring.filled.Goals as goal
+use Rattle.site_keep.proofs.slots.filled.Goals as goal
 
 pub loop-slot-init : goal.loop-slot-init
 loop-slot-init c = begin_filling (site_view c.args.site.now) c.args.slots.items c.in_ok-books.books.items (into_iter_items c.into_iter-slot-iterator.result) (search rules) (search rules) c.requires.are

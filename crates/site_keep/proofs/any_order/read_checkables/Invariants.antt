@@ -4,7 +4,7 @@ use Rattle.serde_json.specs.View.{items_view}
 use Rattle.site_model.specs.PlainSite.{site_view}
 use Rattle.site_keep.specs.Reading.{none_told, with_all}
 use Rattle.site_keep.specs.Slots.{told_of, AreSlots}
-use Rattle.site_keep.proofs.restoring.read_checkables.Given as goal
+use Rattle.site_keep.proofs.any_order.read_checkables.Given as goal
 
 abbrev pub invariant-loop-checkable : goal.invariant-loop-checkable
 invariant-loop-checkable l =
