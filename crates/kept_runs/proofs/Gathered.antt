@@ -1,19 +1,25 @@
 -- What is gathered of a round is joined to what stood before it.
-use Rattle.std.proofs.Common.{◌≡◌, ℕ, suc, ◌+◌, ◌<◌, ◌≤◌, List, [], ◌∷◌, ◌++◌, length, map, set, get_or, All, refl, sym, ap, ◌∙◌, subst, arith, append_assoc, length-append}
-use Rattle.std.proofs.lemmas.List.{append-nil, length-set}
+use Rattle.std.proofs.Common.{◌≡◌, ℕ, zero, suc, ◌+◌, ◌<◌, ◌≤◌, List, [], ◌∷◌, ◌++◌, length, map, set, get_or, All, refl, sym, ap, ap₂, ◌∙◌, subst, arith, append_assoc, length-append}
+use Rattle.std.proofs.lemmas.List.{append-nil, length-set, map-append}
 use Rattle.std.proofs.lemmas.List.Elements.{All-cons, All-head, All-nil, All-tail}
 use Rattle.run_meaning.specs.Runs.{joined}
 use Rattle.run_meaning.specs.Turns.{Histories}
-use Rattle.site_model.specs.PlainSite.{check_view}
+use Rattle.site_keep.specs.StateFile.{lines_from, lines_of, saved_line}
+use Rattle.site_model.specs.PlainSite.{PlainSite, check_view}
 use Rattle.site_model.specs.declared.check_spec.CheckSpec.{CheckSpec}
 use Rattle.site_model.specs.declared.entry.Entry.{Entry}
 use Rattle.site_posts.specs.Segments.{segments_from, segments_of}
 use Rattle.site_posts.specs.declared.segment.Segment.{Segment}
-use Rattle.kept_runs.specs.Gathered.{with_segment}
+use Rattle.site_text.specs.Entries.{IsPrintable}
+use Rattle.kept_runs.specs.Gathered.{with_lines, AllPrintable}
 
--- One after the other.
+-- Entries, one after the other.
 
-abbrev pub with_segments : Histories → List Segment → Histories
+-- with the entries that a checkable gets behind its own
+abbrev with_segment : Histories → Segment → Histories
+with_segment hs x = set hs x.checkable (get_or hs x.checkable [] ++ x.entries)
+
+abbrev with_segments : Histories → List Segment → Histories
 with_segments hs [] = hs
 with_segments hs (x ∷ xs) = with_segments (with_segment hs x) xs
 
@@ -52,8 +58,34 @@ gathered_from before (h ∷ hs) ((e ∷ es) ∷ round) many =
     ap (λ xs. with_segments xs (segments_from (suc (length before)) round)) (grown before h hs round e es)
     ∙ passed before h hs round (h ++ e ∷ es) (gathered_from (before ++ (h ++ e ∷ es) ∷ []) hs round (omega (arith, many)))
 
-pub gathered : (hs round : Histories) → length round ≡ length hs → with_segments hs (segments_of round) ≡ joined hs round
+gathered : (hs round : Histories) → length round ≡ length hs → with_segments hs (segments_of round) ≡ joined hs round
 gathered hs round many = gathered_from [] hs round many
+
+-- Their lines.
+
+abbrev with_all : PlainSite → List (List (List ℕ)) → List Segment → List (List (List ℕ))
+with_all s lines [] = lines
+with_all s lines (x ∷ xs) = with_all s (with_lines s lines x) xs
+
+lines_set : (s : PlainSite) (first k i : ℕ) (hs : Histories) (es : List Entry) → i ≡ first + k
+    → set (lines_from s first hs) k (get_or (lines_from s first hs) k [] ++ map (saved_line s i) es) ≡ lines_from s first (set hs k (get_or hs k [] ++ es))
+lines_set s first zero i [] es at = refl
+lines_set s first (suc k) i [] es at = refl
+lines_set s first zero i (h ∷ hs) es at =
+    let same : i ≡ first = omega (arith, at) in
+    ap (λ ls. ls ∷ lines_from s (suc first) hs) (ap (λ j. map (saved_line s first) h ++ map (saved_line s j) es) same ∙ sym (map-append (saved_line s first) h es))
+lines_set s first (suc k) i (h ∷ hs) es at = ap (λ ls. map (saved_line s first) h ∷ ls) (lines_set s (suc first) k i hs es (omega (arith, at)))
+
+all_lines : (s : PlainSite) (hs : Histories) (xs : List Segment) → with_all s (lines_of s hs) xs ≡ lines_of s (with_segments hs xs)
+all_lines s hs [] = refl
+all_lines s hs (x ∷ xs) = ap (λ ls. with_all s ls xs) (lines_set s 0 x.checkable x.checkable hs x.entries (omega arith)) ∙ all_lines s (with_segment hs x) xs
+
+many_lines : (s : PlainSite) (k : ℕ) (hs : Histories) → length (lines_from s k hs) ≡ length hs
+many_lines s k [] = refl
+many_lines s k (h ∷ hs) = ap suc (many_lines s (suc k) hs)
+
+pub lines_many : (s : PlainSite) (hs : Histories) → length (lines_of s hs) ≡ length hs
+lines_many s hs = many_lines s 0 hs
 
 -- Those that are left.
 
@@ -66,34 +98,43 @@ segments_within n k ([] ∷ round) few = segments_within n (suc k) round (omega 
 segments_within n k ((e ∷ es) ∷ round) few =
     All-cons (λ (x : Segment). x.checkable < n) (record { checkable = k; entries = e ∷ es }) (segments_from (suc k) round) (omega (arith, few)) (segments_within n (suc k) round (omega (arith, few)))
 
--- with those that are left, what is gathered so far comes to all, and each that is left has its place
-pub record Gathers (first : Histories) (all : List Segment) (now : Histories) (left : List Segment) : Type 0 where
-  pub same : with_segments now left ≡ with_segments first all
+-- with those that are left, what is gathered so far comes to all, and each that is left has its place and can be printed
+pub record Gathers (s : PlainSite) (first : List (List (List ℕ))) (all : List Segment) (now : List (List (List ℕ))) (left : List Segment) : Type 0 where
+  pub same : with_all s now left ≡ with_all s first all
   pub within : AreWithin (length now) left
+  pub printable : AllPrintable s left
 
-pub begin : (first : Histories) (all left : List Segment) → left ≡ all → (round : Histories) × (all ≡ segments_of round) × (length round ≡ length first) → Gathers first all first left
-begin first all left is (round, of, many) = record {
-  same = ap (with_segments first) is;
+pub begin : (s : PlainSite) (first : List (List (List ℕ))) (all left : List Segment) → left ≡ all → (round : Histories) × (all ≡ segments_of round) × (length round ≡ length first) → AllPrintable s all → Gathers s first all first left
+begin s first all left is (round, of, many) printable = record {
+  same = ap (with_all s first) is;
   within = subst (AreWithin (length first)) (sym (is ∙ of)) (segments_within (length first) 0 round (omega (arith, many)));
+  printable = subst (AllPrintable s) (sym is) printable;
 }
 
-pub next_within : (first : Histories) (all : List Segment) (now : Histories) (left rest : List Segment) (x : Segment) → left ≡ x ∷ rest → Gathers first all now left → x.checkable < length now
-next_within first all now left rest x is g = All-head (λ (y : Segment). y.checkable < length now) x rest (subst (AreWithin (length now)) is g.within)
+module _ (s : PlainSite) (first : List (List (List ℕ))) (all : List Segment) (now : List (List (List ℕ))) (left rest : List Segment) (x : Segment) (is : left ≡ x ∷ rest) (g : Gathers s first all now left) where
+  pub next_within : x.checkable < length now
+  next_within = All-head (λ (y : Segment). y.checkable < length now) x rest (subst (AreWithin (length now)) is g.within)
 
-pub one_more : (first : Histories) (all : List Segment) (now : Histories) (left rest : List Segment) (x : Segment) (next : Histories) → left ≡ x ∷ rest → next ≡ with_segment now x → Gathers first all now left → Gathers first all next rest
-one_more first all now left rest x next is grown g =
-    let long : length next ≡ length now = ap length grown ∙ length-set now x.checkable (get_or now x.checkable [] ++ x.entries) in
-    record {
-      same = ap (λ hs. with_segments hs rest) grown ∙ ap (with_segments now) (sym is) ∙ g.same;
-      within = subst (λ n. AreWithin n rest) (sym long) (All-tail (λ (y : Segment). y.checkable < length now) x rest (subst (AreWithin (length now)) is g.within));
-    }
+  pub next_printable : All (IsPrintable s x.checkable) x.entries
+  next_printable = All-head (λ (y : Segment). All (IsPrintable s y.checkable) y.entries) x rest (subst (AllPrintable s) is g.printable)
 
-pub all_gathered : (first : Histories) (all : List Segment) (now : Histories) (left : List Segment) → length left ≡ 0 → Gathers first all now left → (round : Histories) → all ≡ segments_of round → length round ≡ length first → now ≡ joined first round
-all_gathered first all now [] none g round of many = g.same ∙ ap (with_segments first) of ∙ gathered first round many
-all_gathered first all now (x ∷ left) none g round of many = absurd (omega (arith, none))
+  pub one_more : (next : List (List (List ℕ))) → next ≡ with_lines s now x → Gathers s first all next rest
+  one_more next grown =
+      let long : length next ≡ length now = ap length grown ∙ length-set now x.checkable (get_or now x.checkable [] ++ map (saved_line s x.checkable) x.entries) in
+      record {
+        same = ap (λ ls. with_all s ls rest) grown ∙ ap (with_all s now) (sym is) ∙ g.same;
+        within = subst (λ n. AreWithin n rest) (sym long) (All-tail (λ (y : Segment). y.checkable < length now) x rest (subst (AreWithin (length now)) is g.within));
+        printable = All-tail (λ (y : Segment). All (IsPrintable s y.checkable) y.entries) x rest (subst (AllPrintable s) is g.printable);
+      }
+
+pub all_gathered : (s : PlainSite) (first : List (List (List ℕ))) (all : List Segment) (now : List (List (List ℕ))) (left : List Segment) → length left ≡ 0 → Gathers s first all now left
+    → (before round : Histories) → first ≡ lines_of s before → all ≡ segments_of round → length round ≡ length before → now ≡ lines_of s (joined before round)
+all_gathered s first all now [] none g before round are of many =
+    g.same ∙ ap₂ (with_all s) are of ∙ all_lines s before (segments_of round) ∙ ap (lines_of s) (gathered before round many)
+all_gathered s first all now (x ∷ left) none g before round are of many = absurd (omega (arith, none))
 
 -- Before the first round.
 
-pub none_each : (checkables : List CheckSpec) → map {B = List Entry} (λ _. []) checkables ≡ map (λ _. []) (map check_view checkables)
-none_each [] = refl
-none_each (c ∷ cs) = ap (λ hs. [] ∷ hs) (none_each cs)
+pub none_each : (s : PlainSite) (k : ℕ) (checkables : List CheckSpec) → map {B = List (List ℕ)} (λ _. []) checkables ≡ lines_from s k (map (λ _. []) (map check_view checkables))
+none_each s k [] = refl
+none_each s k (c ∷ cs) = ap (λ ls. [] ∷ ls) (none_each s (suc k) cs)

@@ -1,86 +1,33 @@
 -- Entries that are kept from turn to turn.
-use Rattle.std.proofs.Common.{◌≡◌, ◌<◌, ◌≤◌, ◌+◌, ℕ, zero, suc, false, List, [], ◌∷◌, ◌++◌, All, length, map, slice_get, Option, Some, refl, sym, ap, ◌∙◌, subst, arith, append_assoc, length-append}
+use Rattle.std.proofs.Common.{◌≡◌, ◌<◌, ◌≤◌, ◌+◌, ℕ, suc, false, List, [], ◌∷◌, ◌++◌, length, map, Option, refl, sym, ap, ◌∙◌, subst, arith, append_assoc, length-append}
 use Rattle.std.proofs.lemmas.List.{append-nil}
-use Rattle.std.proofs.lemmas.List.Elements.{All-append, All-head, All-nil, All-tail}
-use Rattle.engine_log.proofs.OnSite.{entries_are}
 use Rattle.jiff_tz.specs.declared.tzif.Tzif.{Tzif}
 use Rattle.run_meaning.specs.Runs.{IsRunFrom, IsTurn, Stage, TurnLog, begun_by, joined, no_entries, stage_after, stage_by, start}
 use Rattle.run_meaning.specs.Turns.{Begun, Histories}
-use Rattle.run_meaning.proofs.Lists.{get_map, length_map}
+use Rattle.run_meaning.proofs.Lists.{length_map}
 use Rattle.run_text.specs.TurnReading.{turn_read}
 use Rattle.run_text.proofs.ReadLaws.{turns_are, turns_are_read}
 use Rattle.site_edge.specs.declared.turn.Turn.{Turn}
-use Rattle.site_keep.specs.StateFile.{ArePrintable, state_file}
+use Rattle.site_keep.specs.StateFile.{lines_of, state_file}
 use Rattle.site_model.specs.PlainSite.{PlainSite, site_view}
 use Rattle.site_model.specs.Sound.{HasNames, IsSound}
-use Rattle.site_model.specs.declared.entry.Entry.{Entry}
 use Rattle.site_model.specs.declared.site.Site.{Site}
-use Rattle.site_posts.specs.Segments.{segments_from, segments_of}
-use Rattle.site_posts.specs.declared.segment.Segment.{Segment}
 use Rattle.site_run.specs.Courses.{AreLogsOf, Course, IsNextLog, behind_over, reads}
 use Rattle.site_run.specs.Feeds.{basis_with}
 use Rattle.site_run.specs.Logs.{AreLogs, Given, nothing_given}
 use Rattle.site_run.proofs.Going.{behind_joined, logs_then}
 use Rattle.site_run.proofs.OneLog.{one_run, same_basis}
-use Rattle.site_text.specs.Entries.{IsPrintable}
 use Rattle.turn_engine.specs.Ready.{Held, IsZoneOf}
 use Rattle.turn_engine.specs.Stages.{Running, TellsTurn, basis_of_site, stage_of}
 use Rattle.turn_engine.specs.declared.turn_out.TurnOut.{TurnOut}
 use Rattle.kept_runs.specs.Keeping.{Keeps, course}
 use Rattle.kept_runs.specs.Kept.{IsKept, histories_left}
 
--- Entries that can be printed.
-
-module _ (s : PlainSite) where
-  abbrev Each : ℕ → Histories → Type 0
-  Each k hs = (j : ℕ) (h : List Entry) → slice_get hs j ≡ Some h → All (IsPrintable s (k + j)) h
-
-  abbrev AreAll : List Segment → Type 0
-  AreAll xs = All (λ (x : Segment). All (IsPrintable s x.checkable) x.entries) xs
-
-  one_of : (x y : List Entry) → Some x ≡ Some y → x ≡ y
-  one_of x y h = cc
-
-  later : (k : ℕ) (g : List Entry) (hs : Histories) → Each k (g ∷ hs) → Each (suc k) hs
-  later k g hs each j h at = let n : k + suc j ≡ suc k + j = omega arith in subst (λ i. All (IsPrintable s i) h) n (each (suc j) h at)
-
-  own : (k : ℕ) (r : List Entry) (round : Histories) → AreAll (segments_from k (r ∷ round)) → All (IsPrintable s k) r
-  own k [] round all = All-nil (IsPrintable s k)
-  own k (e ∷ es) round all = All-head (λ (x : Segment). All (IsPrintable s x.checkable) x.entries) (record { checkable = k; entries = e ∷ es }) (segments_from (suc k) round) all
-
-  others : (k : ℕ) (r : List Entry) (round : Histories) → AreAll (segments_from k (r ∷ round)) → AreAll (segments_from (suc k) round)
-  others k [] round all = all
-  others k (e ∷ es) round all = All-tail (λ (x : Segment). All (IsPrintable s x.checkable) x.entries) (record { checkable = k; entries = e ∷ es }) (segments_from (suc k) round) all
-
-  each_joined : (k : ℕ) (hs round : Histories) → length round ≡ length hs → Each k hs → AreAll (segments_from k round) → Each k (joined hs round)
-  each_joined k [] [] many each all j h at = absurd cc
-  each_joined k [] (r ∷ round) many each all j h at = absurd (omega (arith, many))
-  each_joined k (g ∷ hs) [] many each all j h at = each j h at
-  each_joined k (g ∷ hs) (r ∷ round) many each all zero h at =
-      let n : k ≡ k + 0 = omega arith in
-      subst (All (IsPrintable s (k + 0))) (one_of (g ++ r) h at) (All-append (IsPrintable s (k + 0)) g r (each zero g refl) (subst (λ i. All (IsPrintable s i) r) n (own k r round all)))
-  each_joined k (g ∷ hs) (r ∷ round) many each all (suc j) h at =
-      let n : suc k + j ≡ k + suc j = omega arith in
-      subst (λ i. All (IsPrintable s i) h) n (each_joined (suc k) hs round (omega (arith, many)) (later k g hs each) (others k r round all) j h at)
-
-  joined_whole : (hs round : Histories) → length round ≡ length hs → length (joined hs round) ≡ length hs
-  joined_whole [] [] many = refl
-  joined_whole [] (r ∷ round) many = absurd (omega (arith, many))
-  joined_whole (g ∷ hs) [] many = refl
-  joined_whole (g ∷ hs) (r ∷ round) many = ap suc (joined_whole hs round (omega (arith, many)))
-
-  joined_printable : (hs round : Histories) → length round ≡ length hs → ArePrintable s hs → AreAll (segments_of round) → ArePrintable s (joined hs round)
-  joined_printable hs round many are all = record {
-    whole = joined_whole hs round many ∙ are.whole;
-    each =
-        λ j h at.
-        let n : 0 + j ≡ j = omega arith in
-        subst (λ i. All (IsPrintable s i) h) n
-        (each_joined 0 hs round many (λ i g there. let m : i ≡ 0 + i = omega arith in subst (λ k. All (IsPrintable s k) g) m (are.each i g there)) all j h at);
-  }
-
-  none_printable : ArePrintable s (no_entries s)
-  none_printable = record { whole = length_map (λ _. []) s.checkables; each = λ j h at. let found = get_map (λ _. []) s.checkables j h at in subst (All (IsPrintable s j)) found.2 (All-nil (IsPrintable s j)) }
+joined_whole : (hs round : Histories) → length round ≡ length hs → length (joined hs round) ≡ length hs
+joined_whole [] [] many = refl
+joined_whole [] (r ∷ round) many = absurd (omega (arith, many))
+joined_whole (g ∷ hs) [] many = refl
+joined_whole (g ∷ hs) (r ∷ round) many = ap suc (joined_whole hs round (omega (arith, many)))
 
 -- From turn to turn.
 
@@ -94,8 +41,9 @@ module _ (callers : ℕ) (r : Running) where
   abbrev s : PlainSite
   s = site_view r.site
 
-  pub begun : stage_of r [] ≡ start s (no_entries s) → (turns left : List Turn) (engine : Held) (hs : Histories) → left ≡ turns → engine.run ≡ r → engine.spent ≡ false → hs ≡ no_entries s → Keeps callers r turns left engine hs
-  begun begin turns left engine hs is at fresh none = record {
+  pub begun : stage_of r [] ≡ start s (no_entries s) → (turns left : List Turn) (engine : Held) (lines : List (List (List ℕ))) → left ≡ turns → engine.run ≡ r → engine.spent ≡ false → lines ≡ lines_of s (no_entries s)
+      → Keeps callers r turns left engine lines
+  begun begin turns left engine lines is at fresh none = record {
     done = [];
     logs = [];
     both = is;
@@ -104,12 +52,12 @@ module _ (callers : ℕ) (r : Running) where
     fresh = fresh;
     site = ap (λ (x : Running). x.site) at;
     zone = ap (λ (x : Running). x.zone) at;
-    entries = none ∙ sym (ap (λ (st : Stage). st.histories) begin) ∙ sym (ap (λ (x : Running). x.histories) at);
-    printable = subst (ArePrintable s) (sym none) (none_printable s);
+    lines = none ∙ ap (lines_of s) (sym (ap (λ (x : Running). x.histories) at ∙ ap (λ (st : Stage). st.histories) begin));
+    whole = ap length (ap (λ (x : Running). x.histories) at ∙ ap (λ (st : Stage). st.histories) begin) ∙ length_map (λ _. []) s.checkables;
     turns = ap (λ (x : Running). x.turns) at ∙ ap (λ (st : Stage). st.turns) begin;
   }
 
-  module _ (turns left : List Turn) (t : Turn) (engine : Held) (hs : Histories) (k : Keeps callers r turns (t ∷ left) engine hs) where
+  module _ (turns left : List Turn) (t : Turn) (engine : Held) (lines : List (List (List ℕ))) (k : Keeps callers r turns (t ∷ left) engine lines) where
     abbrev pub ahead : List Begun
     ahead = (behind_over c k.done k.logs).stage.begun
 
@@ -131,13 +79,8 @@ module _ (callers : ℕ) (r : Running) where
       is_next = subst (λ (st : Stage). IsTurn (basis_of_site s r.zone) callers st (turn_read s t) x.log) k.stage is_turn
 
       -- each checkable has its entries of the turn
-      pub round_whole : length x.log.round ≡ length hs
-      round_whole = is_turn.round.whole ∙ sym k.printable.whole
-
-      can_be_printed : IsSound s → AreAll s (segments_of x.log.round)
-      can_be_printed sound =
-          subst (AreAll s) x.tells.entries
-          (entries_are s out sound (record { zone = r.zone; callers = callers; stage = stage_of engine.run ahead; turn = t; log = x.log; is = is_turn; tells = x.tells }))
+      pub round_whole : length x.log.round ≡ length engine.run.histories
+      round_whole = is_turn.round.whole ∙ sym k.whole
 
       reached : stage_of moved.run (begun_by (stage_of engine.run ahead) moved.run.moment) ≡ (behind_over c (k.done ++ t ∷ []) (k.logs ++ x.log ∷ [])).stage
       reached =
@@ -145,8 +88,8 @@ module _ (callers : ℕ) (r : Running) where
           ∙ (λ i. stage_after (basis_of_site (site_view (k.site i)) (k.zone i)) (k.stage i) (turn_read (site_view (k.site i)) t) x.log)
           ∙ sym (behind_joined callers c k.done (t ∷ []) k.logs (x.log ∷ []) k.are)
 
-      pub keeps_on : IsSound s → moved.run.site ≡ engine.run.site → moved.run.zone ≡ engine.run.zone → moved.spent ≡ false → (more : Histories) → more ≡ joined hs x.log.round → Keeps callers r turns left moved more
-      keeps_on sound site zone fresh more grown = record {
+      pub keeps_on : moved.run.site ≡ engine.run.site → moved.run.zone ≡ engine.run.zone → moved.spent ≡ false → (more : List (List (List ℕ))) → more ≡ lines_of s (joined engine.run.histories x.log.round) → Keeps callers r turns left moved more
+      keeps_on site zone fresh more grown = record {
         done = k.done ++ t ∷ [];
         logs = k.logs ++ x.log ∷ [];
         both = append_assoc k.done (t ∷ []) left ∙ k.both;
@@ -155,8 +98,8 @@ module _ (callers : ℕ) (r : Running) where
         fresh = fresh;
         site = site ∙ k.site;
         zone = zone ∙ k.zone;
-        entries = grown ∙ ap (λ before. joined before x.log.round) k.entries ∙ sym (ap (λ (st : Stage). st.histories) x.after);
-        printable = subst (ArePrintable s) (sym grown) (joined_printable s hs x.log.round round_whole k.printable (can_be_printed sound));
+        lines = grown ∙ ap (lines_of s) (sym (ap (λ (st : Stage). st.histories) x.after));
+        whole = ap (λ (st : Stage). length st.histories) x.after ∙ joined_whole engine.run.histories x.log.round round_whole ∙ k.whole;
         turns = (let n = ap (λ (st : Stage). st.turns) x.after ∙ x.is.number in let m = k.turns in let l = length-append k.done (t ∷ []) in omega (arith, n, m, l));
       }
 
@@ -175,12 +118,12 @@ module _ (callers : ℕ) (r : Running) where
         record { logs = ls; are = are_logs turns ls are; is = is ∙ ap (λ (st : Stage). state_file s (stage_by c.basis st (reads c turns) ls).histories) begin }
 
     -- the state file of what is left when no turn is left
-    pub kept : (turns left : List Turn) (engine : Held) (hs : Histories) (text : List ℕ) → length left ≡ 0 → Keeps callers r turns left engine hs → text ≡ state_file s hs → IsKept callers s (nothing_given s) turns text
-    kept turns (t ∷ left) engine hs text none k is = absurd (omega (arith, none))
-    kept turns [] engine hs text none k is =
+    pub kept : (turns left : List Turn) (engine : Held) (lines : List (List (List ℕ))) (text : List ℕ) → length left ≡ 0 → Keeps callers r turns left engine lines → text ≡ state_file s engine.run.histories → IsKept callers s (nothing_given s) turns text
+    kept turns (t ∷ left) engine lines text none k is = absurd (omega (arith, none))
+    kept turns [] engine lines text none k is =
         let all : k.done ≡ turns = sym (append-nil k.done) ∙ k.both in
         subst (λ ts. IsKept callers s (nothing_given s) ts text) all
-        (kept_of k.done k.logs k.are text (is ∙ ap (state_file s) (k.entries ∙ ap (λ (st : Stage). st.histories) k.stage)))
+        (kept_of k.done k.logs k.are text (is ∙ ap (λ (st : Stage). state_file s st.histories) k.stage))
 
 -- One caller leaves one.
 

@@ -12,11 +12,11 @@ ghost use Rattle.site_run.specs.Callers.{AreCallers};
 ghost use Rattle.kept_runs.specs.Keeping.{Keeps};
 ghost use Rattle.kept_runs.specs.Kept.{AnswersKeep};
 
-use crate::gathering::{gather, no_entries};
+use crate::gathering::{gather, no_lines};
 use site_base::{OutOfMemory, Row, Text};
 use site_edge::Turn;
-use site_keep::save;
-use site_model::{Entry, Site};
+use site_keep::{SavedLines, save};
+use site_model::Site;
 use site_run::Workers;
 use std::alloc::Global;
 use turn_engine::Engine;
@@ -24,12 +24,12 @@ use turn_engine::Engine;
 /// The state file of the entries that the turns of a script leave, whose events these workers take; `None` where there are more turns than
 /// the limit. No order of a check is started.
 ///
-/// The site is one that an engine can be made of, the workers are 1 to 64, and the limit is at most 2^40. All entries are held until the
-/// text is made.
+/// The site is one that an engine can be made of, the workers are 1 to 64, and the limit is at most 2^40. Of the entries their lines alone
+/// are held until the text is made.
 ///
 /// # Errors
 ///
-/// `OutOfMemory` where there is none for the run, its entries or the text.
+/// `OutOfMemory` where there is none for the run, the lines of its entries or the text.
 pub fn keep_turns<C: Workers>(
     alloc: Global,
     workers: &C,
@@ -71,38 +71,39 @@ fn keep_by<C: Workers>(
     if turns.len() as u64 > limit {
         return Ok(None);
     }
-    let histories = take_turns(alloc, workers, engine, turns)?;
-    let text = save(alloc, engine.site(), histories.as_slice())?;
+    let lines = take_turns(alloc, workers, engine, turns)?;
+    let text = save(alloc, engine.site(), lines.as_slice())?;
     Ok(Some(text))
 }
 
-/// The entries of the turns that an engine takes which took none so far, by checkable.
+/// The lines of the entries of the turns that an engine takes which took none so far, by checkable.
 fn take_turns<C: Workers>(
     alloc: Global,
     workers: &C,
     engine: &mut Engine,
     turns: Row<Turn>,
-) -> Result<Vec<Row<Entry>>, OutOfMemory>
+) -> Result<Vec<SavedLines>, OutOfMemory>
     requires callers { AreCallers (C.callers workers.now) }
     requires apt { C.apt workers.now }
     requires fresh { engine.old.spent ≡ false }
     requires sound { IsSound (site_view engine.old.run.site) }
     requires begin { stage_of engine.old.run [] ≡ start (site_view engine.old.run.site) (none_of (site_view engine.old.run.site)) }
     requires few { length turns ≤ 2 ^ 40 }
-    ensures { IfOk result (λ histories. Keeps (C.callers workers.now) engine.old.run turns [] engine.new histories.items) }
+    ensures { IfOk result (λ lines. Keeps (C.callers workers.now) engine.old.run turns [] engine.new lines.items) }
 {
-    let mut histories = no_entries(alloc, engine.site())?;
+    let mut lines = no_lines(alloc, engine.site())?;
     for turn in turns.into_vec() {
-        take(workers, engine, &mut histories, turn)?;
+        take(alloc, workers, engine, &mut lines, turn)?;
     }
-    Ok(histories)
+    Ok(lines)
 }
 
 /// Takes one turn more.
 fn take<C: Workers>(
+    alloc: Global,
     workers: &C,
     engine: &mut Engine,
-    histories: &mut Vec<Row<Entry>>,
+    lines: &mut Vec<SavedLines>,
     turn: Turn,
 ) -> Result<(), OutOfMemory>
     requires callers { AreCallers (C.callers workers.now) }
@@ -110,10 +111,10 @@ fn take<C: Workers>(
     requires fresh { engine.old.spent ≡ false }
     requires few { engine.old.run.turns < 2 ^ 40 }
     requires sound { IsSound (site_view engine.old.run.site) }
-    requires whole { length histories.old.items ≡ length (site_view engine.old.run.site).checkables }
-    ensures { (r : Running) (all left : List OneTurn) → Keeps (C.callers workers.now) r all (turn ∷ left) engine.old histories.old.items →
-        OnOk result (Keeps (C.callers workers.now) r all left engine.new histories.new.items) }
+    requires whole { length lines.old.items ≡ length (site_view engine.old.run.site).checkables }
+    ensures { (r : Running) (all left : List OneTurn) → Keeps (C.callers workers.now) r all (turn ∷ left) engine.old lines.old.items →
+        OnOk result (Keeps (C.callers workers.now) r all left engine.new lines.new.items) }
 {
     let out = workers.turn(engine, &turn)?;
-    gather(histories, out.segments)
+    gather(alloc, engine.site(), lines, out.segments)
 }

@@ -1,6 +1,6 @@
 //! The state file of what the turns of a script leave over a site.
 //!
-//! In reading order: the entries of turns by checkable (`gathering`), the state file (`keeping`), and what is known of it (`laws`).
+//! In reading order: the lines of entries of turns by checkable (`gathering`), the state file (`keeping`), and what is known of it (`laws`).
 #![tactic(auto)]
 
 mod gathering;

@@ -6,4 +6,5 @@ pub mod Given
 pub mod Causes
 pub mod Slots
 pub mod Writing
+pub mod Pieces
 pub mod Passing

@@ -22,6 +22,14 @@ saved_from s k [] hs = []
 saved_from s k (c ∷ cs) [] = []
 saved_from s k (c ∷ cs) (h ∷ hs) = saved s k c h ∷ saved_from s (suc k) cs hs
 
+-- the lines of the entries of each checkable, from index k on
+abbrev pub lines_from : PlainSite → ℕ → Histories → List (List (List ℕ))
+lines_from s k [] = []
+lines_from s k (h ∷ hs) = map (saved_line s k) h ∷ lines_from s (suc k) hs
+
+abbrev pub lines_of : PlainSite → Histories → List (List (List ℕ))
+lines_of s hs = lines_from s 0 hs
+
 -- the compact JSON text, and a newline
 unfoldable pub state_file : PlainSite → Histories → List ℕ
 state_file s hs = compact_text (state_data (saved_from s 0 s.checkables hs)) ++ 10 ∷ []
