@@ -2,10 +2,11 @@
 # Writes and reads state files of 250,000 to 1,000,000 entries with the built program, on one core: `keep` over a script of so many results
 # of 1,000 hosts, a turn a minute, and `resume` after what it wrote, over a script of one turn. The time of `keep` has in it that the script is
 # read and run. Prints for each the seconds of the processor, the least of three runs, and the greatest memory, in megabytes and by the size
-# of the state file. Then the same of `resume` for a state file in whose objects the members stand in another order.
+# of the state file. Then the same of `resume` for a state file in whose objects the members stand in another order, and what a daemon takes
+# after its first turn, with these entries behind it and with none.
 #
-# Wanted: at 1,000,000 entries below 3 s each, twice as long for twice as many, and below 3 times the state file's size. An argument is a
-# built icinga_site to take.
+# Wanted: at 1,000,000 entries below 3 s each, twice as long for twice as many, and below 3 times the state file's size; and a daemon that takes
+# as much as one without entries. An argument is a built icinga_site to take.
 set -eu
 top=$(cd "$(dirname "$(readlink -f "${BASH_SOURCE[0]}")")/.." && pwd)
 program=${1:-$("$top/bin/program")}
@@ -45,6 +46,17 @@ show() {
     }'
 }
 
+# kept STATE..: the kilobytes that a daemon takes after its first turn
+kept() {
+    : >"$work/log"
+    "$program" daemon "$work/site" "$@" --log 2 <>"$work/world" >"$work/log" 2>/dev/null &
+    until grep -q '^turn 1 ' "$work/log"; do sleep 0.1; done
+    awk '$1 == "VmRSS:" { print $2 }' /proc/$!/status
+    kill $!
+    wait $! || true
+}
+mkfifo "$work/world"
+
 for turns in 250 500 1000; do
     script "$turns" >"$work/script"
     read -r seconds memory <<<"$(measure "$work/state" keep "$work/site" "$work/script")"
@@ -52,6 +64,7 @@ for turns in 250 500 1000; do
     read -r seconds memory <<<"$(measure "$work/log" resume "$work/site" "$work/state" "$work/next")"
     show resume "$((turns * 1000))" "$seconds" "$memory"
 done
+printf 'a daemon takes %d kB after 1,000,000 entries, and %d kB without\n' "$(kept "$work/state")" "$(kept)"
 sed -i 's/^{\("checkables":.*\),"version":1}$/{"version":1,\1}/' "$work/state"
 read -r seconds memory <<<"$(measure "$work/log" resume "$work/site" "$work/state" "$work/next")"
 show "resume, version first" 1000000 "$seconds" "$memory"
