@@ -4,6 +4,7 @@
 #   far      75,000 turns of one result each, a second apart, with and without --recur; the objects' segments are in another year
 #   one      the same with a segment of each object at the same time of each day
 #   spread   the same with segments that begin at each minute of the day
+#   waits    the same with objects that their own hosts' downtimes trigger, of which one waits in its segment from the first turn to the last
 #   silence  two turns that are a day, a year and fifty years apart, with --recur and without a result; each object has a segment on each day
 #
 # Prints seconds of the processor, the least of three runs, without what an empty script over the site takes. Wanted: turns with --recur below 1.3
@@ -90,6 +91,8 @@ awk 'BEGIN { for (n = 0; n < 75000; n++) printf "turn %d\nline \"[1] PROCESS_HOS
 turns far 'ranges = { "2030-01-01" = "01:00-02:00" }'
 turns one 'for (day in days) { ranges[day] = "20:00-21:00" }'
 turns spread 'for (day in days) { ranges[day] = clock(i % 1439) + "-" + clock(i % 1439 + 1) }'
+turns waits 'vars.triggered_by = "h" + i
+    if (i == 5000) { ranges = { "2026-01-19" = "00:00-24:00" } } else { ranges = { "2030-01-01" = "01:00-02:00" } }'
 
 site 'for (day in days) { ranges[day] = "01:00-02:00" }'
 rm -f "$work"/seconds.*

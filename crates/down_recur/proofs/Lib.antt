@@ -1,4 +1,5 @@
 pub mod Anew
+pub mod Blocks
 pub mod Booked
 pub mod Books
 pub mod ByStart
@@ -9,5 +10,5 @@ pub mod NoneDue
 pub mod Once
 pub mod Quiet
 pub mod Readback
-pub mod Sleep
+pub mod Resting
 pub mod Steps

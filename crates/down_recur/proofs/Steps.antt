@@ -1,5 +1,5 @@
 -- One more of a list was changed.
-use Rattle.std.proofs.Common.{◌≡◌, ℕ, zero, suc, ◌+◌, ◌<◌, ◌≤◌, List, [], ◌∷◌, ◌++◌, map, take, drop, length, get_or, refl, sym, subst, ap, ◌∙◌, arith, add-one}
+use Rattle.std.proofs.Common.{◌≡◌, ℕ, zero, suc, ◌+◌, ◌<◌, ◌≤◌, List, [], ◌∷◌, ◌++◌, map, take, drop, length, get_or, refl, sym, ap, ◌∙◌, arith, add-one}
 use Rattle.std.proofs.Math.ListN.{set}
 use Rattle.std.specs.List.{AllByRecursion}
 
@@ -47,20 +47,6 @@ module _ {A : Type 0} (P : A → Type 0) where
   all_set zero (x ∷ xs) v h p = (p, h.1)
   all_set (suc i) (x ∷ xs) v h p = (h.0, all_set i xs v h.1 p)
 
-  pub one_of : (i : ℕ) (xs : List A) (d : A) → AllByRecursion P xs → i < length xs → P (get_or xs i d)
-  one_of i [] d h k = absurd (omega arith)
-  one_of zero (x ∷ xs) d h k = h.0
-  one_of (suc i) (x ∷ xs) d h k = one_of i xs d h.1 (omega arith)
-
-  first_suc : (i : ℕ) (xs : List A) (v : A) → AllByRecursion P (take i xs) → i < length xs → P v → AllByRecursion P (take (suc i) (set xs i v))
-  first_suc i [] v h k p = absurd (omega arith)
-  first_suc zero (x ∷ xs) v h k p = (p, tt)
-  first_suc (suc i) (x ∷ xs) v h k p = (h.0, first_suc i xs v h.1 (omega arith) p)
-
-  -- the same of the first ones
-  pub first_more : (i : ℕ) (xs : List A) (v : A) → AllByRecursion P (take i xs) → i < length xs → P v → AllByRecursion P (take (i + 1) (set xs i v))
-  first_more i xs v h k p = subst (λ n. AllByRecursion P (take n (set xs i v))) (sym (add-one i)) (first_suc i xs v h k p)
-
 -- ---- behind the end
 
 pub none_behind : {A B : Type 0} (f : A → B) (i : ℕ) (xs : List A) → length xs ≤ i → drop i (map f xs) ≡ []
@@ -69,21 +55,8 @@ none_behind f (suc i) [] h = refl
 none_behind f zero (x ∷ xs) h = absurd (omega arith)
 none_behind f (suc i) (x ∷ xs) h = none_behind f i xs (omega arith)
 
-pub all_before : {A : Type 0} (i : ℕ) (xs : List A) → length xs ≤ i → take i xs ≡ xs
-all_before zero [] h = refl
-all_before (suc i) [] h = refl
-all_before zero (x ∷ xs) h = absurd (omega arith)
-all_before (suc i) (x ∷ xs) h = ap (λ l. x ∷ l) (all_before i xs (omega arith))
-
 pub all_of_map : {A B : Type 0} (f : A → B) (i : ℕ) (xs : List A) → length xs ≤ i → take i (map f xs) ≡ map f xs
 all_of_map f zero [] h = refl
 all_of_map f (suc i) [] h = refl
 all_of_map f zero (x ∷ xs) h = absurd (omega arith)
 all_of_map f (suc i) (x ∷ xs) h = ap (λ l. f x ∷ l) (all_of_map f i xs (omega arith))
-
--- as many items as are wanted, before others
-pub front_of : {A : Type 0} (n : ℕ) (xs ys : List A) → length xs ≡ n → take n (xs ++ ys) ≡ xs
-front_of zero [] ys h = refl
-front_of (suc n) [] ys h = absurd (omega arith)
-front_of zero (x ∷ xs) ys h = absurd (omega arith)
-front_of (suc n) (x ∷ xs) ys h = ap (λ l. x ∷ l) (front_of n xs ys (omega arith))

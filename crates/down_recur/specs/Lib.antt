@@ -9,5 +9,6 @@ pub mod Examples
 pub mod Laws
 pub mod Readback
 pub mod Turns
+pub mod Rests
 pub mod Waiting
 pub mod Contents

@@ -1,5 +1,5 @@
 -- When nothing is due for a while.
-use Rattle.std.specs.Prelude.{◌≡◌, ℕ, ◌+◌, ◌-◌, ◌<◌, ◌≤◌, min, nat_le, nat_lt, Bool, ◌&&◌, Option, List, [], ◌∷◌}
+use Rattle.std.specs.Prelude.{◌≡◌, ℕ, ◌+◌, ◌<◌, ◌≤◌, List, [], ◌∷◌, Option}
 use Rattle.std.specs.List.{AllByRecursion}
 use Rattle.jiff_tz.specs.declared.tzif.Tzif.{Tzif}
 use Rattle.down_recur.specs.Due.{IsQuiet}
@@ -14,26 +14,20 @@ recurring_in w = w.recurring
 abbrev pub IsWaiting : Option Tzif → Waiting → Type 0
 IsWaiting zone w = IsQuiet zone w.recurring.spans w.recurring.done w.seen w.next
 
+abbrev pub AreWaiting : Option Tzif → List Waiting → Type 0
+AreWaiting zone ws = AllByRecursion (IsWaiting zone) ws
+
 -- at first it is looked at at once
 abbrev pub IsFresh : Waiting → Type 0
 IsFresh w = w.next ≡ 0
 
--- so nothing is due from one moment on and before another
-abbrev pub IsAsleep : ℕ → ℕ → Waiting → Type 0
-IsAsleep from until w =
-    (moment : ℕ) → from ≤ moment → moment < until → (w.seen ≤ moment) × (moment + lead w.recurring.trigger < w.next)
+-- It was looked at no later than at a moment, and rests until a second: nothing is due before it. One that rests until 0 doesn't rest.
+abbrev pub IsResting : ℕ → ℕ → Waiting → Type 0
+IsResting seen second w = 0 < second → (w.seen ≤ seen) × (second + lead w.recurring.trigger ≤ w.next)
 
-abbrev pub AreWaiting : Option Tzif → List Waiting → Type 0
-AreWaiting zone ws = AllByRecursion (IsWaiting zone) ws
-
-abbrev pub AreAsleep : ℕ → ℕ → List Waiting → Type 0
-AreAsleep from until ws = AllByRecursion (IsAsleep from until) ws
-
--- as it is tested
-abbrev pub is_asleep : Waiting → ℕ → Bool
-is_asleep w moment = nat_le w.seen moment && nat_lt (moment + lead w.recurring.trigger) w.next
-
--- the second before which nothing is due of these, and which isn't after another
-abbrev pub rest_of : ℕ → List Waiting → ℕ
-rest_of most [] = most
-rest_of most (w ∷ ws) = rest_of (min most (w.next - lead w.recurring.trigger)) ws
+-- the same of each and its second
+abbrev pub AreResting : ℕ → List ℕ → List Waiting → Type 0
+AreResting seen [] [] = Unit {0}
+AreResting seen [] (w ∷ ws) = ⊥
+AreResting seen (second ∷ seconds) [] = ⊥
+AreResting seen (second ∷ seconds) (w ∷ ws) = IsResting seen second w × AreResting seen seconds ws

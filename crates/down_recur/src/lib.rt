@@ -6,7 +6,8 @@
 //!
 //! In reading order: the segments of time ranges (`segment`), those around a moment (`around`) and those that are due (`looking`); what recurs
 //! (`recurring`) and how it is read from a site (`reading`); the downtime of a segment (`booking`) and its line (`line`); a turn (`turn`), what
-//! waits for its next segment (`waiting`), all that waits (`walking`), and the feed (`recur`); and what it means (`laws`).
+//! waits for its next segment (`waiting`), until when each rests (`rests`), all that waits (`walking`), and the feed (`recur`); and what it means
+//! (`laws`).
 #![tactic(auto)]
 
 mod around;
@@ -17,6 +18,7 @@ mod looking;
 mod reading;
 mod recur;
 mod recurring;
+mod rests;
 mod segment;
 mod turn;
 mod waiting;

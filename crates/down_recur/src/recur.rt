@@ -1,12 +1,13 @@
 // The feed of a site's recurring downtimes.
-ghost use Rattle.std.specs.Prelude.{◌≡◌, ◌≤◌, ◌<◌, ◌&&◌, nat_le, nat_lt, IfOk, OnOk};
+ghost use Rattle.std.specs.Prelude.{◌≡◌, IfOk, OnOk};
 ghost use Rattle.site_model.specs.PlainSite.{site_view};
 ghost use Rattle.site_posts.specs.Books.{AreBooks, histories_of};
 
 use crate::reading::read_all;
+use crate::rests::Rests;
 use crate::turn::Turn;
 use crate::waiting::Waiting;
-use crate::walking::{give_all, rest_until};
+use crate::walking::{give_all, rest_from};
 use checkable_core::Checkable;
 use site_base::{Blob, Moment, OutOfMemory};
 use site_model::Site;
@@ -23,10 +24,11 @@ pub struct Recur<'a> {
     /// The site that it was made for, which clauses alone see.
     site: Told<Site>,
     zone: &'a Zone,
+    /// What recurs, in committed order.
     list: Vec<Waiting>,
-    /// From this moment on and before the second `until` nothing is due.
+    /// Until when each of it rests, from the last turn's moment on.
+    rests: Rests,
     seen: Moment,
-    until: u64,
 }
 
 impl<'a> Model for Recur<'a> {
@@ -34,7 +36,7 @@ impl<'a> Model for Recur<'a> {
     ghost use Rattle.std.specs.Prelude.{map};
     ghost use Rattle.site_base.specs.contracts.tree.Tree as tree;
     ghost use Rattle.down_recur.specs.Contents.{Contents};
-    ghost use Rattle.down_recur.specs.Waiting.{AreAsleep, AreWaiting, recurring_in};
+    ghost use Rattle.down_recur.specs.Waiting.{AreResting, AreWaiting, recurring_in};
 
     ghost Value = { Contents };
 
@@ -42,7 +44,7 @@ impl<'a> Model for Recur<'a> {
 
     ghost view = { λ k. record { site = k.site.value; zone = k.zone.now; recurrings = map recurring_in k.list.items } };
 
-    ghost invariant = { λ k. AreWaiting k.zone.now k.list.items × AreAsleep k.seen k.until k.list.items };
+    ghost invariant = { λ k. AreWaiting k.zone.now k.list.items × AreResting k.seen k.rests k.list.items };
 }
 
 impl<'a> Recur<'a> {
@@ -58,19 +60,23 @@ impl<'a> Recur<'a> {
     pub fn new(alloc: Global, site: &Site, zone: &'a Zone) -> Result<Recur<'a>, OutOfMemory>
         ensures { IfOk result (λ r. r ≡ begun site.now zone.now) }
     {
+        let list = read_all(alloc, site)?;
+        let rests = Rests::awake(alloc, list.len())?;
         Ok(Recur {
             alloc,
             site: Told::of(site),
             zone,
-            list: read_all(alloc, site)?,
+            list,
+            rests,
             seen: Moment::of(0).unwrap(),
-            until: 0,
         })
     }
 
     /// The lines of a turn at a moment, at which the books stand: for each object in committed order the downtimes of its segments, by their
     /// starts and then by the order of `ranges`. A segment gives one line at most: a day before it begins or at the first turn after that, or, where
     /// it is triggered, at the first turn in it at which its trigger has a downtime in effect.
+    ///
+    /// It takes a time that grows with what is due, with what waits for its trigger, and with a thousandth of all that recurs.
     ///
     /// # Errors
     ///
@@ -80,21 +86,9 @@ impl<'a> Recur<'a> {
         ensures lines { IfOk result (λ lines. lines.items ≡ gives self.old (histories_of books.now) moment) }
         ensures after { OnOk result (self.new ≡ after self.old (histories_of books.now) moment) }
     {
-        if self.seen <= moment && moment.secs() < self.until {
-            return Ok(Vec::new(self.alloc));
-        }
-        self.walk(books, moment)
-    }
-
-    /// The same by a walk over all that recurs.
-    fn walk(&mut self, books: &[Checkable], moment: Moment) -> Result<Vec<Blob>, OutOfMemory>
-        requires { AreBooks (site_view self.old.site) moment books.now }
-        ensures lines { IfOk result (λ lines. lines.items ≡ gives self.old (histories_of books.now) moment) }
-        ensures after { OnOk result (self.new ≡ after self.old (histories_of books.now) moment) }
-    {
-        let mut lines = Vec::new(self.alloc);
+        rest_from(self.alloc, self.seen, moment, &mut self.rests, &self.list)?;
         self.seen = moment;
-        self.until = 0;
+        let mut lines = Vec::new(self.alloc);
         let turn = Turn {
             alloc: self.alloc,
             site: &self.site,
@@ -102,8 +96,7 @@ impl<'a> Recur<'a> {
             books,
             moment,
         };
-        give_all(&mut lines, &mut self.list, &turn)?;
-        self.until = rest_until(&self.list);
+        give_all(&mut lines, &mut self.list, &mut self.rests, &turn)?;
         Ok(lines)
     }
 }

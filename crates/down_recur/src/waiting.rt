@@ -1,8 +1,8 @@
 // What waits for its next segment.
-ghost use Rattle.std.specs.Prelude.{◌≡◌, ◌+◌, ◌<◌, ◌≤◌, ◌++◌, [], Some, IfOk, OnOk};
+ghost use Rattle.std.specs.Prelude.{◌≡◌, ◌+◌, ◌-◌, ◌≤◌, ◌++◌, [], Some, IfOk, OnOk};
 ghost use Rattle.down_recur.specs.Giving.{due_at, is_triggered as triggered_in, lead as lead_of, lines_of};
 ghost use Rattle.down_recur.specs.Turns.{HasBooks, after_in, lines_in, site_of};
-ghost use Rattle.down_recur.specs.Waiting.{IsWaiting, is_asleep as asleep};
+ghost use Rattle.down_recur.specs.Waiting.{IsWaiting};
 ghost use Rattle.down_recur.specs.Due.{IsQuiet};
 ghost use Rattle.site_posts.specs.Books.{histories_of};
 
@@ -21,9 +21,9 @@ const DAY: u64 = 86_400;
 pub(crate) struct Waiting {
     pub(crate) recurring: Recurring,
     /// The last moment at which it was looked at.
-    pub(crate) seen: Moment,
+    seen: Moment,
     /// Nothing begins before this second that isn't done and ends after `seen`.
-    pub(crate) next: u64,
+    next: u64,
     /// At this second a segment ends that waits for the trigger. Before it no look is needed as long as the trigger has no downtime in effect.
     closes: u64,
 }
@@ -51,21 +51,11 @@ impl Waiting {
         ensures waiting { IsWaiting turn.now.zone.now self.new }
         ensures seen { OnOk result (self.new.seen ≤ turn.now.moment) }
     {
-        if self.is_asleep(turn.moment) {
-            return Ok(());
-        }
         if turn.moment.secs() < self.closes && !is_triggered(turn, self.recurring.trigger) {
             self.rest(turn.moment, 0);
             return Ok(());
         }
         self.look(out, turn)
-    }
-
-    /// Whether nothing is due at a moment, as it was found.
-    fn is_asleep(&self, moment: Moment) -> bool
-        ensures { result ≡ asleep self.now moment }
-    {
-        self.seen <= moment && moment.secs() + lead(self.recurring.trigger) < self.next
     }
 
     /// The same by a look at what is due.
@@ -117,6 +107,13 @@ impl Waiting {
         Ok(())
     }
 
+    /// The second before which nothing is due.
+    pub(crate) fn rests_until(&self) -> u64
+        ensures { result ≡ self.now.next - lead_of self.now.recurring.trigger }
+    {
+        self.next.saturating_sub(lead(self.recurring.trigger))
+    }
+
     /// Takes note of a look at a moment, before which second nothing more begins.
     fn rest(&mut self, moment: Moment, next: u64)
         ensures recurring { self.new.recurring ≡ self.old.recurring }
@@ -151,7 +148,7 @@ impl Recurring {
 }
 
 /// How many seconds ahead of a moment segments are given.
-pub(crate) fn lead(trigger: Option<u32>) -> u64
+fn lead(trigger: Option<u32>) -> u64
     ensures value { result ≡ lead_of trigger }
     ensures within { result ≤ 86_400 }
 {
