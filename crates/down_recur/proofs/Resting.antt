@@ -106,15 +106,7 @@ resting_later seen moment [] (w ∷ ws) h a = absurd a
 resting_later seen moment (t ∷ ts) [] h a = absurd a
 resting_later seen moment (t ∷ ts) (w ∷ ws) h a = (λ some. let found = a.0 some in (omega (arith, found.0), found.1), resting_later seen moment ts ws h a.1)
 
--- one is looked at
-pub awake_at : (seen i : ℕ) (seconds : List ℕ) (ws : List Waiting) → AreResting seen seconds ws → AreResting seen (set seconds i 0) ws
-awake_at seen i [] [] a = tt
-awake_at seen i [] (w ∷ ws) a = absurd a
-awake_at seen i (t ∷ ts) [] a = absurd a
-awake_at seen zero (t ∷ ts) (w ∷ ws) a = (λ h. absurd (omega arith), a.1)
-awake_at seen (suc i) (t ∷ ts) (w ∷ ws) a = (a.0, awake_at seen i ts ws a.1)
-
--- and rests until another second
+-- one rests until another second
 pub resting_set : (seen i second : ℕ) (seconds : List ℕ) (ws : List Waiting) (v : Waiting) → AreResting seen seconds ws → IsResting seen second v → AreResting seen (set seconds i second) (set ws i v)
 resting_set seen i second [] [] v a is = tt
 resting_set seen i second [] (w ∷ ws) v a is = absurd a

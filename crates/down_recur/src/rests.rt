@@ -6,10 +6,10 @@ use site_base::{Moment, OutOfMemory};
 use std::alloc::Global;
 use std::marker::Model;
 
-/// How many seconds are in a block, and how many blocks in a part.
-const MANY: usize = 32;
+/// How many seconds a block has, and how many blocks a part.
+const BLOCK: usize = 32;
 
-/// How many seconds are in a part.
+/// How many seconds a part has.
 const PART: usize = 1_024;
 
 /// Until which second each of a list rests, so that those that don't are found without a look at each. Clauses see these seconds.
@@ -38,18 +38,18 @@ impl Rests {
     ///
     /// # Errors
     ///
-    /// `OutOfMemory` where there is none for them.
+    /// `OutOfMemory` if there is none for them.
     pub(crate) fn awake(alloc: Global, count: usize) -> Result<Rests, OutOfMemory>
         ensures { IfOk result (λ r. r ≡ replicate count 0) }
     {
         Ok(Rests {
             seconds: vec![in alloc; 0; count]?,
-            blocks: vec![in alloc; 0; count / MANY + 1]?,
+            blocks: vec![in alloc; 0; count / BLOCK + 1]?,
             parts: vec![in alloc; 0; count / PART + 1]?,
         })
     }
 
-    /// The first from a place on that doesn't rest at a moment; how many there are where each of them does.
+    /// The first from a place on that doesn't rest at a moment; how many there are if each of them does.
     pub(crate) fn first(&self, from: usize, moment: Moment) -> usize
         requires { from ≤ length self.now }
         ensures from { from ≤ result }
@@ -78,8 +78,8 @@ impl Rests {
         let now = moment.secs();
         if place % PART == 0 && now < self.parts[place / PART] {
             PART
-        } else if place % MANY == 0 && now < self.blocks[place / MANY] {
-            MANY
+        } else if place % BLOCK == 0 && now < self.blocks[place / BLOCK] {
+            BLOCK
         } else if now < self.seconds[place] {
             1
         } else {
@@ -96,7 +96,7 @@ impl Rests {
             return;
         }
         self.seconds[place] = second;
-        renew(&mut self.blocks, &self.seconds, place / MANY);
+        renew(&mut self.blocks, &self.seconds, place / BLOCK);
         renew(&mut self.parts, &self.blocks, place / PART);
     }
 }
@@ -107,8 +107,8 @@ fn renew(blocks: &mut Vec<u64>, seconds: &[u64], block: usize)
     requires begins { block * 32 ≤ length seconds.now }
     ensures { blocks.new.items ≡ slice_set blocks.old.items block (least_in_block block seconds.now) }
 {
-    let start = block * MANY;
-    let end = seconds.len().min(start + MANY);
+    let start = block * BLOCK;
+    let end = seconds.len().min(start + BLOCK);
     blocks[block] = least_of(&seconds[start..end]);
 }
 

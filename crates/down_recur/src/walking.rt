@@ -41,7 +41,7 @@ pub(crate) fn give_all(
 ///
 /// # Errors
 ///
-/// `OutOfMemory` where there is none to note that; all is as before then.
+/// `OutOfMemory` if there is none to note that; all is as before then.
 pub(crate) fn rest_from(
     alloc: Global,
     seen: Moment,
