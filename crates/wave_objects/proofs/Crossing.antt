@@ -6,6 +6,8 @@ use denote.Param.Send.{IsSend, IsSync, sendable}
 use denote.Param.SendFields.{declared_send, declared_sync, variants_send, variants_sync}
 use Rattle.std.proofs.Crossing.{crosses}
 use Rattle.std.proofs.MapsCrossing as maps
+use Rattle.site_base.specs.contracts.diag.Diag.{the_row as diag_row, the_type as diag_type}
+use Rattle.site_base.specs.contracts.diag_kind.DiagKind.{the_row as diag_kind_row}
 use Rattle.site_base.specs.contracts.tree.Tree.{the_row as tree_row, enum as tree_enum}
 use Rattle.site_base.specs.contracts.tree.Tree.TheKnot as knot
 use Rattle.site_base.specs.declared.tree.Tree.TheBlock.{member-Tree}
@@ -33,9 +35,16 @@ use Rattle.rule_expressions.specs.contracts.prepared.Prepared.{the_row as prepar
 use Rattle.rule_expressions.specs.contracts.subject.Subject.{the_row as subject_row}
 use Rattle.apply_rules.specs.contracts.instance.Instance.{the_row as instance_row, the_type as instance_type}
 use Rattle.apply_rules.specs.contracts.preset_keys.PresetKeys.{the_row as keys_row}
+use Rattle.apply_rules.specs.contracts.rule_answer.RuleAnswer.{the_row as rule_answer_row, enum as rule_answer_enum}
 use Rattle.apply_rules.specs.contracts.target.Target.{the_row as target_row}
 use Rattle.wave_order.specs.contracts.pending.Pending.{the_row as pending_row, enum as pending_enum}
 use Rattle.wave_objects.specs.contracts.answering_many.ItemTasks.{the_row as item_tasks_row, the_type as item_tasks_type}
+use Rattle.wave_objects.specs.contracts.applying_many.RuleTasks.{the_row as rule_tasks_row, the_type as rule_tasks_type}
+use Rattle.wave_objects.specs.contracts.at_targets.PlacedAnswer.{the_row as placed_answer_row, the_type as placed_answer_type}
+use Rattle.wave_objects.specs.contracts.by_type.PlacedRule.{the_row as placed_rule_row}
+use Rattle.wave_objects.specs.contracts.by_type.RulesOfType.{the_row as rules_of_type_row, the_type as rules_of_type_type}
+use Rattle.wave_objects.specs.contracts.joining.GroupLists.{the_row as group_lists_row}
+use Rattle.wave_objects.specs.contracts.joining_many.GroupTasks.{the_row as group_tasks_row, the_type as group_tasks_type}
 use Rattle.wave_objects.proofs.Syntax.{text_send, text_sync, block_send, block_sync, func_send, func_sync, each_send, each_sync, stmt_sync}
 
 -- Trees.
@@ -184,6 +193,9 @@ prepared_send ℓ = declared_send (prepared_type ℓ) (search (sendable, subject
 prepared_sync : (ℓ : NamedLft) → IsSync (prepared_row ℓ)
 prepared_sync ℓ = declared_sync (prepared_type ℓ) (search (sendable, subject_sync) depth 60, (search (sendable, crosses, store_sync) depth 60, (search (sendable, crosses, text_sync, value_sync) depth 60 fits 20000, tt)))
 
+target_send : (ℓ : NamedLft) → IsSend (target_row ℓ)
+target_send ℓ = search (sendable, crosses, object_sync) depth 60 fits 20000
+
 target_sync : (ℓ : NamedLft) → IsSync (target_row ℓ)
 target_sync ℓ = search (sendable, crosses, object_sync) depth 60 fits 20000
 
@@ -199,6 +211,30 @@ instance_sync ℓ = declared_sync (instance_type ℓ) (
   ),
 )
 
+instance_send : (ℓ : NamedLft) → IsSend (instance_row ℓ)
+instance_send ℓ = declared_send (instance_type ℓ) (
+  search (sendable, crosses) depth 60 fits 20000,
+  (
+    search (sendable, crosses, rule_sync) depth 60,
+    (
+      search (sendable, target_send) depth 60,
+      (search (sendable, crosses, prepared_send, prepared_sync) depth 60, (search (sendable, crosses, text_send) depth 60 fits 20000, (search (sendable, crosses, text_send, tree_send) depth 60 fits 20000, tt))),
+    ),
+  ),
+)
+
+diag_kind_send : IsSend diag_kind_row
+diag_kind_send = search (sendable, crosses) depth 400 fits 50000
+
+diag_send : IsSend diag_row
+diag_send = declared_send diag_type (search (sendable, crosses) depth 60 fits 20000, (search (sendable, crosses) depth 60 fits 20000, (search (sendable, diag_kind_send) depth 60, (search (sendable, text_send) depth 60, tt))))
+
+rule_answer_send : (ℓ : NamedLft) → IsSend (rule_answer_row ℓ)
+rule_answer_send ℓ = variants_send (rule_answer_enum ℓ) ((search (sendable, crosses, instance_send) depth 60, tt), ((search (sendable, diag_send) depth 60, tt), ((search (sendable, read_send) depth 60, tt), tt)))
+
+pub placed_answer_send : (ℓ : NamedLft) → IsSend (placed_answer_row ℓ)
+placed_answer_send ℓ = declared_send (placed_answer_type ℓ) (search (sendable, crosses) depth 60, (search (sendable, rule_answer_send) depth 60, tt))
+
 pub pending_sync : (ℓ : NamedLft) → IsSync (pending_row ℓ)
 pending_sync ℓ = variants_sync (pending_enum ℓ) ((search (sendable, item_sync) depth 60, tt), ((search (sendable, instance_sync) depth 60, tt), tt))
 
@@ -209,3 +245,19 @@ keys_sync = search (sendable, crosses, text_sync) depth 60 fits 20000
 
 pub item_tasks_sync : (ℓ : NamedLft) → IsSync (item_tasks_row ℓ)
 item_tasks_sync ℓ = declared_sync (item_tasks_type ℓ) (search (sendable, view_sync) depth 60, (search (sendable, keys_sync) depth 60, tt))
+
+placed_rule_sync : (ℓ : NamedLft) → IsSync (placed_rule_row ℓ)
+placed_rule_sync ℓ = search (sendable, crosses, rule_sync) depth 60 fits 20000
+
+rules_of_type_sync : (ℓ : NamedLft) → IsSync (rules_of_type_row ℓ)
+rules_of_type_sync ℓ = declared_sync (rules_of_type_type ℓ) (search (sendable, crosses, text_sync) depth 60 fits 20000, (search (sendable, crosses, placed_rule_sync) depth 60, tt))
+
+pub rule_tasks_sync : (ℓ m : NamedLft) → IsSync (rule_tasks_row ℓ m)
+rule_tasks_sync ℓ m =
+    declared_sync (rule_tasks_type ℓ m) (search (sendable, view_sync) depth 60, (search (sendable, crosses, committed_sync) depth 60, (search (sendable, crosses, rules_of_type_sync) depth 60, tt)))
+
+group_lists_sync : (ℓ : NamedLft) → IsSync (group_lists_row ℓ)
+group_lists_sync ℓ = search (sendable, crosses, item_sync) depth 60 fits 20000
+
+pub group_tasks_sync : (ℓ : NamedLft) → IsSync (group_tasks_row ℓ)
+group_tasks_sync ℓ = declared_sync (group_tasks_type ℓ) (search (sendable, view_sync) depth 60, (search (sendable, crosses, group_lists_sync) depth 60, tt))

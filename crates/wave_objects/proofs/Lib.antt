@@ -1,6 +1,7 @@
 pub mod TargetLaws
-pub mod ApplyLaws
 pub mod TypeLaws
+pub mod TakeLaws
+pub mod ApplyLaws
 pub mod NoGroups
 pub mod JoinLaws
 pub mod NamedRules

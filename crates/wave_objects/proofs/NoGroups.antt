@@ -66,7 +66,7 @@ pub record IsAsBefore (o : PlainObject) (a : Answer (List (List ℕ))) : Type 0 
   pub same : grown o a ≡ o
   pub quiet : diags_in a ≡ []
 
-same_tree : (o : PlainObject) → record o { tree = tree_grown [] o.tree } ≡ o
+pub same_tree : (o : PlainObject) → record o { tree = tree_grown [] o.tree } ≡ o
 same_tree o = ap (λ (d : Data). record o { tree = d }) (none_added o.tree)
 
 by_names : (view : View) (o : PlainObject) (x : Outcome (Option Trees)) → IsQuiet x

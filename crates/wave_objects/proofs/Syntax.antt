@@ -26,7 +26,6 @@ use Rattle.dsl_syntax.specs.contracts.each.Each as loop
 use Rattle.dsl_syntax.specs.contracts.expr.Expr as expr
 use Rattle.dsl_syntax.specs.contracts.expr_kind.ExprKind as expr_kind
 use Rattle.dsl_syntax.specs.contracts.func.Func as func
-use Rattle.dsl_syntax.specs.contracts.step.Step as step
 use Rattle.dsl_syntax.specs.contracts.stmt.Stmt as stmt
 use Rattle.dsl_syntax.specs.contracts.stmt_kind.StmtKind as stmt_kind
 use Rattle.dsl_syntax.specs.contracts.used.Use as used

@@ -12,7 +12,7 @@ use Rattle.object_types.specs.declared.attribute.Attribute.TheVariants as attrib
 use Rattle.eval_work.specs.Lists.{object_at}
 use Rattle.commit_meaning.specs.Names.{Target, host, text_of}
 use Rattle.commit_meaning.specs.Worlds.{first_object, of_kind, service_targets, targets, with_host}
-use Rattle.wave_objects.specs.Applying.{targets_in, targets_of_one}
+use Rattle.wave_objects.specs.Targets.{targets_in, targets_of_one}
 
 -- the targets that some of all objects are
 abbrev pub some_targets : List ℕ → List PlainObject → List PlainObject → List Target

@@ -1,8 +1,7 @@
 -- What the items of a wave share before their turn was made in one store.
-use Rattle.std.proofs.Common.{◌≡◌, List, [], ◌∷◌, ◌++◌, Result, Ok, Err, OnOk, map, sym, subst}
+use Rattle.std.proofs.Common.{◌≡◌, List, [], ◌∷◌, ◌++◌, map, sym, subst}
 use Rattle.std.specs.List.{AllByRecursion, flat_map}
 use Rattle.std.proofs.lemmas.List.Elements.{recursion_from_All}
-use Rattle.site_base.specs.declared.memory.OutOfMemory.{OutOfMemory}
 use Rattle.dsl_value.specs.Contents.{Contents}
 use Rattle.dsl_value.proofs.Kept.{all_append}
 use Rattle.eval_work.specs.declared.item.Item.{Item}
@@ -34,7 +33,3 @@ module _ (s : Contents) where
   pub after_applied : (old new : List Pending) (xs : List Applied) → new ≡ old ++ flat_map pending_by xs → AreWaitingIn s old → AppliedShared s xs → AreWaitingIn s new
   after_applied old new xs e h k =
       subst (AreWaitingIn s) (sym e) (all_append (IsWaitingIn s) old (flat_map pending_by xs) h (applied_wait xs (recursion_from_All (λ (x : Applied). AreSharedIn s x.made.items) xs k)))
-
-  pub all_waiting : (r : Result (Unit {0}) OutOfMemory) (old new : List Pending) (xs : List Applied) → OnOk r (new ≡ old ++ flat_map pending_by xs) → AreWaitingIn s old → AppliedShared s xs → OnOk r (AreWaitingIn s new)
-  all_waiting (Ok u) old new xs e h k = after_applied old new xs e h k
-  all_waiting (Err e) old new xs f h k = tt

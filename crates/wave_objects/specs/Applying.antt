@@ -1,7 +1,6 @@
--- What the rules of a wave make, target after target.
-use Rattle.std.specs.Prelude.{◌≡◌, ℕ, All, List, [], ◌∷◌, ◌++◌, codes, map, if◌then◌else◌}
+-- What the rules of a wave make of all their targets.
+use Rattle.std.specs.Prelude.{◌≡◌, ℕ, ◌+◌, ◌<◌, ◌==◌, All, List, [], ◌∷◌, ◌++◌, map, if◌then◌else◌}
 use Rattle.std.specs.List.{AllByRecursion, flat_map}
-use Rattle.std.specs.Str.{bytes_eq}
 use Rattle.site_base.specs.declared.diag.Diag.{Diag}
 use Rattle.site_model.specs.PlainSite.{PlainObject}
 use Rattle.dsl_value.specs.Contents.{Contents}
@@ -10,25 +9,15 @@ use Rattle.eval_meaning.specs.Views.{View}
 use Rattle.eval_work.specs.Kept.{PairsNamed}
 use Rattle.eval_work.specs.Works.{plain_rule}
 use Rattle.commit_meaning.specs.Answers.{Answer, all_made, diags_in}
-use Rattle.commit_meaning.specs.Names.{Target, host}
+use Rattle.commit_meaning.specs.Names.{Target}
 use Rattle.commit_meaning.specs.Rules.{instances}
-use Rattle.commit_meaning.specs.Worlds.{service_targets}
 use Rattle.apply_rules.specs.Plain.{plain_instance}
 use Rattle.apply_rules.specs.Sharing.{AreSharedIn}
 use Rattle.wave_order.specs.WaveItems.{as_made}
 use Rattle.wave_order.specs.declared.pending.Pending.{Pending}
+use Rattle.wave_objects.specs.AtTargets.{Placed}
+use Rattle.wave_objects.specs.Targets.{targets_in}
 use Rattle.wave_objects.specs.declared.applying.Applied.{Applied}
-
--- ---- targets
-
--- the targets that one object of a type is, among all objects
-abbrev pub targets_of_one : List PlainObject → PlainObject → List Target
-targets_of_one all o = if bytes_eq o.kind (codes "Service") then service_targets all o else host o ∷ []
-
--- the targets of a type that some of all objects are, one object after another
-abbrev pub targets_in : List ℕ → List PlainObject → List PlainObject → List Target
-targets_in kind all [] = []
-targets_in kind all (o ∷ os) = if bytes_eq o.kind kind then targets_of_one all o ++ targets_in kind all os else targets_in kind all os
 
 -- ---- rules with what they made
 
@@ -63,29 +52,39 @@ pub record IsNew (x : Applied) : Type 0 where
 abbrev pub AreNew : List Applied → Type 0
 AreNew xs = AllByRecursion IsNew xs
 
+-- ---- answers that rules take
+
+-- the answers for a place, in their order
+abbrev pub for_place : ℕ → List Placed → List (Answer (List PlainItem))
+for_place k [] = []
+for_place k (a ∷ answers) = if a.place == k then a.answer ∷ for_place k answers else for_place k answers
+
+-- each answer is for one of so many places
+abbrev pub AreWithin : ℕ → List Placed → Type 0
+AreWithin n answers = AllByRecursion (λ a. a.place < n) answers
+
+-- a rule with these answers besides
+pub record HasTaken (answers : List (Answer (List PlainItem))) (before after : Applied) : Type 0 where
+  pub rule : after.rule ≡ before.rule
+  pub made : made_by after ≡ made_by before ++ flat_map all_made answers
+  pub faults : faults_by after ≡ faults_by before ++ flat_map diags_in answers
+
+-- rules, of which the first has this place, each with the answers for its place besides
+abbrev pub HaveTaken : ℕ → List Placed → List Applied → List Applied → Type 0
+HaveTaken k answers [] [] = Unit {0}
+HaveTaken k answers (x ∷ xs) (y ∷ ys) = HasTaken (for_place k answers) x y × HaveTaken (k + 1) answers xs ys
+HaveTaken k answers xs ys = ⊥
+
+-- ---- what rules make of all objects
+
 -- what a rule comes to at these targets
 abbrev pub answers_to : View → PlainRule → List Target → List (Answer (List PlainItem))
 answers_to view r ts = map (instances view r) ts
 
--- a rule with what it comes to at these targets besides
-pub record IsGrown (view : View) (ts : List Target) (before after : Applied) : Type 0 where
-  pub rule : after.rule ≡ before.rule
-  pub made : made_by after ≡ made_by before ++ flat_map all_made (answers_to view (applied_rule before) ts)
-  pub faults : faults_by after ≡ faults_by before ++ flat_map diags_in (answers_to view (applied_rule before) ts)
+-- a rule has what it comes to at all targets of its type that these objects are
+pub record IsApplied (view : View) (all : List PlainObject) (x : Applied) : Type 0 where
+  pub made : made_by x ≡ flat_map all_made (answers_to view (applied_rule x) (targets_in x.rule.now.target all all))
+  pub faults : faults_by x ≡ flat_map diags_in (answers_to view (applied_rule x) (targets_in x.rule.now.target all all))
 
--- these targets are of a type, and count for a rule that goes to it
-abbrev pub wanted : List ℕ → Applied → List Target → List Target
-wanted kind x ts = if bytes_eq kind x.rule.now.target then ts else []
-
-abbrev pub AreGrown : View → List ℕ → List Target → List Applied → List Applied → Type 0
-AreGrown view kind ts [] [] = Unit {0}
-AreGrown view kind ts (x ∷ xs) (y ∷ ys) = IsGrown view (wanted kind x ts) x y × AreGrown view kind ts xs ys
-AreGrown view kind ts xs ys = ⊥
-
--- what a rule made and what it makes of these objects, among all, is what it makes of all of them
-pub record IsApplied (view : View) (all rest : List PlainObject) (x : Applied) : Type 0 where
-  pub made : made_by x ++ flat_map all_made (answers_to view (applied_rule x) (targets_in x.rule.now.target all rest)) ≡ flat_map all_made (answers_to view (applied_rule x) (targets_in x.rule.now.target all all))
-  pub faults : faults_by x ++ flat_map diags_in (answers_to view (applied_rule x) (targets_in x.rule.now.target all rest)) ≡ flat_map diags_in (answers_to view (applied_rule x) (targets_in x.rule.now.target all all))
-
-abbrev pub AreApplied : View → List PlainObject → List PlainObject → List Applied → Type 0
-AreApplied view all rest xs = AllByRecursion (IsApplied view all rest) xs
+abbrev pub AreApplied : View → List PlainObject → List Applied → Type 0
+AreApplied view all xs = AllByRecursion (IsApplied view all) xs

@@ -1,18 +1,25 @@
 -- The rules of a wave by the types that they go to.
 use Rattle.std.specs.Prelude.{ℕ, suc, ◌+◌, List, [], ◌∷◌, if◌then◌else◌}
+use Rattle.std.specs.Borrow.{Bor}
 use Rattle.std.specs.Str.{bytes_eq}
+use Rattle.eval_work.specs.declared.rule.Rule.{Rule}
 use Rattle.wave_objects.specs.declared.applying.Applied.{Applied}
+use Rattle.wave_objects.specs.declared.by_type.PlacedRule.{PlacedRule}
 use Rattle.wave_objects.specs.declared.by_type.RulesOfType.{RulesOfType}
 
--- the places of the rules that go to a type, where the first of these rules has this place
-abbrev pub places_to : List ℕ → ℕ → List Applied → List ℕ
-places_to kind at [] = []
-places_to kind at (x ∷ xs) = if bytes_eq kind x.rule.now.target then at ∷ places_to kind (at + 1) xs else places_to kind (at + 1) xs
+abbrev pub placed_rule : ℕ → Bor Rule → PlacedRule
+placed_rule place r = record { place = place; rule = r }
 
--- the places that stand for a type
-abbrev pub type_places : List ℕ → List RulesOfType → List ℕ
-type_places kind [] = []
-type_places kind (t ∷ ts) = if bytes_eq kind t.kind.now then t.places.items else type_places kind ts
+-- the rules that go to a type, each with its place, where the first of these rules has this place
+abbrev pub rules_going_to : List ℕ → ℕ → List Applied → List PlacedRule
+rules_going_to kind at [] = []
+rules_going_to kind at (x ∷ xs) =
+    if bytes_eq kind x.rule.now.target then placed_rule at x.rule ∷ rules_going_to kind (at + 1) xs else rules_going_to kind (at + 1) xs
+
+-- the rules that stand for a type
+abbrev pub type_rules : List ℕ → List RulesOfType → List PlacedRule
+type_rules kind [] = []
+type_rules kind (t ∷ ts) = if bytes_eq kind t.kind.now then t.rules.items else type_rules kind ts
 
 -- how many types stand before one, up to the first that is it
 abbrev pub types_before : List ℕ → List RulesOfType → ℕ

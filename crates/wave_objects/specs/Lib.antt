@@ -1,7 +1,9 @@
 pub mod Plain
 pub mod Captured
-pub mod Applying
+pub mod Targets
 pub mod ByType
+pub mod AtTargets
+pub mod Applying
 pub mod Steps
 pub mod Members
 pub mod Tasks

@@ -1,5 +1,5 @@
 -- Groups by the type of their members.
-use Rattle.std.specs.Prelude.{◌≡◌, ℕ, List, [], map, Option, Some}
+use Rattle.std.specs.Prelude.{◌≡◌, ℕ, List, [], ◌∷◌, map, Option, Some}
 use Rattle.std.specs.Borrow.{Bor}
 use Rattle.site_model.specs.PlainSite.{PlainObject}
 use Rattle.object_types.specs.Names.{type_named}
@@ -9,8 +9,8 @@ use Rattle.dsl_value.specs.Contents.{Contents}
 use Rattle.eval_meaning.specs.Registered.{PlainItem}
 use Rattle.eval_meaning.specs.Views.{View}
 use Rattle.eval_work.specs.declared.item.Item.{Item}
-use Rattle.commit_meaning.specs.Answers.{Answer}
-use Rattle.commit_meaning.specs.Groups.{group_members}
+use Rattle.commit_meaning.specs.Answers.{Answer, diags_in}
+use Rattle.commit_meaning.specs.Groups.{group_members, grown}
 use Rattle.commit_meaning.specs.Waves.{groups_of, group_type}
 use Rattle.group_rules.specs.Lawful.{GroupsNamed}
 use Rattle.group_rules.specs.Plain.{plain_group}
@@ -44,3 +44,14 @@ members_at view gs o = group_members view (groups_of (group_type (type_named o.k
 -- the same by lists
 abbrev pub members_in : View → GroupLists → PlainObject → Answer (List (List ℕ))
 members_in view l o = group_members view (map plain_group (list_for l (type_named o.kind))) o
+
+-- an answer by which an object becomes what it does by the lists, with the same faults
+pub record IsMemberAnswer (view : View) (l : GroupLists) (o : PlainObject) (a : Answer (List (List ℕ))) : Type 0 where
+  pub object : grown o a ≡ grown o (members_in view l o)
+  pub faults : diags_in a ≡ diags_in (members_in view l o)
+
+-- objects, each in the groups of its answer
+abbrev pub grown_by : List (Answer (List (List ℕ))) → List PlainObject → List PlainObject
+grown_by [] os = []
+grown_by (a ∷ answers) [] = []
+grown_by (a ∷ answers) (o ∷ os) = grown o a ∷ grown_by answers os

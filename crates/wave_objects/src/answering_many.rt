@@ -1,5 +1,5 @@
 // What the items of a wave come to, by many workers.
-ghost use Rattle.std.specs.Prelude.{◌≡◌, ◌++◌, IfOk, map};
+ghost use Rattle.std.specs.Prelude.{◌≡◌, IfOk, map};
 ghost use Rattle.eval_work.specs.Works.{view_of};
 ghost use Rattle.item_start.specs.Ready.{IsLawfulView};
 ghost use Rattle.apply_rules.specs.Keys.{AreKeys};
@@ -9,6 +9,7 @@ ghost use Rattle.item_body.specs.Plain.{plain_answer};
 ghost use Rattle.wave_objects.specs.Captured.{AreNamed};
 
 use crate::answering::answer_of;
+use crate::lending::each_of;
 use apply_rules::PresetKeys;
 use commit_board::{Evaluate, answer_all};
 use eval_work::WorldView;
@@ -64,18 +65,4 @@ pub(crate) fn answer_items<R: Threads + Wait + Sync>(
     let tasks = each_of(alloc, items)?;
     let evaluate = ItemTasks { view: *view, keys };
     answer_all(rt, alloc, &evaluate, tasks, workers, BATCH)
-}
-
-/// Items as tasks, each of which is lent.
-fn each_of<'a, 'b>(
-    alloc: Global,
-    items: &'a [Pending<'b>],
-) -> Result<Vec<&'a Pending<'b>>, OutOfMemory>
-    ensures { IfOk result (λ tasks. map (λ t. t.now) tasks.items ≡ items.now) }
-{
-    let mut tasks = Vec::with_capacity(alloc, items.len())?;
-    for item in items {
-        tasks.push(item)?;
-    }
-    Ok(tasks)
 }

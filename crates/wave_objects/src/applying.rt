@@ -1,25 +1,22 @@
-// What the rules of a wave make, target after target.
-ghost use Rattle.std.specs.Prelude.{◌≡◌, ◌++◌, ◌∷◌, [], ℕ, List, IfOk, OnOk, map};
+// What the rules of a wave make of all their targets.
+ghost use Rattle.std.specs.Prelude.{◌≡◌, ◌++◌, length, IfOk, OnOk, map};
 ghost use Rattle.std.specs.List.{filter};
 ghost use Rattle.site_model.specs.PlainSite.{object_view};
 ghost use Rattle.dsl_value.specs.Contents.{Contents};
-ghost use Rattle.eval_work.specs.Kept.{PairsNamed};
 ghost use Rattle.eval_work.specs.Works.{view_of, plain_rule};
 ghost use Rattle.item_start.specs.Ready.{IsLawfulView};
-ghost use Rattle.apply_rules.specs.Plain.{plain_instance, plain_target, rule_answer};
-ghost use Rattle.apply_rules.specs.Preparations.{IsPreparedTarget};
+ghost use Rattle.apply_rules.specs.Plain.{plain_instance, rule_answer};
 ghost use Rattle.apply_rules.specs.Sharing.{AreSharedIn, IsAnswerShared};
 ghost use Rattle.commit_meaning.specs.Answers.{all_made, diags_in};
 ghost use Rattle.commit_meaning.specs.Waves.{is_in_wave as in_wave};
-ghost use Rattle.wave_objects.specs.Applying.{AppliedNamed, AppliedShared, AreApplied, AreGrown, AreNew, IsGrown, rules_of, targets_of_one};
-ghost use Rattle.wave_objects.specs.ByType.{places_to, type_places};
+ghost use Rattle.wave_objects.specs.Applying.{AppliedNamed, AppliedShared, AreApplied, AreNew, AreWithin, HaveTaken, rules_of};
+ghost use Rattle.wave_objects.specs.AtTargets.{AreAnswersShared, plain_placed};
 
-use crate::by_type::{RulesOfType, by_type, places_in};
-use crate::targets::target_of;
-use apply_rules::{Instance, PreparedTarget, RuleAnswer, Target, instances};
+use crate::at_targets::{PlacedAnswer, answers_at_object};
+use crate::by_type::by_type;
+use apply_rules::{Instance, RuleAnswer};
 use eval_work::{Committed, Locals, Rule, WorldView};
 use site_base::{Diags, OutOfMemory, Row};
-use site_model::Object;
 use std::alloc::Global;
 use wave_order::is_in_wave;
 
@@ -65,89 +62,35 @@ pub(crate) fn apply_to_all<'a>(
     requires named { AppliedNamed view.now.store.now rules.old.items }
     requires new { AreNew rules.old.items }
     ensures rules { OnOk result (rules_of rules.new.items ≡ rules_of rules.old.items) }
-    ensures applied { OnOk result (AreApplied (view_of view.now) (map object_view objects.now) [] rules.new.items) }
+    ensures applied { OnOk result (AreApplied (view_of view.now) (map object_view objects.now) rules.new.items) }
     ensures shared { OnOk result (AppliedShared view.now.store.now rules.new.items) }
 {
     let types = by_type(alloc, rules)?;
     let mut spare = Locals::new(alloc);
     for object in objects.as_slice() {
-        apply_to(alloc, view, objects, object, &types, rules, &mut spare)?;
+        let answers = answers_at_object(alloc, view, objects, object, &types, &mut spare)?;
+        take_answers(answers, rules)?;
     }
     Ok(())
 }
 
-/// Applies to an object the rules that go to its type, if it is a target.
-fn apply_to<'a>(
-    alloc: Global,
-    view: &WorldView,
-    objects: &'a Committed,
-    object: &'a Object,
-    types: &[RulesOfType],
+/// Has the rules at these places take answers, one after another.
+pub(crate) fn take_answers<'a>(
+    answers: Vec<PlacedAnswer<'a>>,
     rules: &mut Vec<Applied<'a>>,
-    spare: &mut Locals,
 ) -> Result<(), OutOfMemory>
-    requires lawful { IsLawfulView view.now }
-    requires named { AppliedNamed view.now.store.now rules.old.items }
-    requires shared { AppliedShared view.now.store.now rules.old.items }
-    requires types { (kind : List ℕ) → type_places kind types.now ≡ places_to kind 0 rules.old.items }
-    ensures grown { OnOk result (AreGrown (view_of view.now) object.now.kind (targets_of_one (map object_view objects.now) (object_view object.now)) rules.old.items rules.new.items) }
-    ensures shared { OnOk result (AppliedShared view.now.store.now rules.new.items) }
+    requires { AreWithin (length rules.old.items) (map plain_placed answers.items) }
+    ensures taken { OnOk result (HaveTaken 0 (map plain_placed answers.entry.items) rules.old.items rules.new.items) }
+    ensures shared { (s : Contents) → AppliedShared s rules.old.items → AreAnswersShared s answers.entry.items → OnOk result (AppliedShared s rules.new.items) }
 {
-    let kind = object.kind.as_str();
-    let places = places_in(types, kind);
-    if places.is_empty() {
-        return Ok(());
-    }
-    match target_of(objects, object) {
-        Some(target) => apply_at(alloc, view, kind, target, places, rules, spare),
-        None => Ok(()),
-    }
-}
-
-/// Applies the rules at these places, which are all that go to objects of a type, to a target of that type.
-fn apply_at<'a>(
-    alloc: Global,
-    view: &WorldView,
-    kind: &str,
-    target: Target<'a>,
-    places: &[usize],
-    rules: &mut Vec<Applied<'a>>,
-    spare: &mut Locals,
-) -> Result<(), OutOfMemory>
-    requires lawful { IsLawfulView view.now }
-    requires named { AppliedNamed view.now.store.now rules.old.items }
-    requires shared { AppliedShared view.now.store.now rules.old.items }
-    requires places { places.now ≡ places_to kind.now 0 rules.old.items }
-    ensures grown { OnOk result (AreGrown (view_of view.now) kind.now (plain_target target.entry ∷ []) rules.old.items rules.new.items) }
-    ensures shared { OnOk result (AppliedShared view.now.store.now rules.new.items) }
-{
-    let prepared = PreparedTarget::new(alloc, view.store, target)?;
-    for place in places {
-        rules[*place].apply(alloc, view, &prepared, spare)?;
+    for placed in answers {
+        let PlacedAnswer { place, answer } = placed;
+        rules[place].take(answer)?;
     }
     Ok(())
 }
 
 impl<'a> Applied<'a> {
-    /// Applies the rule to a target, and keeps its instances or its fault.
-    fn apply(
-        &mut self,
-        alloc: Global,
-        view: &WorldView,
-        target: &PreparedTarget<'a>,
-        spare: &mut Locals,
-    ) -> Result<(), OutOfMemory>
-        requires lawful { IsLawfulView view.now }
-        requires captured { PairsNamed view.now.store.now self.old.rule.now.captured.items }
-        requires shared { AreSharedIn view.now.store.now self.old.made.items }
-        requires prepared { IsPreparedTarget view.now.store.now target.now }
-        ensures grown { OnOk result (IsGrown (view_of view.now) (plain_target target.now.target ∷ []) self.old self.new) }
-        ensures shared { OnOk result (AreSharedIn view.now.store.now self.new.made.items) }
-    {
-        let answer = instances(alloc, view, self.rule, target, spare)?;
-        self.take(answer)
-    }
-
     /// Adds an answer. Over a world nothing is blocked.
     fn take(&mut self, answer: RuleAnswer<'a>) -> Result<(), OutOfMemory>
         ensures rule { OnOk result (self.new.rule ≡ self.old.rule) }

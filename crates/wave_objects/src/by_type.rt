@@ -1,17 +1,25 @@
 // The rules of a wave by the types that they go to.
 ghost use Rattle.std.specs.Prelude.{◌≡◌, ◌++◌, ◌∷◌, [], ℕ, List, IfOk, OnOk, if◌then◌else◌};
 ghost use Rattle.std.specs.Str.{bytes_eq};
-ghost use Rattle.wave_objects.specs.ByType.{places_to, type_places, types_before};
+ghost use Rattle.wave_objects.specs.ByType.{rules_going_to, type_rules, types_before};
 
 use crate::applying::Applied;
+use eval_work::Rule;
 use site_base::{OutOfMemory, Text};
 use std::alloc::Global;
 
-/// The places of the rules that go to objects of one type, in their order.
+/// A rule, and its place among those of a wave.
+#[derive(Clone, Copy)]
+pub(crate) struct PlacedRule<'a> {
+    pub(crate) place: usize,
+    pub(crate) rule: &'a Rule,
+}
+
+/// The rules that go to objects of one type, in their order.
 #[derive(Drop)]
 pub(crate) struct RulesOfType<'a> {
     pub(crate) kind: &'a Text,
-    pub(crate) places: Vec<usize>,
+    pub(crate) rules: Vec<PlacedRule<'a>>,
 }
 
 /// Sorts rules by the types that they go to.
@@ -19,45 +27,42 @@ pub(crate) fn by_type<'a>(
     alloc: Global,
     rules: &[Applied<'a>],
 ) -> Result<Vec<RulesOfType<'a>>, OutOfMemory>
-    ensures { IfOk result (λ ts. (kind : List ℕ) → type_places kind ts.items ≡ places_to kind 0 rules.now) }
+    ensures { IfOk result (λ ts. (kind : List ℕ) → type_rules kind ts.items ≡ rules_going_to kind 0 rules.now) }
 {
     let mut types = Vec::new(alloc);
     for (place, applied) in rules.iter().enumerate() {
-        add_place(alloc, &mut types, &applied.rule.target, place)?;
+        let rule = applied.rule;
+        add_rule(alloc, &mut types, PlacedRule { place, rule })?;
     }
     Ok(types)
 }
 
-/// Adds the place of a rule that goes to this type.
-fn add_place<'a>(
+/// Adds a rule to those of its type.
+fn add_rule<'a>(
     alloc: Global,
     types: &mut Vec<RulesOfType<'a>>,
-    target: &'a Text,
-    place: usize,
+    placed: PlacedRule<'a>,
 ) -> Result<(), OutOfMemory>
-    ensures { OnOk result ((kind : List ℕ) → type_places kind types.new.items ≡ type_places kind types.old.items ++ (if bytes_eq kind target.now then place ∷ [] else [])) }
+    ensures { OnOk result ((kind : List ℕ) → type_rules kind types.new.items ≡ type_rules kind types.old.items ++ (if bytes_eq kind placed.entry.rule.now.target then placed.entry ∷ [] else [])) }
 {
-    let at = type_at(types, target);
+    let at = type_at(types, &placed.rule.target);
     if at < types.len() {
-        types[at].places.push(place)?;
+        types[at].rules.push(placed)?;
     } else {
-        types.push(with_first(alloc, target, place)?)?;
+        types.push(with_first(alloc, placed)?)?;
     }
     Ok(())
 }
 
-/// A type with the place of the first rule that goes to it.
-fn with_first<'a>(
-    alloc: Global,
-    kind: &'a Text,
-    place: usize,
-) -> Result<RulesOfType<'a>, OutOfMemory>
-    ensures kind { IfOk result (λ t. t.kind.now ≡ kind.now) }
-    ensures places { IfOk result (λ t. t.places.items ≡ place ∷ []) }
+/// A type with the first rule that goes to it.
+fn with_first<'a>(alloc: Global, placed: PlacedRule<'a>) -> Result<RulesOfType<'a>, OutOfMemory>
+    ensures kind { IfOk result (λ t. t.kind.now ≡ placed.entry.rule.now.target) }
+    ensures rules { IfOk result (λ t. t.rules.items ≡ placed.entry ∷ []) }
 {
-    let mut places = Vec::new(alloc);
-    places.push(place)?;
-    Ok(RulesOfType { kind, places })
+    let kind = &placed.rule.target;
+    let mut rules = Vec::new(alloc);
+    rules.push(placed)?;
+    Ok(RulesOfType { kind, rules })
 }
 
 /// The place of a type among these, and their number where it isn't there.
@@ -72,13 +77,13 @@ fn type_at(types: &[RulesOfType], target: &Text) -> usize
     types.len()
 }
 
-/// The places of the rules that go to objects of a type.
-pub(crate) fn places_in<'a>(types: &'a [RulesOfType], kind: &str) -> &'a [usize]
-    ensures { result.now ≡ type_places kind.now types.now }
+/// The rules that go to objects of a type.
+pub(crate) fn rules_to<'a, 'b>(types: &'b [RulesOfType<'a>], kind: &str) -> &'b [PlacedRule<'a>]
+    ensures { result.now ≡ type_rules kind.now types.now }
 {
     for one in types {
         if kind == one.kind.as_str() {
-            return &one.places;
+            return &one.rules;
         }
     }
     &[]

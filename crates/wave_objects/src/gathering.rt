@@ -1,25 +1,27 @@
 // The items of a wave.
-ghost use Rattle.std.specs.Prelude.{◌≡◌, ◌++◌, List, IfOk, OnOk, map};
+ghost use Rattle.std.specs.Prelude.{◌≡◌, ◌++◌, IfOk, OnOk, map};
 ghost use Rattle.std.specs.List.{filter, flat_map};
 ghost use Rattle.site_model.specs.PlainSite.{object_view};
+ghost use Rattle.dsl_value.specs.Contents.{Contents};
 ghost use Rattle.eval_work.specs.Kept.{RulesNamed};
-ghost use Rattle.eval_work.specs.Works.{view_of, plain_rule};
+ghost use Rattle.eval_work.specs.Works.{view_of, plain_item};
 ghost use Rattle.apply_rules.specs.Plain.{plain_instance};
 ghost use Rattle.item_start.specs.Ready.{IsLawfulView};
 ghost use Rattle.dsl_load.specs.Loads.{plain_parts};
-ghost use Rattle.commit_meaning.specs.Answers.{all_made, diags_in};
-ghost use Rattle.commit_meaning.specs.Waves.{is_in_wave as in_wave, wave_items, wave_answers};
+ghost use Rattle.commit_meaning.specs.Answers.{diags_in};
+ghost use Rattle.commit_meaning.specs.Orders.{by_number};
+ghost use Rattle.commit_meaning.specs.Waves.{is_in_wave as in_wave, item_number, wave_items, wave_answers};
 ghost use Rattle.commit_meaning.specs.Worlds.{world_view};
 ghost use Rattle.wave_order.specs.WaveItems.{AreWaitingIn, as_made, plain_pending};
-ghost use Rattle.wave_objects.specs.Applying.{faults_by, made_by, pending_by};
+ghost use Rattle.wave_objects.specs.Applying.{AppliedShared, faults_by, made_by, pending_by};
 ghost use Rattle.wave_objects.specs.Plain.{with_items};
-ghost use Rattle.wave_objects.specs.Steps.{over, answers_at};
+ghost use Rattle.wave_objects.specs.Steps.{over};
 
 use crate::applying::{Applied, apply_to_all, unapplied};
 use crate::making::add_diags;
 use apply_rules::Instance;
 use dsl_load::LoadParts;
-use eval_work::{Committed, Item, Rule, WorldView};
+use eval_work::{Committed, Item, WorldView};
 use site_base::{Diags, OutOfMemory, Row};
 use std::alloc::Global;
 use wave_order::{Pending, add_registered, items_by_number};
@@ -48,37 +50,32 @@ pub fn gather<'a>(
     ensures faults { IfOk result (λ g. g.faults ≡ flat_map diags_in (wave_answers (plain_parts (with_items items parts.now)) (over objects.now) wave)) }
     ensures shared { IfOk result (λ g. AreWaitingIn view.now.store.now g.items.items) }
 {
+    let mut rules = unapplied(alloc, &parts.rules, wave)?;
+    apply_to_all(alloc, view, objects, &mut rules)?;
+    put_together(alloc, items, rules, wave)
+}
+
+/// The items of a wave, by their numbers: those of these items that are of it, and those that its rules have made.
+pub(crate) fn put_together<'a>(
+    alloc: Global,
+    items: Vec<Item>,
+    rules: Vec<Applied<'a>>,
+    wave: u8,
+) -> Result<Gathered<'a>, OutOfMemory>
+    ensures items { IfOk result (λ g. map plain_pending g.items.items ≡ by_number item_number (filter (λ i. in_wave wave i.kind) (map plain_item items.items) ++ flat_map made_by rules.entry.items)) }
+    ensures faults { IfOk result (λ g. g.faults ≡ flat_map faults_by rules.entry.items) }
+    ensures shared { (s : Contents) → AppliedShared s rules.entry.items → IfOk result (λ g. AreWaitingIn s g.items.items) }
+{
     let mut gathered = Gathered {
         items: Vec::new(alloc),
         faults: Row::new(alloc),
     };
     add_registered(&mut gathered.items, items, wave)?;
-    add_instances(alloc, view, &parts.rules, objects, wave, &mut gathered)?;
+    add_applied(rules, &mut gathered)?;
     Ok(Gathered {
         items: items_by_number(gathered.items)?,
         faults: gathered.faults,
     })
-}
-
-/// Adds what the rules of a wave make, each at all its targets.
-fn add_instances<'a>(
-    alloc: Global,
-    view: &WorldView,
-    rules: &'a [Rule],
-    objects: &'a Committed,
-    wave: u8,
-    out: &mut Gathered<'a>,
-) -> Result<(), OutOfMemory>
-    requires lawful { IsLawfulView view.now }
-    requires captured { RulesNamed view.now.store.now rules.now }
-    requires shared { AreWaitingIn view.now.store.now out.old.items.items }
-    ensures items { OnOk result (map plain_pending out.new.items.items ≡ map plain_pending out.old.items.items ++ flat_map all_made (flat_map (answers_at (view_of view.now) objects.now) (filter (λ r. in_wave wave r.kind) (map plain_rule rules.now)))) }
-    ensures faults { OnOk result (out.new.faults ≡ out.old.faults ++ flat_map diags_in (flat_map (answers_at (view_of view.now) objects.now) (filter (λ r. in_wave wave r.kind) (map plain_rule rules.now)))) }
-    ensures shared { OnOk result (AreWaitingIn view.now.store.now out.new.items.items) }
-{
-    let mut of_wave = unapplied(alloc, rules, wave)?;
-    apply_to_all(alloc, view, objects, &mut of_wave)?;
-    add_applied(of_wave, out)
 }
 
 /// Adds what rules have made, one rule after another.

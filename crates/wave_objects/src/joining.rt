@@ -11,7 +11,7 @@ ghost use Rattle.commit_meaning.specs.Answers.{diags_in};
 ghost use Rattle.commit_meaning.specs.Groups.{grown};
 ghost use Rattle.commit_meaning.specs.Waves.{groups_of, group_type};
 ghost use Rattle.wave_objects.specs.Captured.{AreNamed};
-ghost use Rattle.wave_objects.specs.Members.{AreLists, ListsNamed, list_for, members_at, members_in};
+ghost use Rattle.wave_objects.specs.Members.{AreLists, IsMemberAnswer, ListsNamed, list_for, members_at, members_in};
 
 use crate::making::add_diags;
 use dsl_value::Store;
@@ -25,7 +25,7 @@ use std::alloc::Global;
 
 /// The items of groups, by the type of their members.
 #[derive(Drop)]
-struct GroupLists<'a> {
+pub(crate) struct GroupLists<'a> {
     of_hosts: Vec<&'a Item>,
     of_services: Vec<&'a Item>,
     of_users: Vec<&'a Item>,
@@ -33,7 +33,11 @@ struct GroupLists<'a> {
 }
 
 impl<'a> GroupLists<'a> {
-    fn new(alloc: Global, store: &Store, groups: &'a [Item]) -> Result<GroupLists<'a>, OutOfMemory>
+    pub(crate) fn new(
+        alloc: Global,
+        store: &Store,
+        groups: &'a [Item],
+    ) -> Result<GroupLists<'a>, OutOfMemory>
         requires { AreNamed store.now (map plain_item groups.now) }
         ensures lists { IfOk result (AreLists (map plain_item groups.now)) }
         ensures named { IfOk result (ListsNamed store.now) }
@@ -114,17 +118,45 @@ fn join(
     ensures object { IfOk result (λ o. object_view o ≡ grown (object_view object) (members_in (view_of view.now) lists.now (object_view object))) }
     ensures faults { OnOk result (faults.new ≡ faults.old ++ diags_in (members_in (view_of view.now) lists.now (object_view object))) }
 {
+    let answer = answer_of_member(alloc, view, lists, &object, spare)?;
+    join_by(alloc, object, answer, faults)
+}
+
+/// What the groups of its type come to for an object. If there are none, nothing is evaluated.
+pub(crate) fn answer_of_member(
+    alloc: Global,
+    view: &WorldView,
+    lists: &GroupLists,
+    object: &Object,
+    spare: &mut Locals,
+) -> Result<GroupAnswer, OutOfMemory>
+    requires lawful { IsLawfulView view.now }
+    requires named { ListsNamed view.now.store.now lists.now }
+    ensures { IfOk result (λ a. IsMemberAnswer (view_of view.now) lists.now (object_view object.now) (group_answer a)) }
+{
     let groups = lists.of(object.kind.as_str());
     if groups.is_empty() {
-        return Ok(object);
+        return Ok(GroupAnswer::Names(Row::new(alloc)));
     }
-    let answer = group_members(alloc, view, groups, &object, spare)?;
+    group_members(alloc, view, groups, object, spare)
+}
+
+/// Puts an object into the groups of an answer.
+pub(crate) fn join_by(
+    alloc: Global,
+    object: Object,
+    answer: GroupAnswer,
+    faults: &mut Diags,
+) -> Result<Object, OutOfMemory>
+    ensures object { IfOk result (λ o. object_view o ≡ grown (object_view object) (group_answer answer)) }
+    ensures faults { OnOk result (faults.new ≡ faults.old ++ diags_in (group_answer answer)) }
+{
     let mut object = object;
     take_answer(alloc, &mut object, answer, faults)?;
     Ok(object)
 }
 
-/// Puts an object into the groups of an answer. Over a world nothing is blocked.
+/// Adds the groups of an answer to an object, or what is wrong. Over a world nothing is blocked.
 fn take_answer(
     alloc: Global,
     object: &mut Object,

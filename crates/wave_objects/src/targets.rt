@@ -3,7 +3,7 @@ ghost use Rattle.std.specs.Prelude.{◌≡◌, map, option_map};
 ghost use Rattle.std.specs.Option.{option_to_list};
 ghost use Rattle.site_model.specs.PlainSite.{object_view};
 ghost use Rattle.apply_rules.specs.Plain.{plain_target};
-ghost use Rattle.wave_objects.specs.Applying.{targets_of_one};
+ghost use Rattle.wave_objects.specs.Targets.{targets_of_one};
 
 use apply_rules::Target;
 use eval_work::Committed;

@@ -1,19 +1,10 @@
-use Rattle.std.proofs.Common.{◌≡◌, ◌++◌, [], sym, ap, ◌∙◌, append-nil}
-use Rattle.site_model.specs.PlainSite.{object_view}
-use Rattle.object_types.specs.Names.{type_named}
-use Rattle.eval_work.specs.Works.{view_of}
-use Rattle.wave_objects.specs.Members.{list_for}
-use Rattle.wave_objects.proofs.JoinLaws.{empty, none_joined}
+use Rattle.std.proofs.Common.{◌≡◌, ◌++◌, List, IfOk, OnOk, subst}
+use Rattle.site_base.specs.declared.diag.Diag.{Diag}
+use Rattle.site_model.specs.PlainSite.{PlainObject, object_view}
 use Rattle.wave_objects.proofs.joining.join.Goals as goal
 
-pub returns-then-is_empty-clause-object : goal.returns-then-is_empty-clause-object
-returns-then-is_empty-clause-object c =
-    let nobody : c.of-groups.result.now ≡ [] = empty c.of-groups.result.now (sym c.is_empty.ensures ∙ c.if-is_empty.true) in
-    let none : list_for c.args.lists.now (type_named c.args.object.kind) ≡ [] = ap (λ k. list_for c.args.lists.now (type_named k)) (sym c.as_str.ensures) ∙ sym c.of-groups.ensures ∙ nobody in
-    sym (none_joined (view_of c.args.view.now) c.args.lists.now (object_view c.args.object) none).same
+pub returns-clause-object : goal.returns-clause-object
+returns-clause-object c = subst (λ (x : PlainObject). IfOk c.join_by.result (λ o. object_view o ≡ x)) c.in_ok-answer.ensures.object c.join_by.ensures.object
 
-pub returns-then-is_empty-clause-faults : goal.returns-then-is_empty-clause-faults
-returns-then-is_empty-clause-faults c =
-    let nobody : c.of-groups.result.now ≡ [] = empty c.of-groups.result.now (sym c.is_empty.ensures ∙ c.if-is_empty.true) in
-    let none : list_for c.args.lists.now (type_named c.args.object.kind) ≡ [] = ap (λ k. list_for c.args.lists.now (type_named k)) (sym c.as_str.ensures) ∙ sym c.of-groups.ensures ∙ nobody in
-    sym (ap (λ ds. c.args.faults.now ++ ds) (none_joined (view_of c.args.view.now) c.args.lists.now (object_view c.args.object) none).quiet ∙ append-nil c.args.faults.now)
+pub returns-clause-faults : goal.returns-clause-faults
+returns-clause-faults c = subst (λ (ds : List Diag). OnOk c.join_by.result (c.join_by.new.faults ≡ c.args.faults.now ++ ds)) c.in_ok-answer.ensures.faults c.join_by.ensures.faults

@@ -1,14 +1,12 @@
 -- What is made of the answers is what is made of the items.
 use Rattle.std.proofs.Common.{◌≡◌, ◌∙◌, List, IfOk, ap, map, subst}
-use Rattle.std.specs.List.{filter, flat_map}
+use Rattle.std.specs.List.{flat_map}
 use Rattle.site_base.specs.declared.diag.Diag.{Diag}
 use Rattle.site_model.specs.PlainSite.{PlainObject, object_view}
 use Rattle.eval_meaning.specs.Registered.{PlainItem}
 use Rattle.eval_work.specs.Works.{view_of, plain_item}
 use Rattle.commit_meaning.specs.Answers.{made_in, diags_in}
 use Rattle.commit_meaning.specs.Items.{item_answer}
-use Rattle.commit_meaning.specs.Waves.{group_made}
-use Rattle.item_body.specs.Plain.{plain_answer}
 use Rattle.wave_order.specs.WaveItems.{plain_pending}
 use Rattle.wave_objects.specs.Steps.{groups_among}
 use Rattle.wave_objects.proofs.TaskLaws.{flat_mapped, groups_are}
