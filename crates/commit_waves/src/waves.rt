@@ -19,7 +19,10 @@ use site_model::Object;
 use std::alloc::Global;
 use std::sync::Wait;
 use std::thread::Threads;
-use wave_objects::{Gathered, add_diags, gather, join_groups, make_objects, make_objects_by_many};
+use wave_objects::{
+    Gathered, add_diags, gather, gather_by_many, join_groups, join_groups_by_many, make_objects,
+    make_objects_by_many,
+};
 use wave_order::{Pending, diags_by_number};
 
 /// A wave has so many items at most.
@@ -67,7 +70,7 @@ pub(crate) fn make_wave(
     })
 }
 
-/// The same by so many workers at most, who share the wave's items among them.
+/// The same by so many workers at most, who share the wave's rules, items and groups among them.
 pub(crate) fn make_wave_by_many<R: Threads + Wait + Sync>(
     rt: &R,
     alloc: Global,
@@ -88,14 +91,16 @@ pub(crate) fn make_wave_by_many<R: Threads + Wait + Sync>(
     ensures named { IfOk result (λ x. x.list ≡ [] → AreNamed parts.now.store (map plain_item groups.new.items)) }
 {
     let view = view_before(parts, objects, known);
-    let Gathered { items, mut faults } = gather(alloc, &view, parts, items, objects, wave)?;
+    let Gathered { items, mut faults } = gather_by_many(
+        rt, alloc, &view, parts, items, objects, wave, workers,
+    )?;
     if items.len() > MOST_ITEMS {
         return too_many(alloc, &items[MOST_ITEMS]);
     }
     let made = make_objects_by_many(rt, alloc, &view, items, workers)?;
     add_groups(groups, made.groups)?;
     add_diags(&mut faults, made.faults)?;
-    let joined = join_groups(alloc, &view, groups, made.objects, &mut faults)?;
+    let joined = join_groups_by_many(rt, alloc, &view, groups, made.objects, &mut faults, workers)?;
     Ok(Wave {
         objects: joined,
         list: diags_by_number(faults)?,

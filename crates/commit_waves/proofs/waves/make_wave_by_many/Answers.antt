@@ -10,8 +10,8 @@ use Rattle.commit_waves.proofs.NamedLaws.{lawful}
 use Rattle.commit_waves.proofs.WaveRuns.{groups_known, items_named, limit_told, still_named, wave_told, world_then}
 use Rattle.commit_waves.proofs.waves.make_wave_by_many.Goals as goal
 
-pub gather-requires-clause-lawful : goal.gather-requires-clause-lawful
-gather-requires-clause-lawful g c = lawful (with_items c.args.items c.args.parts.now) c.requires.load c.view_before-view.result c.view_before-view.ensures.store c.view_before-view.ensures.templates
+pub gather_by_many-requires-clause-lawful : goal.gather_by_many-requires-clause-lawful
+gather_by_many-requires-clause-lawful g c κs within = lawful (with_items c.args.items c.args.parts.now) c.requires.load c.view_before-view.result c.view_before-view.ensures.store c.view_before-view.ensures.templates
 
 pub returns-then-len-gt-MOST_ITEMS-clause-diags : goal.returns-then-len-gt-MOST_ITEMS-clause-diags
 returns-then-len-gt-MOST_ITEMS-clause-diags g c =
@@ -32,11 +32,11 @@ make_objects_by_many-requires-clause-named g c κs within =
     items_named (with_items c.args.items c.args.parts.now) c.requires.load c.args.objects.now c.args.groups.now.items c.args.wave c.requires.named c.view_before-view.result view.view view.store c.in_ok-items.field-0.items.items
     c.in_ok-items.ensures.items
 
-pub join_groups-requires-clause-lawful : goal.join_groups-requires-clause-lawful
-join_groups-requires-clause-lawful g c = lawful (with_items c.args.items c.args.parts.now) c.requires.load c.view_before-view.result c.view_before-view.ensures.store c.view_before-view.ensures.templates
+pub join_groups_by_many-requires-clause-lawful : goal.join_groups_by_many-requires-clause-lawful
+join_groups_by_many-requires-clause-lawful g c κs within = lawful (with_items c.args.items c.args.parts.now) c.requires.load c.view_before-view.result c.view_before-view.ensures.store c.view_before-view.ensures.templates
 
-pub join_groups-requires-clause-named : goal.join_groups-requires-clause-named
-join_groups-requires-clause-named g c =
+pub join_groups_by_many-requires-clause-named : goal.join_groups_by_many-requires-clause-named
+join_groups_by_many-requires-clause-named g c κs within =
     let view = c.view_before-view.ensures in
     groups_known (with_items c.args.items c.args.parts.now) c.requires.load c.args.objects.now c.args.groups.now.items c.args.wave c.requires.named c.view_before-view.result view.view view.store c.in_ok-items.field-0.items.items
     c.in_ok-items.ensures.items c.in_ok-made.made.objects.items c.in_ok-made.ensures.objects c.in_ok-made.made.groups.items c.in_ok-made.ensures.groups c.deref.result.now
@@ -50,7 +50,7 @@ returns-clause-diags g c =
     c.in_ok-diags_by_number.ensures
     ∙ wave_told (with_items c.args.items c.args.parts.now) c.requires.load c.args.objects.now c.args.groups.now.items c.args.wave c.requires.named c.view_before-view.result view.view view.store items
     c.in_ok-items.ensures.items c.in_ok-made.made.objects.items c.in_ok-made.ensures.objects c.in_ok-made.made.groups.items c.in_ok-made.ensures.groups c.deref.result.now
-    (ap (map plain_item) c.deref.ensures.value ∙ c.in_ok-add_groups.ensures) c.in_ok-items.field-0.faults c.add_diags.new.out c.join_groups.new.faults few
+    (ap (map plain_item) c.deref.ensures.value ∙ c.in_ok-add_groups.ensures) c.in_ok-items.field-0.faults c.add_diags.new.out c.join_groups_by_many.new.faults few
     c.in_ok-items.ensures.faults (c.in_ok-add_diags.ensures ∙ ap (λ ds. c.in_ok-items.field-0.faults ++ ds) c.in_ok-made.ensures.faults) c.in_ok-joined.ensures.faults
 
 pub returns-clause-world : goal.returns-clause-world
