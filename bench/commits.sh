@@ -4,6 +4,10 @@
 # function, stands in a group, depends on a host in a tree, and has services whose rules ask a function. Prints objects, seconds of the
 # processor, objects a second, and peak memory an object beyond the text. Wanted at 10,000 hosts: 100,000 objects a second of plain sites and
 # 60,000 of rich ones, less than 2.3 times as long for twice as many, below 1 KiB an object, and `objects` less than half as much again.
+#
+# Then commits 10,000 hosts of each kind with 1, 2 and 4 workers, on as many cores as there are. Prints seconds by the clock, the least of three
+# runs, those of the processor, and peak memory. Wanted, on four cores: 4 workers take at most half of one's time for rich sites and 0.6 of it for
+# plain ones, and at most half as much memory again.
 # An argument is a built icinga_site to take.
 set -eu
 top=$(cd "$(dirname "$(readlink -f "${BASH_SOURCE[0]}")")/.." && pwd)
@@ -34,4 +38,26 @@ for kind in plain rich; do
         }'
         rm -rf "$site"
     done
+done
+
+# clocked ROOT WORKERS: the seconds by the clock, those of the processor and the kilobytes of peak memory of the fastest of three runs
+clocked() {
+    for _ in 1 2 3; do
+        /usr/bin/time -f '%e %U %S %M' -o "$work/time" "$program" check "$1" --workers "$2" >"$work/out"
+        awk '{ print $1, $2 + $3, $4 }' "$work/time"
+    done | sort -n | head -1
+}
+
+for kind in plain rich; do
+    site=$work/$kind
+    "${kind}_site" "$site" 10000
+    one=""
+    for workers in 1 2 4; do
+        read -r clock seconds memory < <(clocked "$site/icinga2.conf" "$workers")
+        one=${one:-$clock}
+        awk -v k="$kind" -v w="$workers" -v c="$clock" -v s="$seconds" -v m="$memory" -v one="$one" 'BEGIN {
+            printf "%s, 10,000 hosts, %d workers: %.2f s by the clock, %.2f times one, %.2f s of the processor, %.0f MB\n", k, w, c, c / one, s, m / 1000
+        }'
+    done
+    rm -rf "$site"
 done
