@@ -18,19 +18,34 @@ fn around(alloc: Global, tree: Tree, in_list: bool) -> Result<Tree, OutOfMemory>
     if in_list {
         return Ok(Tree::List(vec![in alloc; Tree::Bool(true), tree, Tree::Null]?));
     }
-    let key = Text::copy_of(alloc, "k")?;
-    let last = Text::copy_of(alloc, "l")?;
-    Ok(Tree::Dict(vec![in alloc; (key, tree), (last, Tree::Null)]?))
+    let first = pair(alloc, "k", tree)?;
+    let last = pair(alloc, "l", Tree::Null)?;
+    Ok(Tree::Dict(vec![in alloc; first, last]?))
 }
 
-/// The line of a host with the copy of a deep tree. Tree and copy are let go afterwards.
-fn line(alloc: Global) -> Result<Text, OutOfMemory> {
+fn pair(alloc: Global, key: &str, tree: Tree) -> Result<(Text, Tree), OutOfMemory> {
+    Ok((Text::copy_of(alloc, key)?, tree))
+}
+
+fn deep_tree(alloc: Global) -> Result<Tree, OutOfMemory> {
     let mut tree = Tree::Null;
     for level in 0..LEVELS {
         tree = around(alloc, tree, level % 2 == 0)?;
     }
-    let host = Object {
-        kind: Text::copy_of(alloc, "Host")?,
+    Ok(tree)
+}
+
+/// The copy of a deep tree, which itself is let go.
+fn copied(alloc: Global) -> Result<Tree, OutOfMemory> {
+    let tree = deep_tree(alloc)?;
+    copy_tree(alloc, &tree)
+}
+
+/// A host with this tree.
+fn host_with(alloc: Global, tree: Arc<Tree>) -> Result<Object, OutOfMemory> {
+    let kind = Text::copy_of(alloc, "Host")?;
+    Ok(Object {
+        kind,
         name: Text::copy_of(alloc, "h")?,
         place: Place {
             file: 0,
@@ -47,8 +62,13 @@ fn line(alloc: Global) -> Result<Text, OutOfMemory> {
             key: 0,
         },
         builtin: false,
-        tree: Arc::new(alloc, copy_tree(alloc, &tree)?)?,
-    };
+        tree,
+    })
+}
+
+/// The line of a host with the copy of a deep tree, which is let go afterwards.
+fn line(alloc: Global) -> Result<Text, OutOfMemory> {
+    let host = host_with(alloc, Arc::new(alloc, copied(alloc)?)?)?;
     print_object(alloc, &host)
 }
 

@@ -84,26 +84,42 @@ fn act_after<R: Wait>(
     comes(word) && post.act(rt, &mut pass, 0, gate).is_ok()
 }
 
+/// Whether both callers act: the second once the first is within its turn.
+fn both_act<R: Wait + Threads + Sync>(
+    rt: &R,
+    post: &Post<Counting>,
+    first: Pass<Counting>,
+    second: Pass<Counting>,
+    gate: &Held,
+) -> bool
+    requires first { IsPassOf post.now first }
+    requires second { IsPassOf post.now second }
+{
+    let always = AtomicU64::new(1);
+    let go = &always;
+    let (one, other) = thread::join(
+        rt,
+        move ||
+            requires { IsPassOf post.now first }
+        { act_after(rt, post, first, gate, go) },
+        move ||
+            requires { IsPassOf post.now second }
+        { act_after(rt, post, second, gate, &gate.begun) },
+    );
+    one && other
+}
+
 /// Whether both callers acted, with what the gate saw.
 fn two<R: Wait + Threads + Sync>(rt: &R, alloc: Global) -> Result<(bool, u64, u64), Fail> {
     let (post, passes) = Post::new(alloc, Counting { refused: None }, 0, 2, 3)?;
     let mut passes = passes.into_vec();
-    let second = passes.pop().ok_or("two passes")?;
-    let first = passes.pop().ok_or("two passes")?;
+    let (Some(second), Some(first)) = (passes.pop(), passes.pop()) else {
+        return Err(Fail::from("two passes"));
+    };
     let gate = Held::new();
-    let always = AtomicU64::new(1);
-    let (shared, held, go) = (&post, &gate, &always);
-    let (one, other) = thread::join(
-        rt,
-        move ||
-            requires { IsPassOf shared.now first }
-        { act_after(rt, shared, first, held, go) },
-        move ||
-            requires { IsPassOf shared.now second }
-        { act_after(rt, shared, second, held, &held.begun) },
-    );
+    let acted = both_act(rt, &post, first, second, &gate);
     Ok((
-        one && other,
+        acted,
         gate.both.load(Ordering::SeqCst),
         gate.late.load(Ordering::SeqCst),
     ))

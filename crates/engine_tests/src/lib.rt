@@ -1,9 +1,11 @@
 //! Tests that no table can hold of what a run stands on: what past downtimes cost, the sizes that a wheel is made for, the turn lock
 //! in one thread and in many, the real files, standard output, many names, and the stack that a listing takes.
 //!
-//! The turn lock's machine is in `counting`; `one_thread`, `refusing`, `gates`, `threads` and `turn_speed` are its tests.
+//! The turn lock's machine is in `counting`, what is called in `calls`; `one_thread`, `refusing`, `gates`, `threads` and `turn_speed` are its tests.
 #![tactic(auto)]
 
+#[cfg(test)]
+mod calls;
 #[cfg(test)]
 mod counting;
 #[cfg(test)]

@@ -1,7 +1,12 @@
 // A machine that refuses an event, and a gate that counts.
+ghost use Rattle.std.specs.Prelude.{◌≡◌};
+ghost use Rattle.post_turn.specs.Passes.{IsPassOf};
+
+use crate::calls::{act, closed_of_one, refused};
 use crate::counting::Counting;
-use post_turn::{Gate, GatePoint, Post};
-use site_base::Row;
+use post_turn::{Gate, GatePoint, Pass, Post};
+use std::process::Abort;
+use std::sync::Wait;
 use std::sync::atomic::{AtomicU64, Ordering};
 use std::test::Fail;
 
@@ -26,23 +31,29 @@ impl Gate for Digits {
     }
 }
 
-#[test]
-fn a_refused_event_comes_back_and_a_later_one_is_taken(rt: HostRuntime) -> Result<(), Fail> {
-    let machine = Counting { refused: Some(5) };
-    let (post, passes) = Post::new(rt.alloc(), machine, 0, 1, 7)?;
-    let mut passes = passes.into_vec();
-    let mut pass = passes.pop().ok_or("a pass")?;
+/// The event 5 is refused, and 6 is taken after that.
+fn refuse_and_take<R: Wait + Abort>(rt: &R, post: &Post<Counting>, pass: &mut Pass<Counting>)
+    requires { IsPassOf post.now pass.old }
+    ensures { IsPassOf post.now pass.new }
+{
     let gate = Digits {
         points: AtomicU64::new(0),
     };
-    let refused = post.act(&rt, &mut pass, 5, &gate).err().ok_or("refused")?;
-    assert!(rt; refused.event == 5);
-    assert!(rt; post.look(&rt, &mut pass) == (0, 0));
-    let receipt = post.act(&rt, &mut pass, 6, &gate).ok().ok_or("memory")?;
-    assert!(rt; (receipt.number, receipt.glance) == (1, 1));
+    assert!(rt; refused(rt, post, pass, 5, &gate) == Some(5));
+    assert!(rt; post.look(rt, pass) == (0, 0));
+    assert!(rt; act(rt, post, pass, 6, &gate) == Some((1, 1)));
     assert!(rt; gate.points.load(Ordering::SeqCst) == 1212);
-    passes.push(pass)?;
-    let (state, history) = post.close(Row::from(passes)).ok().ok_or("memory")?;
+}
+
+#[test]
+fn a_refused_event_comes_back_and_a_later_one_is_taken(rt: HostRuntime) -> Result<(), Fail> {
+    let (post, passes) = Post::new(rt.alloc(), Counting { refused: Some(5) }, 0, 1, 7)?;
+    let mut passes = passes.into_vec();
+    let Some(mut pass) = passes.pop() else {
+        return Err(Fail::from("a pass"));
+    };
+    refuse_and_take(&rt, &post, &mut pass);
+    let (state, history) = closed_of_one(rt.alloc(), post, pass)?;
     assert!(rt; (state, history.len()) == (1, 1));
     Ok(())
 }

@@ -1,5 +1,5 @@
 // The sizes that the wheel is made for.
-ghost use Rattle.std.specs.Prelude.{◌≡◌, ◌<◌, ◌≤◌, IfOk};
+ghost use Rattle.std.specs.Prelude.{◌≡◌, ◌<◌, IfOk};
 ghost use Rattle.wheel_links.specs.Members.{capacity_of};
 
 use site_base::Moment;
@@ -8,26 +8,119 @@ use std::marker::Brand;
 use std::process::Abort;
 use std::sync::ledger::{Blank, Ledger};
 use std::test::Fail;
-use wheel_links::{Steps, Wheel};
+use wheel_links::{Present, Steps, Wheel};
 
 const MEMBERS: u32 = 100_000;
+
+/// The moment so many seconds after the first.
+fn at(secs: u64) -> Moment {
+    Moment::of(0).unwrap().later(secs)
+}
+
+/// The member at a place in permuted order.
+fn permuted(place: u64) -> u32
+    requires { place < 1_000_000 }
+    ensures { result < MEMBERS }
+{
+    (place * 7919 % u64::from(MEMBERS)) as u32
+}
 
 /// A wheel with all members, spread over so many seconds and placed in permuted order.
 fn spread<L: Ledger>(alloc: Global, seconds: u64, steps: &mut Steps<L>) -> Result<Wheel, Fail>
     requires { 0 < seconds }
     ensures { IfOk result (λ w. capacity_of w ≡ MEMBERS) }
 {
-    let first = Moment::of(0).ok_or("zero is a moment")?;
     let mut wheel = Wheel::new(alloc, MEMBERS, 4096)?;
-    for place in 0..u64::from(MEMBERS) {
-        let id = (place * 7919 % u64::from(MEMBERS)) as u32;
-        wheel.place(id, first.later(u64::from(id) % seconds), steps)?;
-    }
+    place_all(&mut wheel, seconds, steps)?;
     Ok(wheel)
 }
 
-/// An hour from a moment on in which each member is due every five minutes. It gives the number of
-/// checks.
+fn place_all<L: Ledger>(
+    wheel: &mut Wheel,
+    seconds: u64,
+    steps: &mut Steps<L>,
+) -> Result<(), Present>
+    requires seconds { 0 < seconds }
+    requires members { capacity_of wheel.old ≡ MEMBERS }
+    ensures { capacity_of wheel.new ≡ MEMBERS }
+{
+    for place in 0..u64::from(MEMBERS) {
+        place_one(wheel, permuted(place), seconds, steps)?;
+    }
+    Ok(())
+}
+
+fn place_one<L: Ledger>(
+    wheel: &mut Wheel,
+    id: u32,
+    seconds: u64,
+    steps: &mut Steps<L>,
+) -> Result<(), Present>
+    requires id { id < MEMBERS }
+    requires seconds { 0 < seconds }
+    requires members { capacity_of wheel.old ≡ MEMBERS }
+    ensures { capacity_of wheel.new ≡ MEMBERS }
+{
+    wheel.place(id, at(u64::from(id) % seconds), steps)
+}
+
+/// Does an hour of checks from a second on, where each member is due every five minutes, and gives how many they are.
+fn check_hour<L: Ledger, R: Abort>(
+    rt: &R,
+    wheel: &mut Wheel,
+    seconds: u64,
+    start: u64,
+    steps: &mut Steps<L>,
+) -> Result<u32, Fail>
+    requires { capacity_of wheel.old ≡ MEMBERS }
+{
+    let mut checks = 0u32;
+    for now in start..start.saturating_add(3600) {
+        checks = checks.saturating_add(check_second(rt, wheel, seconds, now, steps)?);
+    }
+    Ok(checks)
+}
+
+/// Does all checks that are due at a second, and gives how many they are.
+fn check_second<L: Ledger, R: Abort>(
+    rt: &R,
+    wheel: &mut Wheel,
+    seconds: u64,
+    now: u64,
+    steps: &mut Steps<L>,
+) -> Result<u32, Fail>
+    requires { capacity_of wheel.old ≡ MEMBERS }
+    ensures { capacity_of wheel.new ≡ MEMBERS }
+{
+    let mut checks = 0u32;
+    for _ in 0..=MEMBERS {
+        let Some(id) = wheel.due(at(now)) else {
+            break;
+        };
+        check_one(rt, wheel, id, seconds, now, steps)?;
+        checks = checks.saturating_add(1);
+    }
+    Ok(checks)
+}
+
+fn check_one<L: Ledger, R: Abort>(
+    rt: &R,
+    wheel: &mut Wheel,
+    id: u32,
+    seconds: u64,
+    now: u64,
+    steps: &mut Steps<L>,
+) -> Result<(), Fail>
+    requires { capacity_of wheel.old ≡ MEMBERS }
+    ensures { capacity_of wheel.new ≡ MEMBERS }
+{
+    assert!(rt; id < MEMBERS);
+    let old = wheel.move_to(id, at(now).later(300), steps)?;
+    assert!(rt; old.secs() == now || old.secs() < seconds);
+    Ok(())
+}
+
+/// How many checks there are in an hour from a second on, where the members are first spread over so many seconds.
 fn an_hour<L: Ledger, R: Abort>(
     rt: &R,
     alloc: Global,
@@ -39,25 +132,10 @@ fn an_hour<L: Ledger, R: Abort>(
     requires parts { blank.parts ≡ L.parts }
     requires any { 0 < blank.parts }
     requires seconds { 0 < seconds }
-    requires start { start ≤ Moment.LAST }
 {
-    let first = Moment::of(0).ok_or("zero is a moment")?;
     let mut steps = Steps::<L>::new(blank);
     let mut wheel = spread(alloc, seconds, &mut steps)?;
-    let mut checks = 0;
-    for now in start..start + 3600 {
-        for _ in 0..=MEMBERS {
-            let Some(id) = wheel.due(first.later(now)) else {
-                break;
-            };
-            assert!(rt; id < MEMBERS);
-            let old = wheel.move_to(id, first.later(now + 300), &mut steps)?;
-            assert!(rt; old.secs() == now || old.secs() < seconds);
-            assert!(rt; checks < 2_000_000);
-            checks += 1;
-        }
-    }
-    Ok(checks)
+    check_hour(rt, &mut wheel, seconds, start, &mut steps)
 }
 
 #[test]
@@ -76,19 +154,44 @@ fn an_hour_of_checks_at_once(rt: HostRuntime) -> Result<(), Fail> {
     Ok(())
 }
 
+fn move_all<L: Ledger, R: Abort>(
+    rt: &R,
+    wheel: &mut Wheel,
+    steps: &mut Steps<L>,
+) -> Result<(), Fail>
+    requires { capacity_of wheel.old ≡ MEMBERS }
+{
+    for turn in 0..1_000_000u64 {
+        move_one(rt, wheel, permuted(turn), turn, steps)?;
+    }
+    Ok(())
+}
+
+fn move_one<L: Ledger, R: Abort>(
+    rt: &R,
+    wheel: &mut Wheel,
+    id: u32,
+    turn: u64,
+    steps: &mut Steps<L>,
+) -> Result<(), Fail>
+    requires id { id < MEMBERS }
+    requires turn { turn < 1_000_000 }
+    requires members { capacity_of wheel.old ≡ MEMBERS }
+    ensures { capacity_of wheel.new ≡ MEMBERS }
+{
+    let old = wheel.move_to(id, at(turn * 104_729 % 86_400), steps)?;
+    assert!(rt; old.secs() < 86_400);
+    Ok(())
+}
+
 fn moves<L: Ledger, R: Abort>(rt: &R, alloc: Global, blank: Blank) -> Result<(), Fail>
     requires name { blank.name ≡ L.name }
     requires parts { blank.parts ≡ L.parts }
     requires any { 0 < blank.parts }
 {
-    let first = Moment::of(0).ok_or("zero is a moment")?;
     let mut steps = Steps::<L>::new(blank);
     let mut wheel = spread(alloc, 300, &mut steps)?;
-    for turn in 0..1_000_000u64 {
-        let id = (turn * 7919 % 100_000) as u32;
-        let old = wheel.move_to(id, first.later(turn * 104_729 % 86_400), &mut steps)?;
-        assert!(rt; old.secs() < 86_400);
-    }
+    move_all(rt, &mut wheel, &mut steps)?;
     assert!(rt; wheel.len() == MEMBERS);
     Ok(())
 }
