@@ -52,10 +52,10 @@ fn make_folder(rt: &HostRuntime) -> Result<String, Fail> {
 
 fn fill_folder(rt: &HostRuntime, top: &str) -> io::Result<()> {
     fs::create_dir_all(rt, path(rt.alloc(), top, "/b/d")?)?;
-    for file in FILES {
+    for file in &FILES {
         add_file(rt, top, file)?;
     }
-    for (to, link) in LINKS {
+    for (to, link) in &LINKS {
         add_link(rt, top, to, link)?;
     }
     Ok(())
@@ -150,7 +150,7 @@ fn list_all<R: Abort + AllocGlobal, F: Files>(
 ) -> Result<(), Fail> {
     expect_listed(rt, files, top, "", &LISTED)?;
     expect_listed(rt, files, top, "/b/", &["/b/c", "/b/d/e.conf"])?;
-    for missing in ["/none", "/b.conf", "/b.conf/c", "/b\0c", "/n"] {
+    for missing in &["/none", "/b.conf", "/b.conf/c", "/b\0c", "/n"] {
         expect_listed(rt, files, top, missing, &[])?;
     }
     Ok(())
@@ -162,7 +162,7 @@ fn read_all<R: Abort + AllocGlobal, F: Files>(
     top: &str,
 ) -> Result<(), AllocError> {
     expect_file(rt, files, top, "/m/c", b"/b/c")?;
-    for missing in ["/n", "/none", "/a.conf/b", "/a\0b", "/o"] {
+    for missing in &["/n", "/none", "/a.conf/b", "/a\0b", "/o"] {
         expect_no_file(rt, files, top, missing)?;
     }
     expect_unread(rt, files, top, "")
@@ -190,10 +190,10 @@ fn fail_all<R: Abort + AllocGlobal, F: Files>(
     files: &mut F,
     top: &str,
 ) -> Result<(), AllocError> {
-    for folder in ["/b", "/", "/o"] {
+    for folder in &["/b", "/", "/o"] {
         expect_unlisted(rt, files, top, folder)?;
     }
-    for link in ["/b/d/loop", "/o"] {
+    for link in &["/b/d/loop", "/o"] {
         expect_unread(rt, files, top, link)?;
     }
     Ok(())
