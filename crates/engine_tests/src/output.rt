@@ -83,13 +83,13 @@ fn put_much<R: Abort + AllocGlobal>(
 ) -> Result<Vec<u8>, AllocError> {
     let mut out = OutSink::new(rt.alloc(), Kept { bytes });
     let mut whole = Vec::new(rt.alloc());
-    for (byte, length, written) in [
+    for (byte, length, written) in &[
         (b'a', 40_000, 0),
         (b'b', 40_000, 40_000),
         (b'c', 70_000, 150_000),
     ] {
-        put_many(rt, &mut out, &mut whole, byte, length)?;
-        assert!(rt; count(bytes) == written);
+        put_many(rt, &mut out, &mut whole, *byte, *length)?;
+        assert!(rt; count(bytes) == *written);
     }
     put_many(rt, &mut out, &mut whole, b'd', 1)?;
     assert!(rt; out.flush() == Ok(()));
