@@ -17,7 +17,7 @@ use Rattle.audit_laws.proofs.Fields.{small_utf8}
 others : codes "h" ≡ codes "h!s" → ⊥
 others e = absurd (let n : 1 ≡ 3 = ap length e in omega (arith, n))
 
-distinct : AreDistinct (codes "h" ∷ codes "h!s" ∷ [])
+pub distinct : AreDistinct (codes "h" ∷ codes "h!s" ∷ [])
 distinct =
     AllPairs-cons (λ x y. x ≡ y → ⊥) (codes "h") (codes "h!s" ∷ []) (All-cons (λ y. codes "h" ≡ y → ⊥) (codes "h!s") [] others (All-nil (λ y. codes "h" ≡ y → ⊥)))
     (AllPairs-cons (λ x y. x ≡ y → ⊥) (codes "h!s") [] (All-nil (λ y. codes "h!s" ≡ y → ⊥)) (λ i j d lt within. absurd (omega (arith, within))))

@@ -30,12 +30,12 @@ use Rattle.audit_laws.proofs.UntoldViews.{bare}
 
 -- ---- lines
 
-events_of_lines : (ls : List Line) → map untold_asked (line_events ls) ≡ line_events (map untold_line ls)
+pub events_of_lines : (ls : List Line) → map untold_asked (line_events ls) ≡ line_events (map untold_line ls)
 events_of_lines [] = refl
 events_of_lines (asking a ∷ ls) = ap (λ xs. untold_asked a ∷ xs) (events_of_lines ls)
 events_of_lines (faulty f ∷ ls) = events_of_lines ls
 
-refusals_of_lines : (n : ℕ) (ls : List Line) → line_refusals n (map untold_line ls) ≡ line_refusals n ls
+pub refusals_of_lines : (n : ℕ) (ls : List Line) → line_refusals n (map untold_line ls) ≡ line_refusals n ls
 refusals_of_lines n [] = refl
 refusals_of_lines n (asking a ∷ ls) = refusals_of_lines (n + 1) ls
 refusals_of_lines n (faulty f ∷ ls) = ap (λ xs. refused_line n f ∷ xs) (refusals_of_lines (n + 1) ls)
@@ -57,7 +57,7 @@ taken_same : (r : Reported) (o : Option ℕ) (xs ys : List Taken) → map untold
 taken_same r None xs ys e = e
 taken_same r (Some c) xs ys e = ap₂ (λ (x : Event) (zs : List Asked). record { checkable = c; event = x } ∷ zs) (untold_result r.status r.output) e
 
-events_of_reports : (os : List Outstanding) (rs : List Reported) → map untold_asked (map asked_in (taken_reports os rs)) ≡ map asked_in (taken_reports os (map untold_report rs))
+pub events_of_reports : (os : List Outstanding) (rs : List Reported) → map untold_asked (map asked_in (taken_reports os rs)) ≡ map asked_in (taken_reports os (map untold_report rs))
 events_of_reports os [] = refl
 events_of_reports os (r ∷ rs) = taken_same r (checkable_of r.order os) (taken_reports (without r.order os) rs) (taken_reports (without r.order os) (map untold_report rs)) (events_of_reports (without r.order os) rs)
 
@@ -65,17 +65,17 @@ refusing_same : (r : Reported) (o : Option ℕ) (xs ys : List Refusal) → xs �
 refusing_same r None xs ys e = ap (λ zs. refused_report r.order ∷ zs) e
 refusing_same r (Some c) xs ys e = e
 
-refusals_of_reports : (os : List Outstanding) (rs : List Reported) → report_refusals os (map untold_report rs) ≡ report_refusals os rs
+pub refusals_of_reports : (os : List Outstanding) (rs : List Reported) → report_refusals os (map untold_report rs) ≡ report_refusals os rs
 refusals_of_reports os [] = refl
 refusals_of_reports os (r ∷ rs) = refusing_same r (checkable_of r.order os) (report_refusals (without r.order os) (map untold_report rs)) (report_refusals (without r.order os) rs) (refusals_of_reports (without r.order os) rs)
 
-still_same : (rs : List Reported) (os : List Outstanding) → still (map untold_report rs) os ≡ still rs os
+pub still_same : (rs : List Reported) (os : List Outstanding) → still (map untold_report rs) os ≡ still rs os
 still_same [] os = refl
 still_same (r ∷ rs) os = still_same rs (without r.order os)
 
 -- ---- ticks
 
-ticks_bare : (k : ℕ) (cs : List PlainCheck) (before : Histories) (moment : ℕ) → map untold_asked (ticks_from k cs before moment) ≡ ticks_from k cs before moment
+pub ticks_bare : (k : ℕ) (cs : List PlainCheck) (before : Histories) (moment : ℕ) → map untold_asked (ticks_from k cs before moment) ≡ ticks_from k cs before moment
 ticks_bare k [] before moment = refl
 ticks_bare k (c ∷ cs) before moment = by (wants_tick c (of_index k before) moment) (ticks_bare (suc k) cs before moment)
   where
@@ -144,7 +144,7 @@ module _ (s : PlainSite) (holds : ℕ → ℕ → Bool) (moment : ℕ) where
   moves_same [] = refl
   moves_same (a ∷ events) = ap (λ xs. untold_move (record { caller = 0; asked = a }) ∷ xs) (moves_same events)
 
-  alone_same : (before : Histories) (events : List Asked) → alone (rules_of s holds) moment (untold_all before) (map untold_asked events) ≡ untold_all (alone (rules_of s holds) moment before events)
+  pub alone_same : (before : Histories) (events : List Asked) → alone (rules_of s holds) moment (untold_all before) (map untold_asked events) ≡ untold_all (alone (rules_of s holds) moment before events)
   alone_same before events =
       ap₂ (λ moves round. round_from (rules_of s holds) moment (untold_all before) moves round) (moves_same events) (nothing s.checkables)
       ∙ round_same before (moves_of 0 events) (no_entries s)
@@ -155,7 +155,7 @@ module _ (s : PlainSite) (holds : ℕ → ℕ → Bool) (moment : ℕ) where
 
 -- ---- turns
 
-joined_same : (before round : Histories) → untold_all (joined before round) ≡ joined (untold_all before) (untold_all round)
+pub joined_same : (before round : Histories) → untold_all (joined before round) ≡ joined (untold_all before) (untold_all round)
 joined_same [] round = refl
 joined_same (es ∷ before) [] = refl
 joined_same (es ∷ before) (fs ∷ round) = ap₂ (λ xs xss. xs ∷ xss) (map-append untold es fs) (joined_same before round)
@@ -165,7 +165,7 @@ lines_in : (s : PlainSite) (k : ℕ) (es : List Entry) → map (entry_line s k) 
 lines_in s k [] = refl
 lines_in s k (e ∷ es) = ap₂ (λ x xs. x ∷ xs) (lines_same s k e) (lines_in s k es)
 
-round_lines_same : (s : PlainSite) (k : ℕ) (round : Histories) → round_lines One s k (untold_all round) ≡ round_lines One s k round
+pub round_lines_same : (s : PlainSite) (k : ℕ) (round : Histories) → round_lines One s k (untold_all round) ≡ round_lines One s k round
 round_lines_same s k [] = refl
 round_lines_same s k (es ∷ round) = ap₂ (λ x xs. x ∷ xs) (lines_in s k es) (round_lines_same s (suc k) round)
 

@@ -12,6 +12,8 @@ pub mod Retaken
 pub mod Kinds
 pub mod Heard
 pub mod ToldTurns
+pub mod Fitting
+pub mod LegalLogs
 pub mod Untold
 pub mod Alike
 pub mod Examples

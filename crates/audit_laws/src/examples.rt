@@ -1,11 +1,12 @@
 // Worked examples of what a log tells.
-ghost use Rattle.std.specs.Prelude.{◌≡◌, true, false, codes, [], ◌∷◌, Some, None};
+ghost use Rattle.std.specs.Prelude.{◌≡◌, true, false, codes, [], ◌∷◌, Some, None, length, map};
 ghost use Rattle.event_text.specs.Lines.{told, faulty};
 ghost use Rattle.event_text.specs.declared.line_fault.LineFault.TheVariants as fault;
 ghost use Rattle.site_model.specs.declared.entry.Entry.{Entry};
 ghost use Rattle.site_model.specs.declared.event.Event.TheVariants as event;
 ghost use Rattle.site_audit.specs.Commands.{line_for, output_text, refused_text};
-ghost use Rattle.audit_laws.specs.Examples.{one_open, one_order, small_site, two_lines};
+ghost use Rattle.audit_laws.specs.Examples.{one_log, one_open, one_order, one_turn, small_site, two_lines};
+ghost use Rattle.audit_laws.specs.LegalLogs.{CanBeRun, IsLoneRun};
 ghost use Rattle.audit_laws.specs.Names.{IsWellNamed};
 ghost use Rattle.audit_laws.specs.Refilled.{asking_among, refused_from};
 ghost use Rattle.audit_laws.specs.Rereported.{refused_again, told_again};
@@ -43,4 +44,11 @@ pub fn told_turns()
 /// A turn of the small site can be told, before which an order of its service is outstanding, and which brings two lines.
 pub fn a_turn_of_the_small_site()
     ensures { IsTellable small_site one_open one_order [] two_lines [] }
+{}
+
+/// The small site can be run, and over one turn, in which both of its checks are ordered, its run is one of which the log is legal.
+pub fn a_run_of_the_small_site()
+    ensures site { CanBeRun small_site }
+    ensures run { IsLoneRun small_site None one_turn one_log }
+    ensures orders { map (λ l. length l.orders) one_log ≡ 2 ∷ [] }
 {}

@@ -1,0 +1,84 @@
+-- What an audit says of the log of a run: that it is legal, and nothing else.
+use Rattle.std.proofs.Common.{◌≡◌, ◌==◌, ◌||◌, ℕ, Bool, true, false, List, [], ◌∷◌, length, take, refl, sym, ap, subst, Option, Some, None}
+use Rattle.std.specs.List.{concat, flat_map}
+use Rattle.jiff_tz.specs.declared.tzif.Tzif.{Tzif}
+use Rattle.site_edge.specs.declared.turn.Turn.{Turn}
+use Rattle.site_model.specs.PlainSite.{PlainSite}
+use Rattle.log_text.specs.Fronts.{behind}
+use Rattle.log_text.specs.LogLines.{log_two}
+use Rattle.run_meaning.specs.Meaning.{basis_of}
+use Rattle.run_meaning.specs.Runs.{IsRun, TurnLog, no_entries, start}
+use Rattle.run_text.specs.LogText.{log_text, turn_lines}
+use Rattle.run_text.specs.TurnReading.{nothing_fed}
+use Rattle.run_text.proofs.ReadLaws.{turns_are}
+use Rattle.run_text.specs.declared.style.Style.{Style}
+use Rattle.run_text.specs.declared.style.Style.TheVariants.{One, Two}
+use Rattle.turn_engine.specs.Orders.{command_of}
+use Rattle.turn_engine.specs.Ready.{IsZoneOf}
+use Rattle.turn_engine.specs.Stages.{basis_of_site}
+use Rattle.site_run.specs.Logs.{Whole}
+use Rattle.site_run.proofs.Zones.{same_holds}
+use Rattle.site_audit.specs.Audit.{is_cut_off, IsLegal, IsVerdict, IsVerdictBy, IsVerdictOf, IsVerdictTwo}
+use Rattle.site_audit.specs.Blocks.{begins_turn}
+use Rattle.site_audit.specs.declared.auditing.Verdict.{Verdict}
+use Rattle.site_audit.specs.declared.auditing.Verdict.TheVariants as verdict
+use Rattle.audit_laws.specs.LegalLogs.{blocks_written, CanBeRun, IsLoneLog, IsLoneRun}
+use Rattle.audit_laws.proofs.LegalRuns.{run_is_legal}
+
+-- the text of turns, without the line of a version
+abbrev text_of : Style → PlainSite → List TurnLog → List ℕ
+text_of style s logs = concat (flat_map (turn_lines style s) logs)
+
+no_version : (s : PlainSite) (logs : List TurnLog) → behind log_two (text_of One s logs) ≡ None
+no_version s [] = refl
+no_version s (l ∷ logs) = refl
+
+version : (s : PlainSite) (logs : List TurnLog) → behind log_two (log_text Two s logs) ≡ Some (text_of Two s logs)
+version s logs = refl
+
+or_true : (a b : Bool) → b ≡ true → (a || b) ≡ true
+or_true true b e = refl
+or_true false b e = e
+
+cut_off : (s : PlainSite) (logs : List TurnLog) → is_cut_off (text_of Two s logs) ≡ true
+cut_off s [] = refl
+cut_off s (l ∷ logs) = or_true (length (text_of Two s (l ∷ logs)) == 0) (begins_turn (text_of Two s (l ∷ logs))) refl
+
+-- it is a verdict on the text of the turns
+to_text : (style : Style) (s : PlainSite) (logs : List TurnLog) (v : Verdict) → ((first : ℕ) → IsVerdictOf style 1 s first (text_of style s logs) v) → IsVerdict 1 s (log_text style s logs) v
+to_text One s logs v h = subst (λ o. IsVerdictBy 1 s (text_of One s logs) o v) (sym (no_version s logs)) (h 1)
+to_text Two s logs v h =
+    subst (λ o. IsVerdictBy 1 s (log_text Two s logs) o v) (sym (version s logs)) (subst (λ t. IsVerdictTwo t 1 s (text_of Two s logs) v) (sym (cut_off s logs)) (h 2))
+
+of_text : (style : Style) (s : PlainSite) (logs : List TurnLog) (v : Verdict) → IsVerdict 1 s (log_text style s logs) v → (first : ℕ) × IsVerdictOf style 1 s first (text_of style s logs) v
+of_text One s logs v h = (1, subst (λ o. IsVerdictBy 1 s (text_of One s logs) o v) (no_version s logs) h)
+of_text Two s logs v h = (2, subst (λ t. IsVerdictTwo t 1 s (text_of Two s logs) v) (cut_off s logs) (subst (λ o. IsVerdictBy 1 s (log_text Two s logs) o v) (version s logs) h))
+
+same_basis : (s : PlainSite) (a b : Option Tzif) → IsZoneOf s.zone a → IsZoneOf s.zone b → basis_of_site s a ≡ basis_of_site s b
+same_basis s a b p q = ap (λ holds. basis_of s holds (command_of s) nothing_fed) (same_holds s.zone a b p q s)
+
+module _ (style : Style) (limit : ℕ) (s : PlainSite) (can : CanBeRun s) (turns : List Turn) (w : Whole) (h : IsLoneLog style limit s turns w) where
+  abbrev zone : Option Tzif
+  zone = h.log.are.zone
+
+  abbrev logs : List TurnLog
+  logs = h.log.logs
+
+  run : IsLoneRun s zone (take limit turns) logs
+  run = record {
+    run = subst (λ rs. IsRun (basis_of_site s zone) 1 (start s (no_entries s)) rs logs) (turns_are s (take limit turns) h.log.are.reads can.sound.names h.log.are.read) h.log.are.run;
+    fits = h.fits;
+  }
+
+  legal : IsLegal style (basis_of_site s zone) 1 s (blocks_written style s logs)
+  legal = run_is_legal style s zone can (take limit turns) logs run
+
+  pub said_legal : IsVerdict 1 s w.text verdict.Legal
+  said_legal = subst (λ t. IsVerdict 1 s t verdict.Legal) (sym h.log.text) (to_text style s logs verdict.Legal (λ first. record { zone = zone; is_zone = h.log.are.is_zone; says = legal }))
+
+  only_of : (first : ℕ) (v : Verdict) → IsVerdictOf style 1 s first (text_of style s logs) v → v ≡ verdict.Legal
+  only_of first verdict.Legal g = refl
+  only_of first (verdict.Illegal line) g = absurd (g.says.whole (subst (λ b. IsLegal style b 1 s (blocks_written style s logs)) (same_basis s zone g.zone h.log.are.is_zone g.is_zone) legal))
+
+  pub only_legal : (v : Verdict) → IsVerdict 1 s w.text v → v ≡ verdict.Legal
+  only_legal v g = let (first, is) = of_text style s logs v (subst (λ t. IsVerdict 1 s t v) h.log.text g) in only_of first v is
