@@ -15,8 +15,8 @@ use Rattle.run_meaning.specs.Lookback.{ask_commands}
 use Rattle.run_meaning.specs.Meaning.{basis_of}
 use Rattle.run_meaning.specs.Reachability.{Outlook}
 use Rattle.run_meaning.specs.Runs.{Basis, IsTurn, Stage, TurnLog, lines_of, reports_of, stage_after}
-use Rattle.run_meaning.specs.Schedule.{again_at, Due, Walk, Watch, due_from, gets_order, goes_first, is_waiting, ordering, outlook_after, put_due, skipping, walk_from, walk_over, walk_with, watch_from, watch_with, watches_after, watches_from}
-use Rattle.run_meaning.specs.Turns.{Command, Feed, Histories, Ordered, Outstanding, ReadTurn, Slot, from_on, of_index}
+use Rattle.run_meaning.specs.Schedule.{again_at, Due, Walk, Watch, due_from, gets_order, goes_first, is_waiting, ordering, outlook_after, put_due, schedule, skipping, walk_from, walk_over, walk_with, watch_from, watch_with, watches_after, watches_from}
+use Rattle.run_meaning.specs.Turns.{Command, Feed, Histories, Ordered, Outstanding, Plans, ReadTurn, Slot, from_on, of_index}
 use Rattle.run_meaning.specs.View.{view_of}
 use Rattle.run_meaning.proofs.Lookback.{all_given, given, one_given}
 use Rattle.run_meaning.proofs.Outstanding.{AreSingle, is_report, none_still, round_reports, single_still, waits_still}
@@ -333,3 +333,28 @@ module _ (s : PlainSite) (holds : ℕ → ℕ → Bool) (command : ℕ → Comma
         numbered = subst (λ g. AreNumbered g (left ++ map given l.orders)) many (subst (λ orders. AreNumbered last.given (left ++ map given orders)) orders_are ends.numbered);
         counted = subst (AreCounted st.plans.given (length s.checkables)) orders_are ends.counted;
       }
+
+-- ---- each order is of its checkable's command
+
+abbrev pub IsOfCommand : (ℕ → Command) → Ordered → Type 0
+IsOfCommand command o = o.command ≡ command o.checkable
+
+walk_commands : (command : ℕ → Command) (o : Outlook) (ds : List Due) (w : Walk) → AllByRecursion (IsOfCommand command) w.orders → AllByRecursion (IsOfCommand command) (walk_over command o ds w).orders
+walk_commands command o [] w h = h
+walk_commands command o (d ∷ ds) w h = by (nat_lt w.outstanding o.site.max_orders) (slice_get o.site.checkables d.checkable) (λ w. walk_commands command o ds w)
+  where
+    Onward : Walk → Type 0
+    Onward w = AllByRecursion (IsOfCommand command) (walk_over command o ds w).orders
+
+    taken : (p : PlainCheck) (gets : Bool) → ((w : Walk) → AllByRecursion (IsOfCommand command) w.orders → Onward w) → Onward (cond gets (ordering command d.checkable w) (skipping p d.checkable o.moment w))
+    taken p true onward = onward (ordering command d.checkable w) (all_more (IsOfCommand command) w.orders (record { number = w.given + 1; checkable = d.checkable; command = command d.checkable }) h refl)
+    taken p false onward = onward (skipping p d.checkable o.moment w) h
+
+    by : (t : Bool) (x : Option PlainCheck) → ((w : Walk) → AllByRecursion (IsOfCommand command) w.orders → Onward w) → AllByRecursion (IsOfCommand command) (cond t (walk_over command o ds (walk_with command o d x w)) w).orders
+    by false x onward = h
+    by true None onward = onward w h
+    by true (Some p) onward = taken p (gets_order o d p w) onward
+
+pub orders_commanded : (s : PlainSite) (holds : ℕ → ℕ → Bool) (command : ℕ → Command) (plans : Plans) (moment : ℕ) (before round : Histories) → AllByRecursion (IsOfCommand command) (schedule s holds command plans moment before round).orders
+orders_commanded s holds command plans moment before round =
+    walk_commands command (outlook_after s holds moment before round) (due_from moment 0 (watches_after s plans before round)) (walk_from plans (watches_after s plans before round)) tt

@@ -33,7 +33,7 @@ orders_there (o ∷ os) = (
   all_imply (λ p. IsThere (map given os) p.number) (λ p. IsThere (map given (o ∷ os)) p.number) (λ p h. there_more (given o) (map given os) p.number h) os (orders_there os),
 )
 
-due_all : (P : ℕ → Type 0) (os : List Ordered) → AllByRecursion (λ o. P o.number) os → AllByRecursion (λ r. P r.order) (due_of os)
+pub due_all : (P : ℕ → Type 0) (os : List Ordered) → AllByRecursion (λ o. P o.number) os → AllByRecursion (λ r. P r.order) (due_of os)
 due_all P [] h = tt
 due_all P (o ∷ os) h = by o.command (due_all P os h.1)
   where

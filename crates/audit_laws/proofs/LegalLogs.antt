@@ -1,5 +1,5 @@
 -- What an audit says of the log of a run: that it is legal, and nothing else.
-use Rattle.std.proofs.Common.{◌≡◌, ◌==◌, ◌||◌, ℕ, Bool, true, false, List, [], ◌∷◌, length, take, refl, sym, ap, subst, Option, Some, None}
+use Rattle.std.proofs.Common.{◌≡◌, ◌==◌, ◌||◌, ℕ, Bool, true, false, List, [], ◌∷◌, length, map, take, refl, sym, ap, subst, Option, Some, None}
 use Rattle.std.specs.List.{concat, flat_map}
 use Rattle.jiff_tz.specs.declared.tzif.Tzif.{Tzif}
 use Rattle.site_edge.specs.declared.turn.Turn.{Turn}
@@ -9,7 +9,7 @@ use Rattle.log_text.specs.LogLines.{log_two}
 use Rattle.run_meaning.specs.Meaning.{basis_of}
 use Rattle.run_meaning.specs.Runs.{IsRun, TurnLog, no_entries, start}
 use Rattle.run_text.specs.LogText.{log_text, turn_lines}
-use Rattle.run_text.specs.TurnReading.{nothing_fed}
+use Rattle.run_text.specs.TurnReading.{nothing_fed, turn_read}
 use Rattle.run_text.proofs.ReadLaws.{turns_are}
 use Rattle.run_text.specs.declared.style.Style.{Style}
 use Rattle.run_text.specs.declared.style.Style.TheVariants.{One, Two}
@@ -23,6 +23,7 @@ use Rattle.site_audit.specs.Blocks.{begins_turn}
 use Rattle.site_audit.specs.declared.auditing.Verdict.{Verdict}
 use Rattle.site_audit.specs.declared.auditing.Verdict.TheVariants as verdict
 use Rattle.audit_laws.specs.LegalLogs.{blocks_written, CanBeRun, IsLoneLog, IsLoneRun}
+use Rattle.audit_laws.proofs.FittingRuns.{logs_fit}
 use Rattle.audit_laws.proofs.LegalRuns.{run_is_legal}
 
 -- the text of turns, without the line of a version
@@ -64,11 +65,11 @@ module _ (style : Style) (limit : ℕ) (s : PlainSite) (can : CanBeRun s) (turns
   abbrev logs : List TurnLog
   logs = h.log.logs
 
+  run_is : IsRun (basis_of_site s zone) 1 (start s (no_entries s)) (map (turn_read s) (take limit turns)) logs
+  run_is = subst (λ rs. IsRun (basis_of_site s zone) 1 (start s (no_entries s)) rs logs) (turns_are s (take limit turns) h.log.are.reads can.sound.names h.log.are.read) h.log.are.run
+
   run : IsLoneRun s zone (take limit turns) logs
-  run = record {
-    run = subst (λ rs. IsRun (basis_of_site s zone) 1 (start s (no_entries s)) rs logs) (turns_are s (take limit turns) h.log.are.reads can.sound.names h.log.are.read) h.log.are.run;
-    fits = h.fits;
-  }
+  run = record { run = run_is; fits = logs_fit s zone can (take limit turns) logs run_is.turns h.turns_fit h.few_turns h.few_entries }
 
   legal : IsLegal style (basis_of_site s zone) 1 s (blocks_written style s logs)
   legal = run_is_legal style s zone can (take limit turns) logs run

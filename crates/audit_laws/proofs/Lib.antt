@@ -37,6 +37,10 @@ pub mod BlocksBack
 pub mod Printing
 pub mod OwnAncestors
 pub mod LogBlocks
+pub mod OutputTexts
+pub mod DecidedNumbers
+pub mod EntryFits
+pub mod FittingRuns
 pub mod LegalRuns
 pub mod LegalLogs
 pub mod SmallSite

@@ -46,7 +46,7 @@ named s outcome.TooLate h = tt
 named s outcome.Repeat h = tt
 named s outcome.NoUsers h = tt
 
-all_from : {A : Type 0} (P : A → Type 0) (xs : List A) → ((i : ℕ) (x : A) → slice_get xs i ≡ Some x → P x) → AllByRecursion P xs
+pub all_from : {A : Type 0} (P : A → Type 0) (xs : List A) → ((i : ℕ) (x : A) → slice_get xs i ≡ Some x → P x) → AllByRecursion P xs
 all_from P [] h = tt
 all_from P (x ∷ xs) h = (h 0 x refl, all_from P xs (λ i. h (suc i)))
 
@@ -55,7 +55,7 @@ all_at P [] i x h e = absurd cc
 all_at P (y ∷ xs) zero x h e = let same : y ≡ x = cc in subst P same h.0
 all_at P (y ∷ xs) (suc i) x h e = all_at P xs i x h.1 e
 
-taken_many : {A : Type 0} (n : ℕ) (xs : List A) → n ≤ length xs → length (take n xs) ≡ n
+pub taken_many : {A : Type 0} (n : ℕ) (xs : List A) → n ≤ length xs → length (take n xs) ≡ n
 taken_many zero xs le = refl
 taken_many (suc n) [] le = absurd (omega (arith, le))
 taken_many (suc n) (x ∷ xs) le = ap suc (taken_many n xs (omega (arith, le)))

@@ -8,7 +8,9 @@ use Rattle.site_model.specs.Sound.{AreDistinct, IsIndex, IsIndexOrNone, IsSound}
 use Rattle.run_meaning.specs.Runs.{no_entries, start}
 use Rattle.run_meaning.specs.Turns.{of_index}
 use Rattle.run_meaning.proofs.OneLog.{is_log}
+use Rattle.turn_engine.specs.Orders.{command_of}
 use Rattle.turn_engine.specs.Stages.{basis_of_site}
+use Rattle.site_audit.specs.LogLines.{IsOfTexts}
 use Rattle.audit_laws.specs.Examples.{host, one_log, one_turn, service, small_site}
 use Rattle.audit_laws.specs.LegalLogs.{CanBeRun, IsLoneRun}
 use Rattle.audit_laws.proofs.Fields.{small_utf8}
@@ -57,7 +59,14 @@ small_site_can_be_run = record {
   texts = record { checkables = (small_utf8 (codes "h") refl, (small_utf8 (codes "h!s") refl, tt)); depends = tt; notifies = tt; users = tt };
   free = All-nil _;
   few = lit≤ tt;
+  attempts = (lit< tt, (lit< tt, tt));
+  commands = commands;
 }
+  where
+    commands : (k : ℕ) → IsOfTexts (command_of small_site k)
+    commands zero = tt
+    commands (suc zero) = tt
+    commands (suc (suc k)) = tt
 
 pub small_run : IsLoneRun small_site None one_turn one_log
 small_run = record {
