@@ -1,5 +1,5 @@
 -- The log of a run is legal: its blocks tell turns of which a run writes it.
-use Rattle.std.proofs.Common.{◌≡◌, ◌<◌, ◌^◌, ℕ, suc, cond, List, [], ◌∷◌, ◌++◌, length, map, refl, sym, ap, ap₂, ◌∙◌, subst, arith, eq-eqb, Option, Some, None, lit<}
+use Rattle.std.proofs.Common.{◌≡◌, ◌<◌, ◌^◌, ℕ, suc, cond, List, [], ◌∷◌, ◌++◌, length, map, refl, sym, ap, ap₂, ◌∙◌, subst, arith, eq-eqb, Option, Some, None, lit<, lit≤}
 use Rattle.std.proofs.lemmas.Slice.Eq.{bytes_eq-Decides}
 use Rattle.std.specs.List.{AllByRecursion, concat}
 use Rattle.jiff_tz.specs.declared.tzif.Tzif.{Tzif}
@@ -38,7 +38,8 @@ use Rattle.audit_laws.proofs.Lacking.{given_low}
 use Rattle.audit_laws.proofs.Opening.{order_line, AreUpTo}
 use Rattle.audit_laws.proofs.OwnAncestors.{are_others}
 use Rattle.audit_laws.proofs.Printing.{all_printable, joined_at, roomy}
-use Rattle.audit_laws.proofs.TurnKept.{alike, gives, kept, on_site, same_lines, turn, turn_is, writes, IsKept, ShowsAlike}
+use Rattle.audit_laws.proofs.OpensKept.{gives, kept, IsKept}
+use Rattle.audit_laws.proofs.WritesAgain.{alike, on_site, same_lines, turn, turn_is, writes, ShowsAlike}
 
 module _ (style : Style) (s : PlainSite) (zone : Option Tzif) (can : CanBeRun s) where
   abbrev b : Basis
@@ -94,13 +95,13 @@ module _ (style : Style) (s : PlainSite) (zone : Option Tzif) (can : CanBeRun s)
   walk (t ∷ ts) [] st other opens run fits k a low room = absurd run
   walk (t ∷ ts) (l ∷ ls) st other opens run fits k a low room =
       let behind_all = roomy s zone 1 st t l run.0 fits.0.entries room in
-      let more = gives style s zone can.names others can.few st opens t l run.0 k low behind_all in
+      let more = gives style s zone 1 (lit≤ tt) can.names st opens t l run.0 k in
       let u = turn style s zone can.names others can.few st opens t l run.0 k low behind_all in
       let m = turn_alone b other (turn_read s u) in
       let blk = block st t l run.0 fits.0 more.counted.inside in
       let is_read = read st t l run.0 fits.0 more.counted.inside in
       let rest = walk ts ls (stage_after b st (turn_read s t) l) (stage_after b other (turn_read s u) m) (orders_after opens blk) run.1 fits.1
-      (kept style s zone can.names others can.few st opens t l run.0 k low behind_all)
+      (kept style s zone 1 (lit≤ tt) can.names st opens t l run.0 k)
       (alike style s zone can.names others can.few st opens t l run.0 k low behind_all other a)
       (given_low st.plans.given (2 ^ 64) l.orders more.counted.numbers low (all_imply FitsOrder (λ (o : Ordered). o.number < 2 ^ 64) (λ o f. f.number) l.orders fits.0.orders))
       (λ c. let e = ap length (joined_at st.histories l.round c) in let lt = behind_all c in omega (arith, e, lt)) in

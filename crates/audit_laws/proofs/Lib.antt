@@ -30,7 +30,8 @@ pub mod Lacking
 pub mod Opening
 pub mod ByVersion
 pub mod AskedLines
-pub mod TurnKept
+pub mod OpensKept
+pub mod WritesAgain
 pub mod QuotedTexts
 pub mod LineTexts
 pub mod BlocksBack

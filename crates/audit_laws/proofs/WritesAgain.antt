@@ -1,26 +1,21 @@
--- From turn to turn: the block of each turn tells a turn that writes the same, and behind both the next one can be told.
-use Rattle.std.proofs.Common.{◌≡◌, ◌<◌, ◌≤◌, ◌+◌, ◌^◌, ◌&&◌, ◌||◌, ℕ, max, List, [], ◌∷◌, ◌++◌, length, get_or, map, slice_get, nat_eq, not, cond, Bool, true, false, Option, Some, None, refl, sym, ap, ap₂, ◌∙◌, subst, arith, true≢false, ◌⊎◌, inl, inr}
-use Rattle.std.specs.List.{AllByRecursion, flat_map, list_any}
+-- The block of each turn tells a turn that writes the same, of one caller.
+use Rattle.std.proofs.Common.{◌≡◌, ◌<◌, ◌≤◌, ◌+◌, ◌^◌, ℕ, max, List, [], ◌∷◌, ◌++◌, length, map, slice_get, Option, Some, sym, ap, ap₂, ◌∙◌, subst, arith, ◌⊎◌, inl, inr}
+use Rattle.std.specs.List.{flat_map}
 use Rattle.std.proofs.lemmas.List.{length-append}
 use Rattle.std.proofs.lemmas.Option.{slice_get_within}
 use Rattle.jiff_tz.specs.declared.tzif.Tzif.{Tzif}
 use Rattle.depend_graph.specs.Outlooks.{holds_in}
 use Rattle.site_edge.specs.declared.turn.Turn.{Turn}
 use Rattle.site_model.specs.PlainSite.{PlainSite}
-use Rattle.site_model.specs.declared.entry.Entry.{Entry}
 use Rattle.event_text.specs.Lines.{Answer}
 use Rattle.run_meaning.specs.Alone.{AreOnSite, all_events, alone, turn_alone}
-use Rattle.run_meaning.specs.Dealing.{Refusal, Taken, checkable_of, line_events, line_refusals, report_refusals, still, taken_reports, ticks}
-use Rattle.run_meaning.specs.Lookback.{ask_commands}
+use Rattle.run_meaning.specs.Dealing.{Refusal, Taken, line_events, line_refusals, report_refusals, still, taken_reports, ticks}
 use Rattle.run_meaning.specs.Rounds.{IsRound, behind}
 use Rattle.run_meaning.specs.Runs.{Basis, IsTurn, Stage, TurnLog, joined, planned_of, due_of, stage_after}
-use Rattle.run_meaning.specs.Schedule.{is_waiting}
 use Rattle.run_meaning.specs.Turns.{Asked, Histories, Ordered, Outstanding, Planned, Plans, Reported, Slot, of_index}
 use Rattle.run_meaning.proofs.Dealt.{dealt_to_one}
 use Rattle.run_meaning.proofs.Lists.{get_map}
 use Rattle.run_meaning.proofs.Lookback.{given}
-use Rattle.run_meaning.proofs.Outstanding as run
-use Rattle.run_meaning.proofs.Outstanding.{round_reports, waits_still}
 use Rattle.run_meaning.proofs.Shares.{get_either}
 use Rattle.log_text.specs.LogLines.{turn_line}
 use Rattle.run_text.specs.LogText.{ordered_line, refusal_line, round_lines, turn_lines}
@@ -29,34 +24,17 @@ use Rattle.run_text.specs.declared.style.Style.{Style}
 use Rattle.turn_engine.specs.Stages.{basis_of_site}
 use Rattle.turn_engine.specs.Orders.{command_of}
 use Rattle.site_audit.specs.Order.{stands}
-use Rattle.site_audit.specs.Telling.{after_entries}
-use Rattle.site_audit.specs.Told.{orders_after, turn_told}
+use Rattle.site_audit.specs.Told.{turn_told}
 use Rattle.audit_laws.specs.Types.{Block, Open}
 use Rattle.audit_laws.specs.Names.{IsWellNamed}
-use Rattle.audit_laws.specs.Rereported.{orders_of}
-use Rattle.audit_laws.specs.Retaken.{lines_from, AreOthers, HaveRoom}
+use Rattle.audit_laws.specs.Retaken.{AreOthers, HaveRoom}
 use Rattle.audit_laws.specs.ToldTurns.{block_of, events_of_turn, AreRising, IsTellable, IsToldSo}
-use Rattle.audit_laws.proofs.AskedLines.{all_asked, all_at, all_rise, all_ticks, answered, answers_of, can_all, commands_alone, of_lines, Askable, IsTickBelow}
-use Rattle.audit_laws.proofs.ByVersion.{alone_shown, entries_many, events_alike, histories_many, histories_twice, joined_shown, line_refusals_shown, of_lines_shown, orders_shown, refusals_shown, reports_append, reports_in_shown, reports_twice, round_lines_shown, round_shown, schedule_shown, shown_answers, shown_events, shown_histories, shown_reports, still_shown, ticks_shown, turn_shown}
-use Rattle.audit_laws.proofs.EventFacts.{not_of, taken_facts, was_still, IsTaken}
-use Rattle.audit_laws.proofs.Giving.{turn_gives, AreNumbered, GivesOrders}
-use Rattle.audit_laws.proofs.Opening.{ahead_none, ahead_waits, behind_single, either_there, entries_keep, entries_long, inside_given, none_lacks, number_at, numbers_after, order_line, orders_keep, orders_long, orders_open, AreUpTo}
-use Rattle.audit_laws.proofs.Lacking.{due_there, none_refused, rising_due}
-use Rattle.audit_laws.proofs.Ordering.{is_eq}
-use Rattle.audit_laws.proofs.Rereporting.{still_append}
+use Rattle.audit_laws.proofs.AskedLines.{all_asked, all_at, all_rise, all_ticks, answered, answers_of, can_all, of_lines, Askable, IsTickBelow}
+use Rattle.audit_laws.proofs.ByVersion.{alone_shown, entries_many, events_alike, histories_many, histories_twice, joined_shown, line_refusals_shown, of_lines_shown, orders_shown, refusals_shown, reports_append, reports_twice, round_lines_shown, round_shown, schedule_shown, shown_answers, shown_events, shown_histories, shown_reports, still_shown, ticks_shown, turn_shown}
+use Rattle.audit_laws.proofs.EventFacts.{taken_facts, IsTaken}
+use Rattle.audit_laws.proofs.Opening.{number_at, order_line}
 use Rattle.audit_laws.proofs.TurnTold.{turn_told_again}
-
--- ---- what stands between turns
-
--- the orders of the checkables are those that are outstanding; those that lack a macro are reported next
-pub record IsKept (s : PlainSite) (st : Stage) (opens : List (Option Open)) : Type 0 where
-  pub numbered : AreNumbered st.plans.given st.plans.outstanding
-  pub inside : (n c : ℕ) → checkable_of n st.plans.outstanding ≡ Some c → c < length s.checkables
-  pub opened : (c n : ℕ) → checkable_of n st.plans.outstanding ≡ Some c → get_or opens c None ≡ Some (record { number = n; missing = stands (orders_of st.due) n })
-  pub numbers : AreUpTo st.plans.given opens
-  pub long : length opens ≡ length s.checkables
-  pub due_taken : report_refusals st.plans.outstanding st.due ≡ []
-  pub due_rise : AreRising (orders_of st.due)
+use Rattle.audit_laws.proofs.OpensKept.{IsKept}
 
 -- two runs that a version of the log shows alike
 pub record ShowsAlike (style : Style) (st other : Stage) : Type 0 where
@@ -101,90 +79,11 @@ module _ (style : Style) (s : PlainSite) (zone : Option Tzif) (w : IsWellNamed s
   abbrev next : Stage
   next = stage_after b st (turn_read s t) l
 
-  asked : ask_commands (lines_read s t.lines) ≡ true
-  asked = commands_alone s (line_events (lines_read s t.lines)) (all_asked s w t.lines)
-
-  pub gives : GivesOrders s st.plans.given l.orders next.plans.outstanding
-  gives = turn_gives s (holds_in s zone) (command_of s) b.feed 1 (omega arith) st (turn_read s t) l is asked k.numbered
-
-  -- ---- what stands after it
-
   abbrev shown_round : Histories
   shown_round = shown_histories style l.round
 
-  abbrev reports_in : List Entry → Bool
-  reports_in es = list_any (λ e. run.is_report e.event) es
-
-  waiting : (c : ℕ) → is_waiting left c ≡ (is_waiting os c && not (reports_in (of_index c l.round)))
-  waiting c =
-      waits_still (st.due ++ reports) os c k.numbered.single
-      ∙ ap (λ a. is_waiting os c && not a) (sym (round_reports b.rules l.moment st.histories l.round 1 (line_events (lines_read s t.lines)) os (st.due ++ reports) c (omega arith) asked is.round))
-
-  waits_for : (n c : ℕ) (ps : List Outstanding) → checkable_of n ps ≡ Some c → is_waiting ps c ≡ true
-  waits_for n c [] h = absurd cc
-  waits_for n c (o ∷ ps) h = by (nat_eq o.order n) h (waits_for n c ps)
-    where
-      own : (a b : ℕ) → a ≡ b → nat_eq a b ≡ true
-      own a b e = is_eq a b e
-
-      or_true : (a b : Bool) → b ≡ true → (a || b) ≡ true
-      or_true true b e = refl
-      or_true false b e = e
-
-      by : (t : Bool) → cond t (Some o.checkable) (checkable_of n ps) ≡ Some c → (checkable_of n ps ≡ Some c → is_waiting ps c ≡ true) → (nat_eq o.checkable c || is_waiting ps c) ≡ true
-      by true h f = let e : o.checkable ≡ c = cc in ap (λ t. t || is_waiting ps c) (own o.checkable c e)
-      by false h f = or_true (nat_eq o.checkable c) (is_waiting ps c) (f h)
-
-  no_report : (n c : ℕ) → checkable_of n left ≡ Some c → reports_in (of_index c l.round) ≡ false
-  no_report n c h = by (is_waiting os c) (reports_in (of_index c l.round)) refl (sym (waiting c) ∙ waits_for n c left h)
-    where
-      by : (a t : Bool) → reports_in (of_index c l.round) ≡ t → (a && not t) ≡ true → t ≡ false
-      by a false e f = refl
-      by true true e f = absurd (true≢false (sym f))
-      by false true e f = absurd (true≢false (sym f))
-
-  abbrev cleared : List (Option Open)
-  cleared = after_entries opens (lines_from 0 shown_round)
-
   abbrev block : Block
   block = block_of os (shown_reports style st.due ++ shown_reports style reports) (shown_answers style (answers_of s t.lines)) l.moment (map order_line l.orders) shown_round
-
-  cleared_long : length cleared ≡ length s.checkables
-  cleared_long = entries_long (lines_from 0 shown_round) opens ∙ k.long
-
-  single_orders : run.AreSingle (map given l.orders)
-  single_orders = behind_single left (map given l.orders) gives.numbered.single
-
-  opened_after : (c n : ℕ) → checkable_of n next.plans.outstanding ≡ Some c → get_or (orders_after opens block) c None ≡ Some (record { number = n; missing = stands (orders_of next.due) n })
-  opened_after c n h = by (either_there left (map given l.orders) n c h)
-    where
-      by : (checkable_of n left ≡ Some c) ⊎ (checkable_of n (map given l.orders) ≡ Some c) → get_or (orders_after opens block) c None ≡ Some (record { number = n; missing = stands (orders_of next.due) n })
-      by (inl e) =
-          let none : stands (orders_of next.due) n ≡ false = none_lacks l.orders n (ahead_none left (map given l.orders) n c gives.numbered.single e) in
-          let early : checkable_of n (still st.due os) ≡ Some c = was_still reports n c (still st.due os) (ap (checkable_of n) (sym (still_append os st.due reports)) ∙ e) in
-          orders_keep l.orders cleared c (ahead_waits left (map given l.orders) n c gives.numbered.single e)
-          ∙ (entries_keep shown_round opens c (reports_in_shown style c l.round ∙ no_report n c e)
-          ∙ (k.opened c n (was_still st.due n c os early)
-          ∙ ap (λ m. Some (record { number = n; missing = m })) (not_of st.due os n c early ∙ sym none)))
-      by (inr e) = orders_open l.orders cleared n c single_orders (subst (λ m. AllByRecursion (λ (o : Ordered). o.checkable < m) l.orders) (sym cleared_long) gives.counted.inside) e
-
-  pub kept : IsKept s next (orders_after opens block)
-  kept = record {
-    numbered = gives.numbered;
-    inside = inside_after;
-    opened = opened_after;
-    numbers = numbers_after st.plans.given (lines_from 0 shown_round) l.orders opens gives.counted.numbers k.numbers;
-    long = orders_long l.orders cleared ∙ cleared_long;
-    due_taken = none_refused next.plans.outstanding next.due (due_there left l.orders) (rising_due st.plans.given l.orders gives.counted.numbers);
-    due_rise = rising_due st.plans.given l.orders gives.counted.numbers;
-  }
-    where
-      inside_after : (n c : ℕ) → checkable_of n next.plans.outstanding ≡ Some c → c < length s.checkables
-      inside_after n c h = by (either_there left (map given l.orders) n c h)
-        where
-          by : (checkable_of n left ≡ Some c) ⊎ (checkable_of n (map given l.orders) ≡ Some c) → c < length s.checkables
-          by (inl e) = k.inside n c (was_still (st.due ++ reports) n c os e)
-          by (inr e) = inside_given (length s.checkables) l.orders n c gives.counted.inside e
 
   -- ---- its block tells a turn
 
