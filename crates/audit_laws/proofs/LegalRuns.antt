@@ -45,7 +45,7 @@ module _ (style : Style) (s : PlainSite) (zone : Option Tzif) (can : CanBeRun s)
   abbrev b : Basis
   b = basis_of_site s zone
 
-  has : HasAllNames s
+  pub has : HasAllNames s
   has = record {
     checkables = can.sound.names;
     depends = can.sound.depend_names;
@@ -56,7 +56,7 @@ module _ (style : Style) (s : PlainSite) (zone : Option Tzif) (can : CanBeRun s)
     few_users = can.sound.few_users;
   }
 
-  others : AreOthers b.rules
+  pub others : AreOthers b.rules
   others = are_others s (holds_in s zone) can.sound can.free
 
   -- the blocks of these logs tell turns of which a run goes on so from another stage
@@ -125,7 +125,7 @@ module _ (style : Style) (s : PlainSite) (zone : Option Tzif) (can : CanBeRun s)
   no_order_low [] = tt
   no_order_low (c ∷ cs) = (λ p e. absurd cc, no_order_low cs)
 
-  start_kept : IsKept s (start s (no_entries s)) (no_orders s)
+  pub start_kept : IsKept s (start s (no_entries s)) (no_orders s)
   start_kept = record {
     numbered = record { single = tt; fresh = λ n h. refl };
     inside = λ n c e. absurd cc;

@@ -20,6 +20,7 @@ pub mod KindOrder
 pub mod Hearing
 pub mod EventFacts
 pub mod TurnTold
+pub mod CallersTold
 pub mod Shown
 pub mod UntoldViews
 pub mod UntoldEntries
@@ -43,6 +44,7 @@ pub mod DecidedNumbers
 pub mod EntryFits
 pub mod FittingRuns
 pub mod LegalRuns
+pub mod LegalCallers
 pub mod LegalLogs
 pub mod SmallSite
 pub mod SmallRun

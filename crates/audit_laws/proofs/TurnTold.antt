@@ -51,52 +51,52 @@ use Rattle.audit_laws.proofs.Tracking.{tracks_meet}
 
 -- ---- lists
 
-some_same : {A : Type 0} (x y : A) → Some x ≡ Some y → x ≡ y
+pub some_same : {A : Type 0} (x y : A) → Some x ≡ Some y → x ≡ y
 some_same x y e = cc
 
-all_at : {A : Type 0} (P : A → Type 0) (xs : List A) (i : ℕ) (x : A) → AllByRecursion P xs → slice_get xs i ≡ Some x → P x
+pub all_at : {A : Type 0} (P : A → Type 0) (xs : List A) (i : ℕ) (x : A) → AllByRecursion P xs → slice_get xs i ≡ Some x → P x
 all_at P [] i x h e = absurd cc
 all_at P (y ∷ xs) zero x h e = subst P (some_same y x e) h.0
 all_at P (y ∷ xs) (suc i) x h e = all_at P xs i x h.1 e
 
-all_from : {A : Type 0} (P : A → Type 0) (xs : List A) → ((i : ℕ) (x : A) → slice_get xs i ≡ Some x → P x) → AllByRecursion P xs
+pub all_from : {A : Type 0} (P : A → Type 0) (xs : List A) → ((i : ℕ) (x : A) → slice_get xs i ≡ Some x → P x) → AllByRecursion P xs
 all_from P [] h = tt
 all_from P (x ∷ xs) h = (h 0 x refl, all_from P xs (λ i. h (suc i)))
 
-all_both : {A : Type 0} (P : A → Type 0) (xs ys : List A) → AllByRecursion P xs → AllByRecursion P ys → AllByRecursion P (xs ++ ys)
+pub all_both : {A : Type 0} (P : A → Type 0) (xs ys : List A) → AllByRecursion P xs → AllByRecursion P ys → AllByRecursion P (xs ++ ys)
 all_both P [] ys h g = g
 all_both P (x ∷ xs) ys h g = (h.0, all_both P xs ys h.1 g)
 
-all_mapped : {A B : Type 0} (f : A → B) (P : B → Type 0) (xs : List A) → AllByRecursion (λ a. P (f a)) xs → AllByRecursion P (map f xs)
+pub all_mapped : {A B : Type 0} (f : A → B) (P : B → Type 0) (xs : List A) → AllByRecursion (λ a. P (f a)) xs → AllByRecursion P (map f xs)
 all_mapped f P [] h = tt
 all_mapped f P (x ∷ xs) h = (h.0, all_mapped f P xs h.1)
 
-abbrev taken_event : Taken → Asked
+abbrev pub taken_event : Taken → Asked
 taken_event t = t.asked
 
 -- ---- kinds along lists
 
-fall_both : (kind : Asked → ℕ) (q : ℕ) (xs ys : List Asked) → NeverFall kind xs → NeverFall kind ys → AllByRecursion (λ a. kind a ≤ q) xs → AllByRecursion (λ a. q ≤ kind a) ys → NeverFall kind (xs ++ ys)
+pub fall_both : (kind : Asked → ℕ) (q : ℕ) (xs ys : List Asked) → NeverFall kind xs → NeverFall kind ys → AllByRecursion (λ a. kind a ≤ q) xs → AllByRecursion (λ a. q ≤ kind a) ys → NeverFall kind (xs ++ ys)
 fall_both kind q [] ys h g low high = g
 fall_both kind q (x ∷ xs) ys h g low high =
     (all_both (λ b. kind x ≤ kind b) xs ys h.0 (let le = low.0 in all_imply (λ b. q ≤ kind b) (λ b. kind x ≤ kind b) (λ b m. omega (arith, le, m)) ys high), fall_both kind q xs ys h.1 g low.1 high)
 
-fall_same : (kind : Asked → ℕ) (q : ℕ) (xs : List Asked) → AllByRecursion (λ a. kind a ≡ q) xs → NeverFall kind xs
+pub fall_same : (kind : Asked → ℕ) (q : ℕ) (xs : List Asked) → AllByRecursion (λ a. kind a ≡ q) xs → NeverFall kind xs
 fall_same kind q [] h = tt
 fall_same kind q (x ∷ xs) h = let e = h.0 in (all_imply (λ b. kind b ≡ q) (λ b. kind x ≤ kind b) (λ b f. omega (arith, e, f)) xs h.1, fall_same kind q xs h.1)
 
-fall_rise : (kind : Asked → ℕ) (xs : List Asked) → AllRise kind xs → NeverFall kind xs
+pub fall_rise : (kind : Asked → ℕ) (xs : List Asked) → AllRise kind xs → NeverFall kind xs
 fall_rise kind [] h = tt
 fall_rise kind (x ∷ xs) h = (all_imply (λ b. kind x < kind b) (λ b. kind x ≤ kind b) (λ b lt. omega (arith, lt)) xs h.0, fall_rise kind xs h.1)
 
-fall_at : (kind : Asked → ℕ) (xs : List Asked) (i j : ℕ) (a b : Asked) → NeverFall kind xs → i ≤ j → slice_get xs i ≡ Some a → slice_get xs j ≡ Some b → kind a ≤ kind b
+pub fall_at : (kind : Asked → ℕ) (xs : List Asked) (i j : ℕ) (a b : Asked) → NeverFall kind xs → i ≤ j → slice_get xs i ≡ Some a → slice_get xs j ≡ Some b → kind a ≤ kind b
 fall_at kind [] i j a b h le p q = absurd cc
 fall_at kind (x ∷ xs) zero zero a b h le p q = let e : a ≡ b = cc in let f = ap kind e in omega (arith, f)
 fall_at kind (x ∷ xs) zero (suc j) a b h le p q = let e : x ≡ a = cc in let f = ap kind e in let m = all_at (λ z. kind x ≤ kind z) xs j b h.0 q in omega (arith, f, m)
 fall_at kind (x ∷ xs) (suc i) zero a b h le p q = absurd (omega (arith, le))
 fall_at kind (x ∷ xs) (suc i) (suc j) a b h le p q = fall_at kind xs i j a b h.1 (omega (arith, le)) p q
 
-rise_taken : (kind : Asked → ℕ) (ts : List Taken) → AllByRecursion (λ t. kind t.asked ≡ 1 + t.order) ts → AreRising (orders_taken ts) → AllRise kind (map taken_event ts)
+pub rise_taken : (kind : Asked → ℕ) (ts : List Taken) → AllByRecursion (λ t. kind t.asked ≡ 1 + t.order) ts → AreRising (orders_taken ts) → AllRise kind (map taken_event ts)
 rise_taken kind [] h r = tt
 rise_taken kind (t ∷ ts) h r = (first ts h.1 r.0, rise_taken kind ts h.1 r.1)
   where
@@ -104,7 +104,7 @@ rise_taken kind (t ∷ ts) h r = (first ts h.1 r.0, rise_taken kind ts h.1 r.1)
     first [] g q = tt
     first (u ∷ us) g q = let e = h.0 in let f = g.0 in let lt = q.0 in (omega (arith, e, f, lt), first us g.1 q.1)
 
-rise_ticks : (kind : Asked → ℕ) (n : ℕ) (as' : List Asked) → AllByRecursion (λ a. kind a ≡ n + a.checkable) as' → AllRise (λ a. a.checkable) as' → AllRise kind as'
+pub rise_ticks : (kind : Asked → ℕ) (n : ℕ) (as' : List Asked) → AllByRecursion (λ a. kind a ≡ n + a.checkable) as' → AllRise (λ a. a.checkable) as' → AllRise kind as'
 rise_ticks kind n [] h r = tt
 rise_ticks kind n (a ∷ as') h r = (first as' h.1 r.0, rise_ticks kind n as' h.1 r.1)
   where
@@ -114,10 +114,10 @@ rise_ticks kind n (a ∷ as') h r = (first as' h.1 r.0, rise_ticks kind n as' h.
 
 -- ---- the same on each checkable is the same in another order
 
-abbrev place : Asked → ℕ
+abbrev pub place : Asked → ℕ
 place a = a.checkable
 
-part_is : (k : ℕ) (xs : List Asked) → part place k xs ≡ map (λ e. record { checkable = k; event = e }) (events_on k xs)
+pub part_is : (k : ℕ) (xs : List Asked) → part place k xs ≡ map (λ e. record { checkable = k; event = e }) (events_on k xs)
 part_is k [] = refl
 part_is k (x ∷ xs) = by (nat_eq x.checkable k) refl (part_is k xs)
   where
@@ -125,22 +125,22 @@ part_is k (x ∷ xs) = by (nat_eq x.checkable k) refl (part_is k xs)
     by true e ih = ap (λ c. record { checkable = c; event = x.event } ∷ part place k xs) (eqb-true x.checkable k e) ∙ ap (λ zs. record { checkable = k; event = x.event } ∷ zs) ih
     by false e ih = ih
 
-parts_same : (n k : ℕ) (xs ys : List Asked) → AreSameOnEach xs ys → parts place k n xs ≡ parts place k n ys
+pub parts_same : (n k : ℕ) (xs ys : List Asked) → AreSameOnEach xs ys → parts place k n xs ≡ parts place k n ys
 parts_same zero k xs ys h = refl
 parts_same (suc n) k xs ys h =
     ap (λ zs. zs ++ parts place (suc k) n xs) (part_is k xs ∙ (ap (map (λ e. record { checkable = k; event = e })) (h k) ∙ sym (part_is k ys)))
     ∙ ap (λ zs. part place k ys ++ zs) (parts_same n (suc k) xs ys h)
 
-abbrev sum_places : List Asked → ℕ
+abbrev pub sum_places : List Asked → ℕ
 sum_places [] = 0
 sum_places (a ∷ as') = a.checkable + sum_places as'
 
-below_sum : (xs : List Asked) (i : ℕ) (a : Asked) → slice_get xs i ≡ Some a → a.checkable ≤ sum_places xs
+pub below_sum : (xs : List Asked) (i : ℕ) (a : Asked) → slice_get xs i ≡ Some a → a.checkable ≤ sum_places xs
 below_sum [] i a h = absurd cc
 below_sum (x ∷ xs) zero a h = let e : x.checkable ≡ a.checkable = ap place (some_same x a h) in omega (arith, e)
 below_sum (x ∷ xs) (suc i) a h = let m = below_sum xs i a h in omega (arith, m)
 
-same_permuted : (xs ys : List Asked) → AreSameOnEach xs ys → IsPermutation xs ys
+pub same_permuted : (xs ys : List Asked) → AreSameOnEach xs ys → IsPermutation xs ys
 same_permuted xs ys h =
     let n = suc (sum_places xs + sum_places ys) in
     let p = in_parts place n 0 xs (λ i a at. let m = below_sum xs i a at in (omega arith, omega (arith, m))) in
@@ -150,43 +150,43 @@ same_permuted xs ys h =
 -- ---- a turn
 
 module _ (s : PlainSite) (w : IsWellNamed s) (opens : List (Option Open)) (os : List Outstanding) (due reports : List Reported) (answers : List Answer) (ticks : List Asked) (moment : ℕ) (orders : List OrderLine) (r : Rules) (before round : Histories) (t : IsTellable s opens os due answers ticks) where
-  abbrev left : List Outstanding
+  abbrev pub left : List Outstanding
   left = still due os
 
-  abbrev kind : Asked → ℕ
+  abbrev pub kind : Asked → ℕ
   kind a = kind_asked opens a
 
-  abbrev L : List Asked
+  abbrev pub L : List Asked
   L = line_events (map as_line answers)
 
-  abbrev D : List Asked
+  abbrev pub D : List Asked
   D = map taken_event (taken_reports os due)
 
-  abbrev R : List Asked
+  abbrev pub R : List Asked
   R = map taken_event (taken_reports left reports)
 
-  abbrev whole : List Asked
+  abbrev pub whole : List Asked
   whole = L ++ (D ++ (R ++ ticks))
 
-  abbrev events : List Asked
+  abbrev pub events : List Asked
   events = events_of_turn os (due ++ reports) (map as_line answers) ticks
 
-  whole_is : events ≡ whole
+  pub whole_is : events ≡ whole
   whole_is =
       ap (λ zs. L ++ (zs ++ ticks)) (ap (map taken_event) (taken_append os due reports) ∙ map-append taken_event (taken_reports os due) (taken_reports left reports))
       ∙ ap (λ zs. L ++ zs) (append_assoc D R ticks)
 
-  abbrev Askable : Asked → Type 0
+  abbrev pub Askable : Asked → Type 0
   Askable a = CanBeAsked s a.checkable a.event
 
-  abbrev IsTick : Asked → Type 0
+  abbrev pub IsTick : Asked → Type 0
   IsTick a = (a.event ≡ event.Tick) × (a.checkable < 2 ^ 32)
 
-  abbrev IsLacking : Asked → Type 0
+  abbrev pub IsLacking : Asked → Type 0
   IsLacking a = (1 ≤ kind a) × (kind a < 2 ^ 64 + 1)
 
   -- what each is
-  of_due : (u : Taken) → IsTaken os due u → IsResultOf s opens os left true u
+  pub of_due : (u : Taken) → IsTaken os due u → IsResultOf s opens os left true u
   of_due u h = record {
     opened = t.opened u.asked.checkable u.order h.there ∙ ap (λ m. Some (record { number = u.order; missing = m })) h.reported;
     status = h.status;
@@ -195,10 +195,10 @@ module _ (s : PlainSite) (w : IsWellNamed s) (opens : List (Option Open)) (os : 
     left_is = λ e. absurd (true≢false e);
   }
 
-  due_are : AllByRecursion (IsResultOf s opens os left true) (taken_reports os due)
+  pub due_are : AllByRecursion (IsResultOf s opens os left true) (taken_reports os due)
   due_are = all_imply (IsTaken os due) (IsResultOf s opens os left true) of_due (taken_reports os due) (taken_facts os due)
 
-  of_report : (u : Taken) → IsTaken left reports u → IsResultOf s opens os left false u
+  pub of_report : (u : Taken) → IsTaken left reports u → IsResultOf s opens os left false u
   of_report u h = record {
     opened = t.opened u.asked.checkable u.order (was_still due u.order u.asked.checkable os h.there) ∙ ap (λ m. Some (record { number = u.order; missing = m })) (not_of due os u.order u.asked.checkable h.there);
     status = h.status;
@@ -207,14 +207,14 @@ module _ (s : PlainSite) (w : IsWellNamed s) (opens : List (Option Open)) (os : 
     left_is = λ e. h.there;
   }
 
-  reports_are : AllByRecursion (IsResultOf s opens os left false) (taken_reports left reports)
+  pub reports_are : AllByRecursion (IsResultOf s opens os left false) (taken_reports left reports)
   reports_are = all_imply (IsTaken left reports) (IsResultOf s opens os left false) of_report (taken_reports left reports) (taken_facts left reports)
 
   -- each says something
-  abbrev Sayable : Asked → Type 0
+  abbrev pub Sayable : Asked → Type 0
   Sayable a = IsSayable s opens os left a
 
-  all_sayable : AllByRecursion Sayable whole
+  pub all_sayable : AllByRecursion Sayable whole
   all_sayable =
       all_both Sayable L (D ++ (R ++ ticks)) (all_imply Askable Sayable (line_sayable s opens os left w) L t.asked)
       (all_both Sayable D (R ++ ticks) (all_mapped taken_event Sayable (taken_reports os due) (all_imply (IsResultOf s opens os left true) (λ u. Sayable (taken_event u)) (λ u h. result_sayable s opens os left true u (t.fit u.asked.checkable (record { number = u.order; missing = true }) h.opened) h) (taken_reports os due) due_are))
@@ -222,33 +222,33 @@ module _ (s : PlainSite) (w : IsWellNamed s) (opens : List (Option Open)) (os : 
       (all_imply IsTick Sayable (λ a h. tick_sayable s opens os left a h.0) ticks t.are_ticks)))
 
   -- kinds
-  line_kinds : AllByRecursion (λ a. kind a ≡ 0) L
+  pub line_kinds : AllByRecursion (λ a. kind a ≡ 0) L
   line_kinds = all_imply Askable (λ a. kind a ≡ 0) (λ a can. (command_is (get_or opens a.checkable None) a.checkable can.check.host a.event can.range).0) L t.asked
 
-  due_taken_kinds : AllByRecursion (λ u. kind u.asked ≡ 1 + u.order) (taken_reports os due)
+  pub due_taken_kinds : AllByRecursion (λ u. kind u.asked ≡ 1 + u.order) (taken_reports os due)
   due_taken_kinds = all_imply (IsResultOf s opens os left true) (λ u. kind u.asked ≡ 1 + u.order) (λ u h. result_kind_is s opens os left true u h) (taken_reports os due) due_are
 
-  due_kinds : AllByRecursion (λ a. (1 ≤ kind a) × (kind a < 2 ^ 64 + 1)) D
+  pub due_kinds : AllByRecursion (λ a. (1 ≤ kind a) × (kind a < 2 ^ 64 + 1)) D
   due_kinds =
       all_mapped taken_event (λ a. (1 ≤ kind a) × (kind a < 2 ^ 64 + 1)) (taken_reports os due)
       (all_imply (IsResultOf s opens os left true) (λ u. (1 ≤ kind u.asked) × (kind u.asked < 2 ^ 64 + 1))
       (λ u h. let e = result_kind_is s opens os left true u h in let lt = t.fit u.asked.checkable (record { number = u.order; missing = true }) h.opened in (omega (arith, e), omega (arith, e, lt))) (taken_reports os due) due_are)
 
-  report_kinds : AllByRecursion (λ a. kind a ≡ 2 ^ 64 + 1) R
+  pub report_kinds : AllByRecursion (λ a. kind a ≡ 2 ^ 64 + 1) R
   report_kinds =
       all_mapped taken_event (λ a. kind a ≡ 2 ^ 64 + 1) (taken_reports left reports)
       (all_imply (IsResultOf s opens os left false) (λ u. kind u.asked ≡ 2 ^ 64 + 1) (λ u h. result_kind_is s opens os left false u h) (taken_reports left reports) reports_are)
 
-  tick_kinds : AllByRecursion (λ a. kind a ≡ 2 ^ 64 + 2 + a.checkable) ticks
+  pub tick_kinds : AllByRecursion (λ a. kind a ≡ 2 ^ 64 + 2 + a.checkable) ticks
   tick_kinds = all_imply IsTick (λ a. kind a ≡ 2 ^ 64 + 2 + a.checkable) (λ a h. ap (λ e. kind_asked opens (record { checkable = a.checkable; event = e })) h.0) ticks t.are_ticks
 
-  due_rise : AllRise kind D
+  pub due_rise : AllRise kind D
   due_rise = rise_taken kind (taken_reports os due) due_taken_kinds (subst AreRising (sym (all_taken os due t.due_taken)) t.due_rise)
 
-  tick_rise : AllRise kind ticks
+  pub tick_rise : AllRise kind ticks
   tick_rise = rise_ticks kind (2 ^ 64 + 2) ticks tick_kinds t.ticks_rise
 
-  of_turn : AreOfTurn kind 1 (2 ^ 64 + 1) (2 ^ 64 + 2) L D R ticks
+  pub of_turn : AreOfTurn kind 1 (2 ^ 64 + 1) (2 ^ 64 + 2) L D R ticks
   of_turn = record {
     ordered = (omega arith, omega arith);
     are_lines = all_imply (λ a. kind a ≡ 0) (λ a. kind a < 1) (λ a e. omega (arith, e)) L line_kinds;
@@ -267,7 +267,7 @@ module _ (s : PlainSite) (w : IsWellNamed s) (opens : List (Option Open)) (os : 
         ∙ (ap (λ c. 2 ^ 64 + 2 + c) same ∙ sym (tick_kind (get_or opens b.checkable None) b.checkable b.event (t.fit b.checkable) q));
   }
 
-  whole_falls : NeverFall kind whole
+  pub whole_falls : NeverFall kind whole
   whole_falls =
       fall_both kind 0 L (D ++ (R ++ ticks)) (fall_same kind 0 L line_kinds)
       (fall_both kind (2 ^ 64) D (R ++ ticks) (fall_rise kind D due_rise)
@@ -279,7 +279,7 @@ module _ (s : PlainSite) (w : IsWellNamed s) (opens : List (Option Open)) (os : 
       (all_imply (λ a. kind a ≡ 0) (λ a. kind a ≤ 0) (λ a e. omega (arith, e)) L line_kinds)
       (all_from (λ a. 0 ≤ kind a) (D ++ (R ++ ticks)) (λ i a at. omega arith))
 
-  small_kinds : AllByRecursion (λ a. kind a < 2 ^ 66) whole
+  pub small_kinds : AllByRecursion (λ a. kind a < 2 ^ 66) whole
   small_kinds =
       all_both (λ a. kind a < 2 ^ 66) L (D ++ (R ++ ticks)) (all_imply (λ a. kind a ≡ 0) (λ a. kind a < 2 ^ 66) (λ a e. omega (arith, e)) L line_kinds)
       (all_both (λ a. kind a < 2 ^ 66) D (R ++ ticks) (all_imply IsLacking (λ a. kind a < 2 ^ 66) (λ a h. let lt = h.1 in omega (arith, lt)) D due_kinds)
@@ -288,21 +288,21 @@ module _ (s : PlainSite) (w : IsWellNamed s) (opens : List (Option Open)) (os : 
 
   -- ---- results
 
-  abbrev taken_all : List Taken
+  abbrev pub taken_all : List Taken
   taken_all = taken_reports os (due ++ reports)
 
   -- a result is one of a report that is taken
-  record IsTakenAt (i : ℕ) (a : Asked) : Type 0 where
-    k : ℕ
-    u : Taken
-    at : slice_get taken_all k ≡ Some u
-    is : u.asked ≡ a
-    there : i ≡ length L + k
+  pub record IsTakenAt (i : ℕ) (a : Asked) : Type 0 where
+    pub k : ℕ
+    pub u : Taken
+    pub at : slice_get taken_all k ≡ Some u
+    pub is : u.asked ≡ a
+    pub there : i ≡ length L + k
 
-  not_result : (e : Event) → e ≡ event.Tick → is_report e ≡ true → ⊥
+  pub not_result : (e : Event) → e ≡ event.Tick → is_report e ≡ true → ⊥
   not_result e h q = absurd (true≢false (sym q ∙ ap is_report h))
 
-  result_at : (i : ℕ) (a : Asked) → slice_get events i ≡ Some a → is_report a.event ≡ true → IsTakenAt i a
+  pub result_at : (i : ℕ) (a : Asked) → slice_get events i ≡ Some a → is_report a.event ≡ true → IsTakenAt i a
   result_at i a at q = by (cases_lt i (length L))
     where
       results : List Asked
@@ -327,11 +327,11 @@ module _ (s : PlainSite) (w : IsWellNamed s) (opens : List (Option Open)) (os : 
           let split : i ≡ length L + n = omega (arith, le) in
           behind_lines n split (sym (get_behind L (results ++ ticks) n) ∙ (ap (slice_get (L ++ (results ++ ticks))) (sym split) ∙ at)) (cases_lt n (length results))
 
-  order_of : (a b : Open) → Some a ≡ Some b → a.number ≡ b.number
+  pub order_of : (a b : Open) → Some a ≡ Some b → a.number ≡ b.number
   order_of a b e = ap (λ (o : Open). o.number) (some_same a b e)
 
   -- two results of one checkable are one
-  one_result : (i j : ℕ) (a b : Asked) → slice_get events i ≡ Some a → slice_get events j ≡ Some b → is_report a.event ≡ true → is_report b.event ≡ true → a.checkable ≡ b.checkable → i ≡ j
+  pub one_result : (i j : ℕ) (a b : Asked) → slice_get events i ≡ Some a → slice_get events j ≡ Some b → is_report a.event ≡ true → is_report b.event ≡ true → a.checkable ≡ b.checkable → i ≡ j
   one_result i j a b p q f g same = by (cases_lt x.k y.k) (cases_lt y.k x.k)
     where
       x : IsTakenAt i a
@@ -363,6 +363,176 @@ module _ (s : PlainSite) (w : IsWellNamed s) (opens : List (Option Open)) (os : 
       by (inr le) (inl lt) = let two = twice (orders_taken taken_all) y.u.order y.k x.k (order_at y.k y.u y.at) (order_at x.k x.u x.at ∙ ap Some one_order) lt in let one = once_taken os (due ++ reports) y.u.order in absurd (omega (arith, two, one))
       by (inr le) (inr ge) = let a = x.there in let b = y.there in omega (arith, a, b, le, ge)
 
+  -- ---- what entries say
+
+  pub record AreSaid (xs : List EntryLine) : Type 0 where
+    pub list : List Said
+    pub say : AllSay (full_names s) opens xs list
+    pub many : length list ≡ length xs
+
+  pub said_all : (xs : List EntryLine) → AllByRecursion (λ x. Sayable (asked_in x)) xs → AreSaid xs
+  said_all [] g = record { list = []; say = tt; many = refl }
+  said_all (x ∷ xs) g = let m = said_all xs g.1 in record { list = g.0.word ∷ m.list; say = (g.0.is, m.say); many = ap suc m.many }
+
+  pub say_at : (xs : List EntryLine) (ss : List Said) (k : ℕ) (x : EntryLine) (z : Said) → AllSay (full_names s) opens xs ss → slice_get xs k ≡ Some x → slice_get ss k ≡ Some z → says s opens os left (asked_in x) ≡ Some z
+  say_at [] ss k x z g at is = absurd cc
+  say_at (y ∷ xs) [] k x z g at is = absurd g
+  say_at (y ∷ xs) (v ∷ ss) zero x z g at is = sym (ap (λ (q : EntryLine). says s opens os left (asked_in q)) (some_same y x at)) ∙ (g.0 ∙ is)
+  say_at (y ∷ xs) (v ∷ ss) (suc k) x z g at is = say_at xs ss k x z g.1 at is
+
+  pub one_from : (xs : List EntryLine) → ((k u : ℕ) (x y : EntryLine) → k < u → slice_get xs k ≡ Some x → slice_get xs u ≡ Some y → is_report x.entry.event ≡ true → is_report y.entry.event ≡ true → x.checkable ≡ y.checkable → ⊥) → HaveOneResult xs
+  one_from [] g = tt
+  one_from (x ∷ xs) g = (all_from (λ y. is_report x.entry.event ≡ true → is_report y.entry.event ≡ true → x.checkable ≡ y.checkable → ⊥) xs (λ u y at p q e. g 0 (suc u) x y (omega arith) refl at p q e), one_from xs (λ k u x y lt. g (suc k) (suc u) x y (omega (arith, lt))))
+
+  -- ---- what is told
+
+  pub below_is : (a q : ℕ) → a < q → nat_lt a q ≡ true
+  below_is a q lt = grind (arith, nat_tests, lt)
+
+  pub above_is : (a q : ℕ) → q ≤ a → nat_lt a q ≡ false
+  above_is a q le = grind (arith, nat_tests, le)
+
+  abbrev pub among : List Asked → List Asked
+  among zs = lines_among kind 1 zs
+
+  abbrev pub reported : List Asked → List Asked
+  reported zs = reports_among kind 1 (2 ^ 64 + 1) (2 ^ 64 + 2) zs
+
+  -- of one event more
+  pub line_more : (a : Asked) (zs : List Asked) → kind a ≡ 0 → among (a ∷ zs) ≡ a ∷ among zs
+  line_more a zs e = ap (λ t. cond t (a ∷ among zs) (among zs)) (below_is (kind a) 1 (omega (arith, e)))
+
+  pub line_no_more : (a : Asked) (zs : List Asked) → 1 ≤ kind a → among (a ∷ zs) ≡ among zs
+  line_no_more a zs le = ap (λ t. cond t (a ∷ among zs) (among zs)) (above_is (kind a) 1 le)
+
+  abbrev pub above_lines : List Asked → List Asked
+  above_lines zs = filter (λ a. not (nat_lt (kind a) 1)) zs
+
+  abbrev pub above_lacking : List Asked → List Asked
+  above_lacking zs = filter (λ a. not (nat_lt (kind a) (2 ^ 64 + 1))) zs
+
+  abbrev pub below_ticks : List Asked → List Asked
+  below_ticks zs = filter (λ a. nat_lt (kind a) (2 ^ 64 + 2)) zs
+
+  pub past_lines : (a : Asked) (zs : List Asked) → 1 ≤ kind a → above_lines (a ∷ zs) ≡ a ∷ above_lines zs
+  past_lines a zs le = ap (λ t. cond (not t) (a ∷ above_lines zs) (above_lines zs)) (above_is (kind a) 1 le)
+
+  pub past_lacking : (a : Asked) (zs : List Asked) → 2 ^ 64 + 1 ≤ kind a → above_lacking (a ∷ zs) ≡ a ∷ above_lacking zs
+  past_lacking a zs le = ap (λ t. cond (not t) (a ∷ above_lacking zs) (above_lacking zs)) (above_is (kind a) (2 ^ 64 + 1) le)
+
+  pub no_line : (a : Asked) (zs : List Asked) → kind a ≡ 0 → reported (a ∷ zs) ≡ reported zs
+  no_line a zs e = ap (λ t. below_ticks (above_lacking (cond (not t) (a ∷ above_lines zs) (above_lines zs)))) (below_is (kind a) 1 (omega (arith, e)))
+
+  pub no_lacking : (a : Asked) (zs : List Asked) → 1 ≤ kind a → kind a < 2 ^ 64 + 1 → reported (a ∷ zs) ≡ reported zs
+  no_lacking a zs low high =
+      ap (λ ys. below_ticks (above_lacking ys)) (past_lines a zs low)
+      ∙ ap (λ t. below_ticks (cond (not t) (a ∷ above_lacking (above_lines zs)) (above_lacking (above_lines zs)))) (below_is (kind a) (2 ^ 64 + 1) high)
+
+  pub report_more : (a : Asked) (zs : List Asked) → kind a ≡ 2 ^ 64 + 1 → reported (a ∷ zs) ≡ a ∷ reported zs
+  report_more a zs e =
+      ap (λ ys. below_ticks (above_lacking ys)) (past_lines a zs (omega (arith, e)))
+      ∙ (ap (λ ys. below_ticks ys) (past_lacking a (above_lines zs) (omega (arith, e)))
+      ∙ ap (λ t. cond t (a ∷ reported zs) (reported zs)) (below_is (kind a) (2 ^ 64 + 2) (omega (arith, e))))
+
+  pub no_tick : (a : Asked) (zs : List Asked) → 2 ^ 64 + 2 ≤ kind a → reported (a ∷ zs) ≡ reported zs
+  no_tick a zs le =
+      ap (λ ys. below_ticks (above_lacking ys)) (past_lines a zs (omega (arith, le)))
+      ∙ (ap (λ ys. below_ticks ys) (past_lacking a (above_lines zs) (omega (arith, le)))
+      ∙ ap (λ t. cond t (a ∷ reported zs) (reported zs)) (above_is (kind a) (2 ^ 64 + 2) le))
+
+  -- what is taken of the reports
+  abbrev pub taken_as : EntryLine → Report → Taken
+  taken_as x q = record { order = q.order; asked = asked_in x }
+
+  abbrev pub with_taken : Option EntryLine → Option Said → List Taken → List Taken
+  with_taken None z us = us
+  with_taken (Some x) z us = map (taken_as x) (report_in z) ++ us
+
+  abbrev pub Opened : Taken → Type 0
+  Opened u = get_or opens u.asked.checkable None ≡ Some (record { number = u.order; missing = false })
+
+  pub record AreTold (lines : List (List ℕ)) (reps : List Reported) (us : List Taken) (zs : List Asked) : Type 0 where
+    pub ask : AskFor s lines (among zs)
+    pub as_taken : AreTakenAs left reps us
+    pub asked : map taken_event us ≡ reported zs
+    pub opened : AllByRecursion Opened us
+
+  -- one entry more
+  pub shown : (x : EntryLine) (word : Said) (ls : List (List ℕ)) (qs : List Report) (lines : List (List ℕ)) (reps : List Report) (us : List Taken) (zs : List Asked) → line_in (Some word) ≡ ls → report_in (Some word) ≡ qs
+      → AreTold (ls ++ lines) (map report_read (qs ++ reps)) (map (taken_as x) qs ++ us) zs → AreTold (line_in (Some word) ++ lines) (map report_read (report_in (Some word) ++ reps)) (with_taken (Some x) (Some word) us) zs
+  shown x word ls qs lines reps us zs e f m =
+      subst (λ a. AreTold (a ++ lines) (map report_read (report_in (Some word) ++ reps)) (map (taken_as x) (report_in (Some word)) ++ us) zs) (sym e)
+      (subst (λ b. AreTold (ls ++ lines) (map report_read (b ++ reps)) (map (taken_as x) b ++ us) zs) (sym f) m)
+
+  pub one_told : (x : EntryLine) (g : Sayable (asked_in x)) (lines : List (List ℕ)) (reps : List Report) (us : List Taken) (zs : List Asked) → AreTold lines (map report_read reps) us zs
+      → AreTold (line_in (Some g.word) ++ lines) (map report_read (report_in (Some g.word) ++ reps)) (with_taken (Some x) (Some g.word) us) (asked_in x ∷ zs)
+  one_told x g lines reps us zs m = by g.shows
+    where
+      by : IsLineWord s opens os left (asked_in x) g.word ⊎ (IsLackingWord s opens os left (asked_in x) g.word ⊎ (IsReportWord s opens os left (asked_in x) g.word ⊎ IsTickWord s opens os left (asked_in x) g.word))
+          → AreTold (line_in (Some g.word) ++ lines) (map report_read (report_in (Some g.word) ++ reps)) (with_taken (Some x) (Some g.word) us) (asked_in x ∷ zs)
+      by (inl f) =
+          shown x g.word (f.l ∷ []) [] lines reps us (asked_in x ∷ zs) f.lines f.reports
+          (record {
+            ask = subst (AskFor s (f.l ∷ lines)) (sym (line_more (asked_in x) zs f.low)) (f.asks, m.ask);
+            as_taken = m.as_taken;
+            asked = m.asked ∙ sym (no_line (asked_in x) zs f.low);
+            opened = m.opened;
+          })
+      by (inr (inl f)) =
+          shown x g.word [] [] lines reps us (asked_in x ∷ zs) f.lines f.reports
+          (record {
+            ask = subst (AskFor s lines) (sym (line_no_more (asked_in x) zs f.low)) m.ask;
+            as_taken = m.as_taken;
+            asked = m.asked ∙ sym (no_lacking (asked_in x) zs f.low f.high);
+            opened = m.opened;
+          })
+      by (inr (inr (inl f))) =
+          let e = f.is_kind in
+          shown x g.word [] (f.q ∷ []) lines reps us (asked_in x ∷ zs) f.lines f.reports
+          (record {
+            ask = subst (AskFor s lines) (sym (line_no_more (asked_in x) zs (omega (arith, e)))) m.ask;
+            as_taken = (f.there, refl, f.event, m.as_taken);
+            asked = ap (λ ys. asked_in x ∷ ys) m.asked ∙ sym (report_more (asked_in x) zs f.is_kind);
+            opened = (f.opened, m.opened);
+          })
+      by (inr (inr (inr f))) =
+          let le = f.high in
+          shown x g.word [] [] lines reps us (asked_in x ∷ zs) f.lines f.reports
+          (record {
+            ask = subst (AskFor s lines) (sym (line_no_more (asked_in x) zs (omega (arith, le)))) m.ask;
+            as_taken = m.as_taken;
+            asked = m.asked ∙ sym (no_tick (asked_in x) zs f.high);
+            opened = m.opened;
+          })
+
+  abbrev pub number_in : Option Open → ℕ
+  number_in None = 0
+  number_in (Some o) = o.number
+
+  abbrev pub number_of : Asked → ℕ
+  number_of a = number_in (get_or opens a.checkable None)
+
+  pub numbers_are : (us : List Taken) → AllByRecursion Opened us → map number_of (map taken_event us) ≡ orders_taken us
+  numbers_are [] g = refl
+  numbers_are (u ∷ us) g = ap (λ o. number_in o ∷ map number_of (map taken_event us)) g.0 ∙ ap (λ zs. u.order ∷ zs) (numbers_are us g.1)
+
+  pub as_orders : (rs : List Reported) (us : List Taken) → AreTakenAs left rs us → orders_taken us ≡ orders_of rs
+  as_orders [] [] a = refl
+  as_orders [] (u ∷ us) a = absurd a
+  as_orders (q ∷ rs) [] a = absurd a
+  as_orders (q ∷ rs) (u ∷ us) a = ap (λ n. n ∷ orders_taken us) a.1 ∙ ap (λ zs. q.order ∷ zs) (as_orders rs us a.3)
+
+  pub ask_length : (ls : List (List ℕ)) (as' : List Asked) → AskFor s ls as' → length ls ≡ length as'
+  ask_length [] [] g = refl
+  ask_length [] (a ∷ as') g = absurd g
+  ask_length (l ∷ ls) [] g = absurd g
+  ask_length (l ∷ ls) (a ∷ as') g = ap suc (ask_length ls as' g.1)
+
+  pub asked_length : (as' : List Answer) → length (line_events (map as_line as')) ≡ asking_among as'
+  asked_length [] = refl
+  asked_length (told k e ∷ as') = let m = asked_length as' in omega (arith, m)
+  asked_length (faulty f ∷ as') = asked_length as'
+
   -- ---- entries
 
   module _ (h : IsRound r moment before (events ∷ []) round) (room : HaveRoom (length (events ∷ [])) (behind before round) (length round)) (others : AreOthers r) where
@@ -393,26 +563,11 @@ module _ (s : PlainSite) (w : IsWellNamed s) (opens : List (Option Open)) (os : 
     sayable : (k : ℕ) (x : EntryLine) → slice_get E k ≡ Some x → Sayable (asked_in x)
     sayable k x at = let f = found k x at in all_at Sayable whole f.0 (asked_in x) all_sayable (own_whole k x f.0 at f.1.asked)
 
-    record AreSaid (xs : List EntryLine) : Type 0 where
-      list : List Said
-      say : AllSay (full_names s) opens xs list
-      many : length list ≡ length xs
-
-    said_all : (xs : List EntryLine) → AllByRecursion (λ x. Sayable (asked_in x)) xs → AreSaid xs
-    said_all [] g = record { list = []; say = tt; many = refl }
-    said_all (x ∷ xs) g = let m = said_all xs g.1 in record { list = g.0.word ∷ m.list; say = (g.0.is, m.say); many = ap suc m.many }
-
     all : AreSaid E
     all = said_all E (all_from (λ x. Sayable (asked_in x)) E sayable)
 
     abbrev words : List Said
     words = all.list
-
-    say_at : (xs : List EntryLine) (ss : List Said) (k : ℕ) (x : EntryLine) (z : Said) → AllSay (full_names s) opens xs ss → slice_get xs k ≡ Some x → slice_get ss k ≡ Some z → says s opens os left (asked_in x) ≡ Some z
-    say_at [] ss k x z g at is = absurd cc
-    say_at (y ∷ xs) [] k x z g at is = absurd g
-    say_at (y ∷ xs) (v ∷ ss) zero x z g at is = sym (ap (λ (q : EntryLine). says s opens os left (asked_in q)) (some_same y x at)) ∙ (g.0 ∙ is)
-    say_at (y ∷ xs) (v ∷ ss) (suc k) x z g at is = say_at xs ss k x z g.1 at is
 
     word_at : (k : ℕ) (x : EntryLine) (z : Said) → slice_get E k ≡ Some x → slice_get words k ≡ Some z → says s opens os left (asked_in x) ≡ Some z
     word_at k x z at is = say_at E words k x z all.say at is
@@ -432,10 +587,6 @@ module _ (s : PlainSite) (w : IsWellNamed s) (opens : List (Option Open)) (os : 
           let m = fall_at kind whole i j (asked_in x) (asked_in y) whole_falls le (own_whole k x i p.at p.asked) (own_whole u y j q.at q.asked) in
           omega (arith, e, f, m);
     }
-
-    one_from : (xs : List EntryLine) → ((k u : ℕ) (x y : EntryLine) → k < u → slice_get xs k ≡ Some x → slice_get xs u ≡ Some y → is_report x.entry.event ≡ true → is_report y.entry.event ≡ true → x.checkable ≡ y.checkable → ⊥) → HaveOneResult xs
-    one_from [] g = tt
-    one_from (x ∷ xs) g = (all_from (λ y. is_report x.entry.event ≡ true → is_report y.entry.event ≡ true → x.checkable ≡ y.checkable → ⊥) xs (λ u y at p q e. g 0 (suc u) x y (omega arith) refl at p q e), one_from xs (λ k u x y lt. g (suc k) (suc u) x y (omega (arith, lt))))
 
     one_each : HaveOneResult E
     one_each = one_from E (λ k u x y lt p q f g same.
@@ -528,128 +679,9 @@ module _ (s : PlainSite) (w : IsWellNamed s) (opens : List (Option Open)) (os : 
 
     -- ---- what is told in this order
 
-    below_is : (a q : ℕ) → a < q → nat_lt a q ≡ true
-    below_is a q lt = grind (arith, nat_tests, lt)
-
-    above_is : (a q : ℕ) → q ≤ a → nat_lt a q ≡ false
-    above_is a q le = grind (arith, nat_tests, le)
-
-    abbrev among : List Asked → List Asked
-    among zs = lines_among kind 1 zs
-
-    abbrev reported : List Asked → List Asked
-    reported zs = reports_among kind 1 (2 ^ 64 + 1) (2 ^ 64 + 2) zs
-
-    -- of one event more
-    line_more : (a : Asked) (zs : List Asked) → kind a ≡ 0 → among (a ∷ zs) ≡ a ∷ among zs
-    line_more a zs e = ap (λ t. cond t (a ∷ among zs) (among zs)) (below_is (kind a) 1 (omega (arith, e)))
-
-    line_no_more : (a : Asked) (zs : List Asked) → 1 ≤ kind a → among (a ∷ zs) ≡ among zs
-    line_no_more a zs le = ap (λ t. cond t (a ∷ among zs) (among zs)) (above_is (kind a) 1 le)
-
-    abbrev above_lines : List Asked → List Asked
-    above_lines zs = filter (λ a. not (nat_lt (kind a) 1)) zs
-
-    abbrev above_lacking : List Asked → List Asked
-    above_lacking zs = filter (λ a. not (nat_lt (kind a) (2 ^ 64 + 1))) zs
-
-    abbrev below_ticks : List Asked → List Asked
-    below_ticks zs = filter (λ a. nat_lt (kind a) (2 ^ 64 + 2)) zs
-
-    past_lines : (a : Asked) (zs : List Asked) → 1 ≤ kind a → above_lines (a ∷ zs) ≡ a ∷ above_lines zs
-    past_lines a zs le = ap (λ t. cond (not t) (a ∷ above_lines zs) (above_lines zs)) (above_is (kind a) 1 le)
-
-    past_lacking : (a : Asked) (zs : List Asked) → 2 ^ 64 + 1 ≤ kind a → above_lacking (a ∷ zs) ≡ a ∷ above_lacking zs
-    past_lacking a zs le = ap (λ t. cond (not t) (a ∷ above_lacking zs) (above_lacking zs)) (above_is (kind a) (2 ^ 64 + 1) le)
-
-    no_line : (a : Asked) (zs : List Asked) → kind a ≡ 0 → reported (a ∷ zs) ≡ reported zs
-    no_line a zs e = ap (λ t. below_ticks (above_lacking (cond (not t) (a ∷ above_lines zs) (above_lines zs)))) (below_is (kind a) 1 (omega (arith, e)))
-
-    no_lacking : (a : Asked) (zs : List Asked) → 1 ≤ kind a → kind a < 2 ^ 64 + 1 → reported (a ∷ zs) ≡ reported zs
-    no_lacking a zs low high =
-        ap (λ ys. below_ticks (above_lacking ys)) (past_lines a zs low)
-        ∙ ap (λ t. below_ticks (cond (not t) (a ∷ above_lacking (above_lines zs)) (above_lacking (above_lines zs)))) (below_is (kind a) (2 ^ 64 + 1) high)
-
-    report_more : (a : Asked) (zs : List Asked) → kind a ≡ 2 ^ 64 + 1 → reported (a ∷ zs) ≡ a ∷ reported zs
-    report_more a zs e =
-        ap (λ ys. below_ticks (above_lacking ys)) (past_lines a zs (omega (arith, e)))
-        ∙ (ap (λ ys. below_ticks ys) (past_lacking a (above_lines zs) (omega (arith, e)))
-        ∙ ap (λ t. cond t (a ∷ reported zs) (reported zs)) (below_is (kind a) (2 ^ 64 + 2) (omega (arith, e))))
-
-    no_tick : (a : Asked) (zs : List Asked) → 2 ^ 64 + 2 ≤ kind a → reported (a ∷ zs) ≡ reported zs
-    no_tick a zs le =
-        ap (λ ys. below_ticks (above_lacking ys)) (past_lines a zs (omega (arith, le)))
-        ∙ (ap (λ ys. below_ticks ys) (past_lacking a (above_lines zs) (omega (arith, le)))
-        ∙ ap (λ t. cond t (a ∷ reported zs) (reported zs)) (above_is (kind a) (2 ^ 64 + 2) le))
-
-    -- what is taken of the reports
-    abbrev taken_as : EntryLine → Report → Taken
-    taken_as x q = record { order = q.order; asked = asked_in x }
-
-    abbrev with_taken : Option EntryLine → Option Said → List Taken → List Taken
-    with_taken None z us = us
-    with_taken (Some x) z us = map (taken_as x) (report_in z) ++ us
-
     abbrev takens_at : List ℕ → List Taken
     takens_at [] = []
     takens_at (k ∷ ks) = with_taken (slice_get E k) (slice_get words k) (takens_at ks)
-
-    abbrev Opened : Taken → Type 0
-    Opened u = get_or opens u.asked.checkable None ≡ Some (record { number = u.order; missing = false })
-
-    record AreTold (lines : List (List ℕ)) (reps : List Reported) (us : List Taken) (zs : List Asked) : Type 0 where
-      ask : AskFor s lines (among zs)
-      as_taken : AreTakenAs left reps us
-      asked : map taken_event us ≡ reported zs
-      opened : AllByRecursion Opened us
-
-    -- one entry more
-    shown : (x : EntryLine) (word : Said) (ls : List (List ℕ)) (qs : List Report) (lines : List (List ℕ)) (reps : List Report) (us : List Taken) (zs : List Asked) → line_in (Some word) ≡ ls → report_in (Some word) ≡ qs
-        → AreTold (ls ++ lines) (map report_read (qs ++ reps)) (map (taken_as x) qs ++ us) zs → AreTold (line_in (Some word) ++ lines) (map report_read (report_in (Some word) ++ reps)) (with_taken (Some x) (Some word) us) zs
-    shown x word ls qs lines reps us zs e f m =
-        subst (λ a. AreTold (a ++ lines) (map report_read (report_in (Some word) ++ reps)) (map (taken_as x) (report_in (Some word)) ++ us) zs) (sym e)
-        (subst (λ b. AreTold (ls ++ lines) (map report_read (b ++ reps)) (map (taken_as x) b ++ us) zs) (sym f) m)
-
-    one_told : (x : EntryLine) (g : Sayable (asked_in x)) (lines : List (List ℕ)) (reps : List Report) (us : List Taken) (zs : List Asked) → AreTold lines (map report_read reps) us zs
-        → AreTold (line_in (Some g.word) ++ lines) (map report_read (report_in (Some g.word) ++ reps)) (with_taken (Some x) (Some g.word) us) (asked_in x ∷ zs)
-    one_told x g lines reps us zs m = by g.shows
-      where
-        by : IsLineWord s opens os left (asked_in x) g.word ⊎ (IsLackingWord s opens os left (asked_in x) g.word ⊎ (IsReportWord s opens os left (asked_in x) g.word ⊎ IsTickWord s opens os left (asked_in x) g.word))
-            → AreTold (line_in (Some g.word) ++ lines) (map report_read (report_in (Some g.word) ++ reps)) (with_taken (Some x) (Some g.word) us) (asked_in x ∷ zs)
-        by (inl f) =
-            shown x g.word (f.l ∷ []) [] lines reps us (asked_in x ∷ zs) f.lines f.reports
-            (record {
-              ask = subst (AskFor s (f.l ∷ lines)) (sym (line_more (asked_in x) zs f.low)) (f.asks, m.ask);
-              as_taken = m.as_taken;
-              asked = m.asked ∙ sym (no_line (asked_in x) zs f.low);
-              opened = m.opened;
-            })
-        by (inr (inl f)) =
-            shown x g.word [] [] lines reps us (asked_in x ∷ zs) f.lines f.reports
-            (record {
-              ask = subst (AskFor s lines) (sym (line_no_more (asked_in x) zs f.low)) m.ask;
-              as_taken = m.as_taken;
-              asked = m.asked ∙ sym (no_lacking (asked_in x) zs f.low f.high);
-              opened = m.opened;
-            })
-        by (inr (inr (inl f))) =
-            let e = f.is_kind in
-            shown x g.word [] (f.q ∷ []) lines reps us (asked_in x ∷ zs) f.lines f.reports
-            (record {
-              ask = subst (AskFor s lines) (sym (line_no_more (asked_in x) zs (omega (arith, e)))) m.ask;
-              as_taken = (f.there, refl, f.event, m.as_taken);
-              asked = ap (λ ys. asked_in x ∷ ys) m.asked ∙ sym (report_more (asked_in x) zs f.is_kind);
-              opened = (f.opened, m.opened);
-            })
-        by (inr (inr (inr f))) =
-            let le = f.high in
-            shown x g.word [] [] lines reps us (asked_in x ∷ zs) f.lines f.reports
-            (record {
-              ask = subst (AskFor s lines) (sym (line_no_more (asked_in x) zs (omega (arith, le)))) m.ask;
-              as_taken = m.as_taken;
-              asked = m.asked ∙ sym (no_tick (asked_in x) zs f.high);
-              opened = m.opened;
-            })
 
     told_in : (ks : List ℕ) → ((i k : ℕ) → slice_get ks i ≡ Some k → k < length E) → AreTold (lines_at words ks) (map report_read (reports_at words ks)) (takens_at ks) (events_by E 0 ks)
     told_in [] g = record { ask = tt; as_taken = tt; asked = refl; opened = tt }
@@ -672,23 +704,6 @@ module _ (s : PlainSite) (w : IsWellNamed s) (opens : List (Option Open)) (os : 
 
     -- ---- the reports
 
-    abbrev number_in : Option Open → ℕ
-    number_in None = 0
-    number_in (Some o) = o.number
-
-    abbrev number_of : Asked → ℕ
-    number_of a = number_in (get_or opens a.checkable None)
-
-    numbers_are : (us : List Taken) → AllByRecursion Opened us → map number_of (map taken_event us) ≡ orders_taken us
-    numbers_are [] g = refl
-    numbers_are (u ∷ us) g = ap (λ o. number_in o ∷ map number_of (map taken_event us)) g.0 ∙ ap (λ zs. u.order ∷ zs) (numbers_are us g.1)
-
-    as_orders : (rs : List Reported) (us : List Taken) → AreTakenAs left rs us → orders_taken us ≡ orders_of rs
-    as_orders [] [] a = refl
-    as_orders [] (u ∷ us) a = absurd a
-    as_orders (q ∷ rs) [] a = absurd a
-    as_orders (q ∷ rs) (u ∷ us) a = ap (λ n. n ∷ orders_taken us) a.1 ∙ ap (λ zs. q.order ∷ zs) (as_orders rs us a.3)
-
     abbrev told_reports : List Reported
     told_reports = map report_read (reports_at words order)
 
@@ -703,17 +718,6 @@ module _ (s : PlainSite) (w : IsWellNamed s) (opens : List (Option Open)) (os : 
     reported_again = rereported left reports told_reports (takens_at order) told_all.as_taken orders_same
 
     -- ---- the lines
-
-    ask_length : (ls : List (List ℕ)) (as' : List Asked) → AskFor s ls as' → length ls ≡ length as'
-    ask_length [] [] g = refl
-    ask_length [] (a ∷ as') g = absurd g
-    ask_length (l ∷ ls) [] g = absurd g
-    ask_length (l ∷ ls) (a ∷ as') g = ap suc (ask_length ls as' g.1)
-
-    asked_length : (as' : List Answer) → length (line_events (map as_line as')) ≡ asking_among as'
-    asked_length [] = refl
-    asked_length (told k e ∷ as') = let m = asked_length as' in omega (arith, m)
-    asked_length (faulty f ∷ as') = asked_length as'
 
     refill : AreRefilled s answers (lines_at words order) (among ev)
     refill =

@@ -7,7 +7,8 @@ use Rattle.site_model.specs.declared.event.Event.TheVariants as event
 use Rattle.event_text.specs.Lines.{Answer}
 use Rattle.run_meaning.specs.Acts.{Rules}
 use Rattle.run_meaning.specs.Alone.{alone}
-use Rattle.run_meaning.specs.Dealing.{checkable_of, line_events, line_refusals, report_refusals, still, taken_reports}
+use Rattle.run_meaning.specs.Dealing.{checkable_of, dealt, line_events, line_refusals, report_refusals, still, taken_reports}
+use Rattle.run_meaning.specs.Rounds.{IsRound}
 use Rattle.run_meaning.specs.Shares.{orders_refused}
 use Rattle.run_meaning.specs.Turns.{Asked, Histories, Line, Outstanding, Reported}
 use Rattle.run_text.specs.TurnReading.{as_line, lines_read, report_read}
@@ -63,3 +64,13 @@ pub record IsToldSo (s : PlainSite) (opens : List (Option Open)) (os : List Outs
   pub reports_refused : report_refusals os (due ++ map report_read turn.reports) ≡ report_refusals os (due ++ reports)
   pub outstanding : still (due ++ map report_read turn.reports) os ≡ still (due ++ reports) os
   pub round_is : round ≡ alone r moment before (events_of_turn os (due ++ map report_read turn.reports) (lines_read s turn.lines) ticks)
+
+-- The same of several callers: what they take of the told turn makes this round too, as one of those that it can make.
+pub record IsToldBy (callers : ℕ) (s : PlainSite) (opens : List (Option Open)) (os : List Outstanding) (due reports : List Reported) (answers : List Answer) (ticks : List Asked) (moment : ℕ) (orders : List OrderLine) (r : Rules) (before round : Histories) : Type 0 where
+  pub turn : Turn
+  pub is : turn_told callers s opens (block_of os (due ++ reports) answers moment orders round) ≡ Some turn
+  pub at : turn.moment ≡ moment
+  pub refusals : line_refusals 1 (lines_read s turn.lines) ≡ line_refusals 1 (map as_line answers)
+  pub reports_refused : report_refusals os (due ++ map report_read turn.reports) ≡ report_refusals os (due ++ reports)
+  pub outstanding : still (due ++ map report_read turn.reports) os ≡ still (due ++ reports) os
+  pub round_is : IsRound r moment before (dealt callers (line_events (lines_read s turn.lines)) (taken_reports os (due ++ map report_read turn.reports)) ticks) round

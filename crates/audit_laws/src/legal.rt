@@ -7,6 +7,7 @@ ghost use Rattle.site_model.specs.PlainSite.{PlainSite};
 ghost use Rattle.run_meaning.specs.Runs.{IsRun, TurnLog, no_entries, start};
 ghost use Rattle.run_text.specs.TurnReading.{turn_read};
 ghost use Rattle.run_text.specs.declared.style.Style.{Style};
+ghost use Rattle.run_text.specs.declared.style.Style.TheVariants.{Two};
 ghost use Rattle.turn_engine.specs.Stages.{basis_of_site};
 ghost use Rattle.site_run.specs.Logs.{Whole};
 ghost use Rattle.site_audit.specs.Audit.{IsLegal, IsVerdict};
@@ -26,4 +27,9 @@ pub fn logs_of_runs_are_legal()
 /// The logs of a run can stand in memory where its turns do and are at most 2^40, and where no checkable gets 2^64 entries.
 pub fn logs_of_runs_fit()
     ensures { (s : PlainSite) (zone : Option Tzif) → CanBeRun s → (turns : List Turn) (logs : List TurnLog) → IsRun (basis_of_site s zone) 1 (start s (no_entries s)) (map (turn_read s) turns) logs → AllByRecursion FitsTurn turns → length turns ≤ 2 ^ 40 → ((k : ℕ) → entries_in k logs < 2 ^ 64) → AllByRecursion FitsLog logs }
+{}
+
+/// In version two the log of a run of several callers is legal too.
+pub fn logs_of_callers_are_legal()
+    ensures { (s : PlainSite) (zone : Option Tzif) (callers : ℕ) → CanBeRun s → 1 ≤ callers → callers ≤ 64 → (turns : List Turn) (logs : List TurnLog) → IsRun (basis_of_site s zone) callers (start s (no_entries s)) (map (turn_read s) turns) logs → AllByRecursion FitsLog logs → IsLegal Two (basis_of_site s zone) callers s (blocks_written Two s logs) }
 {}

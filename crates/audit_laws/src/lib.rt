@@ -27,7 +27,7 @@ pub use examples::{
     a_host_with_a_service, a_run_of_the_small_site, a_turn_of_the_small_site, refused_lines,
     told_lines, told_turns,
 };
-pub use legal::{logs_of_runs_are_legal, logs_of_runs_fit};
+pub use legal::{logs_of_callers_are_legal, logs_of_runs_are_legal, logs_of_runs_fit};
 pub use lines::{lines_are_read_again, lines_are_refused_again, refusals_are_refused_again};
 pub use names::commits_name_well;
 pub use orders::{
@@ -35,7 +35,7 @@ pub use orders::{
 };
 pub use reports::{reports_are_read_again, reports_are_refused_again};
 pub use rounds::{
-    blocks_tell_their_turns, entries_are_heard, rounds_are_told, told_orders_go_by_kinds,
-    told_rounds_are_rounds,
+    blocks_tell_their_turns, blocks_tell_turns_of_callers, entries_are_heard, rounds_are_told,
+    told_orders_go_by_kinds, told_rounds_are_rounds,
 };
 pub use untold::{texts_change_nothing_else, turns_without_texts_write_the_same};

@@ -1,7 +1,8 @@
 // Laws of rounds.
-ghost use Rattle.std.specs.Prelude.{◌≡◌, ◌<◌, ◌++◌, ℕ, List, [], ◌∷◌, Option, Some, length, map};
+ghost use Rattle.std.specs.Prelude.{◌≡◌, ◌<◌, ◌≤◌, ◌++◌, ℕ, List, [], ◌∷◌, Option, Some, length, map};
 ghost use Rattle.std.specs.List.{AllByRecursion};
 ghost use Rattle.run_meaning.specs.Acts.{Rules};
+ghost use Rattle.run_meaning.specs.Dealing.{dealt, line_events, taken_reports};
 ghost use Rattle.run_meaning.specs.Rounds.{behind, IsRound};
 ghost use Rattle.run_meaning.specs.Turns.{Asked, Histories, Outstanding, Reported};
 ghost use Rattle.run_text.specs.TurnReading.{as_line};
@@ -11,7 +12,7 @@ ghost use Rattle.site_audit.specs.Tracks.{taken_in};
 ghost use Rattle.audit_laws.specs.Types.{EntryLine, Open, OrderLine, Said};
 ghost use Rattle.audit_laws.specs.Heard.{AllSay, AreHeard, HaveOneResult};
 ghost use Rattle.audit_laws.specs.Names.{IsWellNamed};
-ghost use Rattle.audit_laws.specs.ToldTurns.{events_of_turn, IsTellable, IsToldSo};
+ghost use Rattle.audit_laws.specs.ToldTurns.{events_of_turn, IsTellable, IsToldBy, IsToldSo};
 ghost use Rattle.audit_laws.specs.Retaken.{all_events, lines_from, spots_from, AreInKinds, AreOthers, GoesByKinds, HaveRoom};
 
 /// A round of whatever events is also one of the events that its entries tell, in the order in which they are taken from their spots.
@@ -41,4 +42,10 @@ pub fn entries_are_heard()
 /// outstanding after it. What the caller takes of the told turn makes the same round.
 pub fn blocks_tell_their_turns()
     ensures { (s : PlainSite) → IsWellNamed s → (opens : List (Option Open)) (os : List Outstanding) (due reports : List Reported) (answers : List Answer) (ticks : List Asked) (moment : ℕ) (orders : List OrderLine) (r : Rules) (before round : Histories) → IsTellable s opens os due answers ticks → IsRound r moment before (events_of_turn os (due ++ reports) (map as_line answers) ticks ∷ []) round → HaveRoom 1 (behind before round) (length round) → AreOthers r → IsToldSo s opens os due reports answers ticks moment orders r before round }
+{}
+
+/// The same of a turn of several callers, from 1 to 64: what they take of the told turn makes the same round too, as one of those that it
+/// can make.
+pub fn blocks_tell_turns_of_callers()
+    ensures { (callers : ℕ) → 1 ≤ callers → (s : PlainSite) → IsWellNamed s → (opens : List (Option Open)) (os : List Outstanding) (due reports : List Reported) (answers : List Answer) (ticks : List Asked) (moment : ℕ) (orders : List OrderLine) (r : Rules) (before round : Histories) → IsTellable s opens os due answers ticks → IsRound r moment before (dealt callers (line_events (map as_line answers)) (taken_reports os (due ++ reports)) ticks) round → HaveRoom callers (behind before round) (length round) → AreOthers r → IsToldBy callers s opens os due reports answers ticks moment orders r before round }
 {}
