@@ -34,7 +34,7 @@ use Rattle.audit_laws.specs.Refilled.{AreRefilled}
 use Rattle.audit_laws.specs.Rereported.{orders_of, orders_taken, refused_again, told_again, AreRereported}
 use Rattle.audit_laws.specs.Retaken.{all_events, asked_in, events_by, lines_from, spots_from, with_event, AreInKinds, AreOthers, HaveRoom}
 use Rattle.audit_laws.specs.ToldTurns.{block_of, IsTellable, IsToldBy}
-use Rattle.audit_laws.proofs.EventFacts.{all_imply, command_is, kind_asked, said_kind, says, taken_facts, tick_word, IsLackingWord, IsLineWord, IsReportWord, IsResultOf, IsTaken, IsTickWord}
+use Rattle.audit_laws.proofs.EventFacts.{all_kept, all_imply, command_is, kind_asked, said_kind, says, taken_facts, tick_word, IsLackingWord, IsLineWord, IsReportWord, IsResultOf, IsTaken, IsTickWord}
 use Rattle.audit_laws.proofs.Hearing.{heard}
 use Rattle.audit_laws.proofs.KindOrder.{as_in_turn}
 use Rattle.audit_laws.proofs.Ordering.{eq_is, from_within, is_eq, once, permuted, there_stands, times, times_cons, twice}
@@ -48,14 +48,6 @@ use Rattle.audit_laws.proofs.TurnTold as base
 use Rattle.audit_laws.proofs.TurnTold.{all_at, all_both, all_from, fall_at, fall_both, fall_rise, fall_same, place, same_permuted, some_same, taken_event}
 
 -- ---- parts of lists
-
-all_kept : {A : Type 0} (P : A → Type 0) (test : A → Bool) (xs : List A) → AllByRecursion P xs → AllByRecursion P (filter test xs)
-all_kept P test [] h = tt
-all_kept P test (x ∷ xs) h = by (test x) (all_kept P test xs h.1)
-  where
-    by : (t : Bool) → AllByRecursion P (filter test xs) → AllByRecursion P (cond t (x ∷ filter test xs) (filter test xs))
-    by true rest = (h.0, rest)
-    by false rest = rest
 
 rise_kept : (kind : Asked → ℕ) (test : Asked → Bool) (xs : List Asked) → AllRise kind xs → AllRise kind (filter test xs)
 rise_kept kind test [] h = tt

@@ -1,5 +1,5 @@
 -- The entries of a turn can stand in memory where their numbers have their bits.
-use Rattle.std.proofs.Common.{◌≡◌, ◌<◌, ◌≤◌, ◌+◌, ◌==◌, ◌^◌, ℕ, min, nat_eq, cond, Bool, true, false, List, [], ◌∷◌, ◌++◌, length, map, reverse, slice_get, take, Option, Some, sym, ap, subst, arith}
+use Rattle.std.proofs.Common.{◌≡◌, ◌<◌, ◌≤◌, ◌+◌, ◌==◌, ◌^◌, ℕ, zero, suc, min, nat_eq, cond, Bool, true, false, List, [], ◌∷◌, ◌++◌, length, filter, map, reverse, slice_get, take, Option, Some, sym, ap, ◌∙◌, refl, subst, arith, eq-eqb}
 use Rattle.std.proofs.lemmas.List.{length-append}
 use Rattle.std.specs.List.{AllByRecursion}
 use Rattle.std.specs.Str.{IsUtf8}
@@ -13,21 +13,20 @@ use Rattle.site_model.specs.declared.event.Event.TheVariants as event
 use Rattle.site_model.specs.declared.sight.Sight.{Sight}
 use Rattle.log_text.specs.EntryTwo.{FitsEntry, FitsEvent, FitsOutcome}
 use Rattle.run_meaning.specs.Acts.{Act, Rules, Seen, draft_of, entry_of}
-use Rattle.run_meaning.specs.Dealing.{Taken, line_events, ordered_result, taken_reports, ticks}
+use Rattle.run_meaning.specs.Dealing.{Taken, dealt, dealt_to, goes_to, line_events, lines_to, ordered_result, taken_reports, ticks}
 use Rattle.run_meaning.specs.Downtimes.{is_live}
-use Rattle.run_meaning.specs.Rounds.{IsMade, IsRound, all_seen, behind, events_on}
+use Rattle.run_meaning.specs.Rounds.{IsMade, all_seen, behind, entries_by, events_on}
 use Rattle.run_meaning.specs.Runs.{Basis, IsTurn, Stage, TurnLog, reports_of}
-use Rattle.run_meaning.specs.Turns.{Asked, of_index}
+use Rattle.run_meaning.specs.Turns.{Asked, from_on, of_index}
 use Rattle.run_meaning.specs.View.{attempt_at, problems}
-use Rattle.run_meaning.proofs.Dealt.{dealt_to_one}
-use Rattle.run_meaning.proofs.Lists.{entries_by_all, within}
+use Rattle.run_meaning.proofs.Lists.{length_from_on, length_map, of_index_each, within}
 use Rattle.run_text.specs.TurnReading.{lines_read, turn_read}
 use Rattle.turn_engine.specs.Stages.{basis_of_site}
 use Rattle.audit_laws.specs.Askable.{IsDuration, IsInRange}
 use Rattle.audit_laws.specs.Names.{IsWellNamed}
 use Rattle.audit_laws.proofs.AskedLines.{all_asked, all_at, all_ticks, Askable, IsTickBelow}
 use Rattle.audit_laws.proofs.DecidedNumbers.{decisions_fit}
-use Rattle.audit_laws.proofs.EventFacts.{all_imply, taken_facts, IsTaken}
+use Rattle.audit_laws.proofs.EventFacts.{all_imply, all_kept, taken_facts, IsTaken}
 use Rattle.audit_laws.proofs.OutputTexts.{output_text, perf_text}
 use Rattle.audit_laws.proofs.Printing.{all_from, taken_many}
 
@@ -38,10 +37,6 @@ all_behind P (x ∷ xs) ys h g = (h.0, all_behind P xs ys h.1 g)
 pub onto : {A B : Type 0} (f : A → B) (P : B → Type 0) (xs : List A) → AllByRecursion (λ a. P (f a)) xs → AllByRecursion P (map f xs)
 onto f P [] h = tt
 onto f P (x ∷ xs) h = (h.0, onto f P xs h.1)
-
-back_from : {A B : Type 0} (f : A → B) (P : B → Type 0) (xs : List A) → AllByRecursion P (map f xs) → AllByRecursion (λ a. P (f a)) xs
-back_from f P [] h = tt
-back_from f P (x ∷ xs) h = (h.0, back_from f P xs h.1)
 
 -- ---- events
 
@@ -77,6 +72,25 @@ on_one c (a ∷ as') h = by (nat_eq a.checkable c) (on_one c as' h.1)
     by true rest = (h.0, rest)
     by false rest = rest
 
+lines_fit : (k : ℕ) (lines : List Asked) → AllByRecursion FitsAsked lines → AllByRecursion FitsAsked (lines_to k lines)
+lines_fit zero lines h = h
+lines_fit (suc k) lines h = tt
+
+-- the event of an entry is one of its caller's
+of_caller : (k : ℕ) (es : List Entry) → AllByRecursion FitsEvent (map (λ e. e.event) (entries_by k es)) → (i : ℕ) (e : Entry) → slice_get es i ≡ Some e → nat_eq e.caller k ≡ true → FitsEvent e.event
+of_caller k [] fit i e at mine = absurd cc
+of_caller k (x ∷ xs) fit i e at mine = by (nat_eq x.caller k) refl fit i at (λ rest j there. of_caller k xs rest j e there mine)
+  where
+    by : (t : Bool) → nat_eq x.caller k ≡ t → AllByRecursion FitsEvent (map (λ (y : Entry). y.event) (cond t (x ∷ entries_by k xs) (entries_by k xs))) → (j : ℕ) → slice_get (x ∷ xs) j ≡ Some e
+        → (AllByRecursion FitsEvent (map (λ (y : Entry). y.event) (entries_by k xs)) → (n : ℕ) → slice_get xs n ≡ Some e → FitsEvent e.event) → FitsEvent e.event
+    by true same these zero here rest = let is : x ≡ e = cc in subst (λ (y : Entry). FitsEvent y.event) is these.0
+    by true same these (suc j) there rest = rest these.1 j there
+    by false same these zero here rest =
+        let is : x ≡ e = cc in
+        let no : false ≡ true = sym same ∙ ap (λ (y : Entry). nat_eq y.caller k) is ∙ mine in
+        absurd cc
+    by false same these (suc j) there rest = rest these j there
+
 -- ---- attempts
 
 attempt_low : (c : PlainCheck) (n : ℕ) → c.max < 2 ^ 32 → attempt_at c n < 2 ^ 32
@@ -91,7 +105,7 @@ made_low r k c history seen a lt = attempt_low c (problems c (reverse (history +
 
 -- ---- a turn
 
-module _ (s : PlainSite) (zone : Option Tzif) (w : IsWellNamed s) (attempts : AllByRecursion (λ c. c.max < 2 ^ 32) s.checkables) (st : Stage) (t : Turn) (l : TurnLog) (is : IsTurn (basis_of_site s zone) 1 st (turn_read s t) l) (moment : l.moment ≤ 99999999999) (room : (c : ℕ) → length (behind st.histories l.round c) < 2 ^ 64) where
+module _ (s : PlainSite) (zone : Option Tzif) (callers : ℕ) (most : callers ≤ 2 ^ 32) (w : IsWellNamed s) (attempts : AllByRecursion (λ c. c.max < 2 ^ 32) s.checkables) (st : Stage) (t : Turn) (l : TurnLog) (is : IsTurn (basis_of_site s zone) callers st (turn_read s t) l) (moment : l.moment ≤ 99999999999) (room : (c : ℕ) → length (behind st.histories l.round c) < 2 ^ 64) where
   abbrev b : Basis
   b = basis_of_site s zone
 
@@ -104,37 +118,38 @@ module _ (s : PlainSite) (zone : Option Tzif) (w : IsWellNamed s) (attempts : Al
   abbrev late : List Asked
   late = ticks s st.histories l.moment
 
-  abbrev all : List Asked
-  all = lines ++ (map taken_event taken ++ late)
+  abbrev all : List (List Asked)
+  all = dealt callers lines taken late
 
-  round : IsRound b.rules l.moment st.histories (all ∷ []) l.round
-  round = subst (λ es. IsRound b.rules l.moment st.histories es l.round) (dealt_to_one lines taken late) is.round
+  each_fits : (k : ℕ) → AllByRecursion FitsAsked (dealt_to callers lines taken late k)
+  each_fits k =
+      let mine : Taken → Bool = λ u. goes_to callers k u.order in
+      let to_it : Asked → Bool = λ a. goes_to callers k a.checkable in
+      all_behind FitsAsked (lines_to k lines) (map taken_event (filter mine taken) ++ filter to_it late)
+      (lines_fit k lines (all_imply (Askable s) FitsAsked (λ a can. range_fits can.check.host a.event can.range) lines (all_asked s w t.lines)))
+      (all_behind FitsAsked (map taken_event (filter mine taken)) (filter to_it late)
+      (onto taken_event FitsAsked (filter mine taken) (all_kept (λ u. FitsAsked (taken_event u)) mine taken (all_imply (IsTaken st.plans.outstanding (reports_of st (turn_read s t))) (λ u. FitsAsked (taken_event u)) (λ u h. subst FitsEvent (sym h.event) (result_fits h.status h.output)) taken (taken_facts st.plans.outstanding (reports_of st (turn_read s t))))))
+      (all_kept FitsAsked to_it late (all_imply (IsTickBelow (length s.checkables)) FitsAsked (λ a h. subst FitsEvent (sym h.0) tt) late (all_ticks (length s.checkables) 0 s.checkables st.histories l.moment (omega arith)))))
 
-  all_fit : AllByRecursion FitsAsked all
-  all_fit =
-      all_behind FitsAsked lines (map taken_event taken ++ late) (all_imply (Askable s) FitsAsked (λ a can. range_fits can.check.host a.event can.range) lines (all_asked s w t.lines))
-      (all_behind FitsAsked (map taken_event taken) late
-      (onto taken_event FitsAsked taken (all_imply (IsTaken st.plans.outstanding (reports_of st (turn_read s t))) (λ u. FitsAsked (taken_event u)) (λ u h. subst FitsEvent (sym h.event) (result_fits h.status h.output)) taken (taken_facts st.plans.outstanding (reports_of st (turn_read s t)))))
-      (all_imply (IsTickBelow (length s.checkables)) FitsAsked (λ a h. subst FitsEvent (sym h.0) tt) late (all_ticks (length s.checkables) 0 s.checkables st.histories l.moment (omega arith))))
+  many_dealt : length all ≡ callers
+  many_dealt = length_map (dealt_to callers lines taken late) (from_on 0 callers) ∙ length_from_on 0 callers
 
-  own : (c i : ℕ) (e : Entry) → slice_get (of_index c l.round) i ≡ Some e → e.caller ≡ 0
-  own c i e at = let lt : e.caller < 1 = round.callers c i e at in omega (arith, lt)
-
-  abbrev event_in : Entry → Event
-  event_in e = e.event
-
-  events_fit : (c : ℕ) → AllByRecursion (λ e. FitsEvent e.event) (of_index c l.round)
-  events_fit c =
-      back_from event_in FitsEvent (of_index c l.round)
-      (subst (λ es. AllByRecursion FitsEvent (map event_in es)) (entries_by_all 0 (of_index c l.round) (own c))
-      (subst (AllByRecursion FitsEvent) (sym (round.taken 0 c (omega arith))) (on_one c all all_fit)))
+  event_fits : (c i : ℕ) (e : Entry) → slice_get (of_index c l.round) i ≡ Some e → FitsEvent e.event
+  event_fits c i e at =
+      let lt = is.round.callers c i e at in
+      let low : e.caller < callers = subst (λ n. e.caller < n) many_dealt lt in
+      let z : 0 + e.caller ≡ e.caller = omega arith in
+      let same : of_index e.caller all ≡ dealt_to callers lines taken late e.caller = of_index_each (dealt_to callers lines taken late) 0 callers e.caller low ∙ ap (dealt_to callers lines taken late) z in
+      of_caller e.caller (of_index c l.round)
+      (subst (AllByRecursion FitsEvent) (sym (is.round.taken e.caller c lt)) (on_one c (of_index e.caller all) (subst (AllByRecursion FitsAsked) (sym same) (each_fits e.caller))))
+      i e at (eq-eqb e.caller e.caller refl)
 
   entry_fits : (c i : ℕ) (e : Entry) → slice_get (of_index c l.round) i ≡ Some e → FitsEntry e
   entry_fits c i e at = record {
-    caller = (let z = own c i e at in omega (arith, z));
+    caller = (let lt = is.round.callers c i e at in let d = many_dealt in omega (arith, lt, d, most));
     number = number_low;
     moment = (let m = ap (λ (x : Entry). x.moment) made.made in omega (arith, m, moment));
-    event = all_at (λ (e : Entry). FitsEvent e.event) (of_index c l.round) i e (events_fit c) at;
+    event = event_fits c i e at;
     attempt = (let a = ap (λ (x : Entry). x.attempt) made.made in let lt = made_low b.rules c made.check history seen act (all_at (λ (p : PlainCheck). p.max < 2 ^ 32) s.checkables c made.check attempts made.is) in omega (arith, a, lt));
     sights = all_from (λ (x : Sight). x.count < 2 ^ 64) e.sights (λ j x there. let le = (is.round.seen c i j e x at there).1 in let lt = room x.checkable in omega (arith, le, lt));
     decisions = subst (λ (x : Entry). AllByRecursion (λ d. FitsOutcome d.outcome) x.decisions) (sym made.made) (decisions_fit s (holds_in s zone) c made.check history (draft_of is_live made.check history act) seen low);

@@ -1,5 +1,5 @@
 -- What each event of a turn says, and of which kind it is.
-use Rattle.std.proofs.Common.{◌≡◌, ◌+◌, ◌^◌, ◌<◌, ◌≤◌, ◌||◌, ℕ, nat_eq, Bool, true, false, cond, List, [], ◌∷◌, get_or, refl, sym, ap, ◌∙◌, arith, Some, None, Option, true≢false, ◌⊎◌, inl, inr}
+use Rattle.std.proofs.Common.{◌≡◌, ◌+◌, ◌^◌, ◌<◌, ◌≤◌, ◌||◌, ℕ, nat_eq, Bool, true, false, cond, List, [], ◌∷◌, filter, get_or, refl, sym, ap, ◌∙◌, arith, Some, None, Option, true≢false, ◌⊎◌, inl, inr}
 use Rattle.std.specs.List.{AllByRecursion}
 use Rattle.std.specs.Option.{option_map}
 use Rattle.plugin_line.specs.Output.{plugin_result}
@@ -268,6 +268,14 @@ pub record IsTaken (os : List Outstanding) (rs : List Reported) (t : Taken) : Ty
   pub status : ℕ
   pub output : List ℕ
   pub event : t.asked.event ≡ ordered_result status output
+
+pub all_kept : {A : Type 0} (P : A → Type 0) (test : A → Bool) (xs : List A) → AllByRecursion P xs → AllByRecursion P (filter test xs)
+all_kept P test [] h = tt
+all_kept P test (x ∷ xs) h = by (test x) (all_kept P test xs h.1)
+  where
+    by : (t : Bool) → AllByRecursion P (filter test xs) → AllByRecursion P (cond t (x ∷ filter test xs) (filter test xs))
+    by true rest = (h.0, rest)
+    by false rest = rest
 
 pub all_imply : {A : Type 0} (P Q : A → Type 0) → ((a : A) → P a → Q a) → (xs : List A) → AllByRecursion P xs → AllByRecursion Q xs
 all_imply P Q f [] h = tt

@@ -68,7 +68,7 @@ no_moment (c ∷ cs) = let le = no_moment cs in omega (arith, le)
 
 -- ---- a run
 
-module _ (s : PlainSite) (zone : Option Tzif) (can : CanBeRun s) where
+module _ (s : PlainSite) (zone : Option Tzif) (callers : ℕ) (some : 1 ≤ callers) (most : callers ≤ 2 ^ 32) (can : CanBeRun s) where
   abbrev b : Basis
   b = basis_of_site s zone
 
@@ -82,9 +82,9 @@ module _ (s : PlainSite) (zone : Option Tzif) (can : CanBeRun s) where
   asks t = commands_alone s _ (all_asked s can.names t.lines)
 
   -- no more orders are outstanding behind turns than may be
-  few_orders : (ts : List ReadTurn) (ls : List TurnLog) → IsRunFrom b 1 first ts ls → AllByRecursion Asks ts → length (stage_by b first ts ls).plans.outstanding ≤ 65535
+  few_orders : (ts : List ReadTurn) (ls : List TurnLog) → IsRunFrom b callers first ts ls → AllByRecursion Asks ts → length (stage_by b first ts ls).plans.outstanding ≤ 65535
   few_orders ts ls run asked =
-      let few = (few_from_start s (holds_in s zone) (command_of s) nothing_fed 1 (lit≤ tt) (no_entries s) ts ls (record { someone = lit≤ tt; turns = run }) (record { fed = λ begun. refl; own = λ i t at. all_at Asks ts i t asked at })).few in
+      let few = (few_from_start s (holds_in s zone) (command_of s) nothing_fed callers some (no_entries s) ts ls (record { someone = some; turns = run }) (record { fed = λ begun. refl; own = λ i t at. all_at Asks ts i t asked at })).few in
       let most = can.sound.most_orders in
       omega (arith, few, most)
 
@@ -94,21 +94,21 @@ module _ (s : PlainSite) (zone : Option Tzif) (can : CanBeRun s) where
     given_few : st.plans.given ≤ st.turns * 65535
     due : AllByRecursion HasBits st.due
 
-  module _ (before : List ReadTurn) (done : List TurnLog) (asked : AllByRecursion Asks before) (st : Stage) (run : IsRunFrom b 1 first before done) (same : stage_by b first before done ≡ st) (t : Turn) (l : TurnLog) (is : IsTurn b 1 st (turn_read s t) l) (fits : FitsTurn t) (stage : FitsStage st) (turns : st.turns < 2 ^ 40) (room : (c : ℕ) → length (behind st.histories l.round c) < 2 ^ 64) where
+  module _ (before : List ReadTurn) (done : List TurnLog) (asked : AllByRecursion Asks before) (st : Stage) (run : IsRunFrom b callers first before done) (same : stage_by b first before done ≡ st) (t : Turn) (l : TurnLog) (is : IsTurn b callers st (turn_read s t) l) (fits : FitsTurn t) (stage : FitsStage st) (turns : st.turns < 2 ^ 40) (room : (c : ℕ) → length (behind st.histories l.round c) < 2 ^ 64) where
     abbrev r : ReadTurn
     r = turn_read s t
 
     abbrev next : Stage
     next = stage_after b st r l
 
-    further : IsRunFrom b 1 first (before ++ r ∷ []) (done ++ l ∷ [])
-    further = is_joined b 1 first before (r ∷ []) done (l ∷ []) run (subst (λ z. IsRunFrom b 1 z (r ∷ []) (l ∷ [])) (sym same) (is, refl))
+    further : IsRunFrom b callers first (before ++ r ∷ []) (done ++ l ∷ [])
+    further = is_joined b callers first before (r ∷ []) done (l ∷ []) run (subst (λ z. IsRunFrom b callers z (r ∷ []) (l ∷ [])) (sym same) (is, refl))
 
     comes_to : stage_by b first (before ++ r ∷ []) (done ++ l ∷ []) ≡ next
-    comes_to = stage_joined b 1 first before (r ∷ []) done (l ∷ []) run ∙ ap (λ z. stage_after b z r l) same
+    comes_to = stage_joined b callers first before (r ∷ []) done (l ∷ []) run ∙ ap (λ z. stage_after b z r l) same
 
     gives : GivesOrders s st.plans.given l.orders next.plans.outstanding
-    gives = turn_gives s (holds_in s zone) (command_of s) nothing_fed 1 (lit≤ tt) st r l is (asks t) stage.numbered
+    gives = turn_gives s (holds_in s zone) (command_of s) nothing_fed callers some st r l is (asks t) stage.numbered
 
     few : length l.orders ≤ 65535
     few =
@@ -147,7 +147,7 @@ module _ (s : PlainSite) (zone : Option Tzif) (can : CanBeRun s) where
       number = (let e = number in omega (arith, e, turns));
       moment = moment;
       refusals = refusals_fit;
-      entries = entries_fit s zone can.names can.attempts st t l is moment room;
+      entries = entries_fit s zone callers most can.names can.attempts st t l is moment room;
       orders = orders_fit;
     }
 
@@ -162,7 +162,7 @@ module _ (s : PlainSite) (zone : Option Tzif) (can : CanBeRun s) where
   abbrev HasRoom : Stage → List TurnLog → Type 0
   HasRoom st ls = (c : ℕ) → length (of_index c st.histories) + entries_in c ls < 2 ^ 64
 
-  walk : (ts : List Turn) (ls : List TurnLog) (before : List ReadTurn) (done : List TurnLog) (st : Stage) → AllByRecursion Asks before → IsRunFrom b 1 first before done → stage_by b first before done ≡ st → IsRunFrom b 1 st (map (turn_read s) ts) ls
+  walk : (ts : List Turn) (ls : List TurnLog) (before : List ReadTurn) (done : List TurnLog) (st : Stage) → AllByRecursion Asks before → IsRunFrom b callers first before done → stage_by b first before done ≡ st → IsRunFrom b callers st (map (turn_read s) ts) ls
       → AllByRecursion FitsTurn ts → FitsStage st → st.turns + length ts ≤ 2 ^ 40 → HasRoom st ls → AllByRecursion FitsLog ls
   walk [] ls before done st asked run same rest fits stage turns room = subst (AllByRecursion FitsLog) (sym rest) tt
   walk (t ∷ ts) [] before done st asked run same rest fits stage turns room = absurd rest
@@ -176,7 +176,7 @@ module _ (s : PlainSite) (zone : Option Tzif) (can : CanBeRun s) where
             (λ c. let e = ap (length {A = Entry}) (joined_at st.histories l.round c) in let d = length-append (of_index c st.histories) (of_index c l.round) in let g = room c in omega (arith, e, d, g)),
       )
 
-  pub logs_fit : (ts : List Turn) (ls : List TurnLog) → IsRunFrom b 1 first (map (turn_read s) ts) ls → AllByRecursion FitsTurn ts → length ts ≤ 2 ^ 40 → ((c : ℕ) → entries_in c ls < 2 ^ 64) → AllByRecursion FitsLog ls
+  pub logs_fit : (ts : List Turn) (ls : List TurnLog) → IsRunFrom b callers first (map (turn_read s) ts) ls → AllByRecursion FitsTurn ts → length ts ≤ 2 ^ 40 → ((c : ℕ) → entries_in c ls < 2 ^ 64) → AllByRecursion FitsLog ls
   logs_fit ts ls run fits turns few =
       walk ts ls [] [] first tt refl refl run fits (record { moment = no_moment s.checkables; numbered = record { single = tt; fresh = λ n h. refl }; given_few = omega arith; due = tt }) (omega (arith, turns))
       (λ c. let e = ap (length {A = Entry}) (of_index_nothing s.checkables c) in let g = few c in omega (arith, e, g))

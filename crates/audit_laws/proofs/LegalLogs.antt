@@ -1,5 +1,5 @@
 -- What an audit says of the log of a run: that it is legal, and nothing else.
-use Rattle.std.proofs.Common.{◌≡◌, ◌==◌, ◌||◌, ℕ, Bool, true, false, List, [], ◌∷◌, length, map, take, refl, sym, ap, subst, Option, Some, None}
+use Rattle.std.proofs.Common.{◌≡◌, ◌==◌, ◌||◌, ◌≤◌, ◌^◌, ℕ, arith, Bool, true, false, List, [], ◌∷◌, length, map, take, refl, sym, ap, subst, Option, Some, None}
 use Rattle.std.specs.List.{concat, flat_map}
 use Rattle.jiff_tz.specs.declared.tzif.Tzif.{Tzif}
 use Rattle.site_edge.specs.declared.turn.Turn.{Turn}
@@ -22,8 +22,9 @@ use Rattle.site_audit.specs.Audit.{is_cut_off, IsLegal, IsVerdict, IsVerdictBy, 
 use Rattle.site_audit.specs.Blocks.{begins_turn}
 use Rattle.site_audit.specs.declared.auditing.Verdict.{Verdict}
 use Rattle.site_audit.specs.declared.auditing.Verdict.TheVariants as verdict
-use Rattle.audit_laws.specs.LegalLogs.{blocks_written, CanBeRun, IsLoneLog, IsLoneRun}
+use Rattle.audit_laws.specs.LegalLogs.{blocks_written, CanBeRun, IsLogInMemory, IsRunInMemory}
 use Rattle.audit_laws.proofs.FittingRuns.{logs_fit}
+use Rattle.audit_laws.proofs.LegalCallers.{run_is_legal_by}
 use Rattle.audit_laws.proofs.LegalRuns.{run_is_legal}
 
 -- the text of turns, without the line of a version
@@ -46,40 +47,72 @@ cut_off s [] = refl
 cut_off s (l ∷ logs) = or_true (length (text_of Two s (l ∷ logs)) == 0) (begins_turn (text_of Two s (l ∷ logs))) refl
 
 -- it is a verdict on the text of the turns
-to_text : (style : Style) (s : PlainSite) (logs : List TurnLog) (v : Verdict) → ((first : ℕ) → IsVerdictOf style 1 s first (text_of style s logs) v) → IsVerdict 1 s (log_text style s logs) v
-to_text One s logs v h = subst (λ o. IsVerdictBy 1 s (text_of One s logs) o v) (sym (no_version s logs)) (h 1)
-to_text Two s logs v h =
-    subst (λ o. IsVerdictBy 1 s (log_text Two s logs) o v) (sym (version s logs)) (subst (λ t. IsVerdictTwo t 1 s (text_of Two s logs) v) (sym (cut_off s logs)) (h 2))
+to_text : (style : Style) (callers : ℕ) (s : PlainSite) (logs : List TurnLog) (v : Verdict) → ((first : ℕ) → IsVerdictOf style callers s first (text_of style s logs) v) → IsVerdict callers s (log_text style s logs) v
+to_text One callers s logs v h = subst (λ o. IsVerdictBy callers s (text_of One s logs) o v) (sym (no_version s logs)) (h 1)
+to_text Two callers s logs v h =
+    subst (λ o. IsVerdictBy callers s (log_text Two s logs) o v) (sym (version s logs)) (subst (λ t. IsVerdictTwo t callers s (text_of Two s logs) v) (sym (cut_off s logs)) (h 2))
 
-of_text : (style : Style) (s : PlainSite) (logs : List TurnLog) (v : Verdict) → IsVerdict 1 s (log_text style s logs) v → (first : ℕ) × IsVerdictOf style 1 s first (text_of style s logs) v
-of_text One s logs v h = (1, subst (λ o. IsVerdictBy 1 s (text_of One s logs) o v) (no_version s logs) h)
-of_text Two s logs v h = (2, subst (λ t. IsVerdictTwo t 1 s (text_of Two s logs) v) (cut_off s logs) (subst (λ o. IsVerdictBy 1 s (log_text Two s logs) o v) (version s logs) h))
+of_text : (style : Style) (callers : ℕ) (s : PlainSite) (logs : List TurnLog) (v : Verdict) → IsVerdict callers s (log_text style s logs) v → (first : ℕ) × IsVerdictOf style callers s first (text_of style s logs) v
+of_text One callers s logs v h = (1, subst (λ o. IsVerdictBy callers s (text_of One s logs) o v) (no_version s logs) h)
+of_text Two callers s logs v h = (2, subst (λ t. IsVerdictTwo t callers s (text_of Two s logs) v) (cut_off s logs) (subst (λ o. IsVerdictBy callers s (log_text Two s logs) o v) (version s logs) h))
 
 same_basis : (s : PlainSite) (a b : Option Tzif) → IsZoneOf s.zone a → IsZoneOf s.zone b → basis_of_site s a ≡ basis_of_site s b
 same_basis s a b p q = ap (λ holds. basis_of s holds (command_of s) nothing_fed) (same_holds s.zone a b p q s)
 
-module _ (style : Style) (limit : ℕ) (s : PlainSite) (can : CanBeRun s) (turns : List Turn) (w : Whole) (h : IsLoneLog style limit s turns w) where
+-- ---- what is said of a log that is legal
+
+module _ (callers : ℕ) (style : Style) (s : PlainSite) (zone : Option Tzif) (is_zone : IsZoneOf s.zone zone) (logs : List TurnLog) (legal : IsLegal style (basis_of_site s zone) callers s (blocks_written style s logs)) where
+  is_said : IsVerdict callers s (log_text style s logs) verdict.Legal
+  is_said = to_text style callers s logs verdict.Legal (λ first. record { zone = zone; is_zone = is_zone; says = legal })
+
+  only_of : (first : ℕ) (v : Verdict) → IsVerdictOf style callers s first (text_of style s logs) v → v ≡ verdict.Legal
+  only_of first verdict.Legal g = refl
+  only_of first (verdict.Illegal line) g = absurd (g.says.whole (subst (λ b. IsLegal style b callers s (blocks_written style s logs)) (same_basis s zone g.zone is_zone g.is_zone) legal))
+
+  is_only : (v : Verdict) → IsVerdict callers s (log_text style s logs) v → v ≡ verdict.Legal
+  is_only v g = let (first, is) = of_text style callers s logs v g in only_of first v is
+
+-- ---- the log of a run
+
+module _ (callers : ℕ) (some : 1 ≤ callers) (most : callers ≤ 2 ^ 32) (style : Style) (limit : ℕ) (s : PlainSite) (can : CanBeRun s) (turns : List Turn) (w : Whole) (h : IsLogInMemory callers style limit s turns w) where
   abbrev zone : Option Tzif
   zone = h.log.are.zone
 
   abbrev logs : List TurnLog
   logs = h.log.logs
 
-  run_is : IsRun (basis_of_site s zone) 1 (start s (no_entries s)) (map (turn_read s) (take limit turns)) logs
-  run_is = subst (λ rs. IsRun (basis_of_site s zone) 1 (start s (no_entries s)) rs logs) (turns_are s (take limit turns) h.log.are.reads can.sound.names h.log.are.read) h.log.are.run
+  run_is : IsRun (basis_of_site s zone) callers (start s (no_entries s)) (map (turn_read s) (take limit turns)) logs
+  run_is = subst (λ rs. IsRun (basis_of_site s zone) callers (start s (no_entries s)) rs logs) (turns_are s (take limit turns) h.log.are.reads can.sound.names h.log.are.read) h.log.are.run
 
-  run : IsLoneRun s zone (take limit turns) logs
-  run = record { run = run_is; fits = logs_fit s zone can (take limit turns) logs run_is.turns h.turns_fit h.few_turns h.few_entries }
+  run : IsRunInMemory callers s zone (take limit turns) logs
+  run = record { run = run_is; fits = logs_fit s zone callers some most can (take limit turns) logs run_is.turns h.turns_fit h.few_turns h.few_entries }
 
-  legal : IsLegal style (basis_of_site s zone) 1 s (blocks_written style s logs)
-  legal = run_is_legal style s zone can (take limit turns) logs run
+  module _ (legal : IsLegal style (basis_of_site s zone) callers s (blocks_written style s logs)) where
+    said : IsVerdict callers s w.text verdict.Legal
+    said = subst (λ t. IsVerdict callers s t verdict.Legal) (sym h.log.text) (is_said callers style s zone h.log.are.is_zone logs legal)
+
+    only : (v : Verdict) → IsVerdict callers s w.text v → v ≡ verdict.Legal
+    only v g = is_only callers style s zone h.log.are.is_zone logs legal v (subst (λ t. IsVerdict callers s t v) h.log.text g)
+
+module _ (style : Style) (limit : ℕ) (s : PlainSite) (can : CanBeRun s) (turns : List Turn) (w : Whole) (h : IsLogInMemory 1 style limit s turns w) where
+  legal_of_one : IsLegal style (basis_of_site s h.log.are.zone) 1 s (blocks_written style s h.log.logs)
+  legal_of_one = run_is_legal style s h.log.are.zone can (take limit turns) h.log.logs (run 1 (omega arith) (omega arith) style limit s can turns w h)
 
   pub said_legal : IsVerdict 1 s w.text verdict.Legal
-  said_legal = subst (λ t. IsVerdict 1 s t verdict.Legal) (sym h.log.text) (to_text style s logs verdict.Legal (λ first. record { zone = zone; is_zone = h.log.are.is_zone; says = legal }))
-
-  only_of : (first : ℕ) (v : Verdict) → IsVerdictOf style 1 s first (text_of style s logs) v → v ≡ verdict.Legal
-  only_of first verdict.Legal g = refl
-  only_of first (verdict.Illegal line) g = absurd (g.says.whole (subst (λ b. IsLegal style b 1 s (blocks_written style s logs)) (same_basis s zone g.zone h.log.are.is_zone g.is_zone) legal))
+  said_legal = said 1 (omega arith) (omega arith) style limit s can turns w h legal_of_one
 
   pub only_legal : (v : Verdict) → IsVerdict 1 s w.text v → v ≡ verdict.Legal
-  only_legal v g = let (first, is) = of_text style s logs v (subst (λ t. IsVerdict 1 s t v) h.log.text g) in only_of first v is
+  only_legal = only 1 (omega arith) (omega arith) style limit s can turns w h legal_of_one
+
+module _ (limit : ℕ) (s : PlainSite) (callers : ℕ) (can : CanBeRun s) (some : 1 ≤ callers) (most : callers ≤ 64) (turns : List Turn) (w : Whole) (h : IsLogInMemory callers Two limit s turns w) where
+  fit : callers ≤ 2 ^ 32
+  fit = omega (arith, most)
+
+  legal_by : IsLegal Two (basis_of_site s h.log.are.zone) callers s (blocks_written Two s h.log.logs)
+  legal_by = let all = run callers some fit Two limit s can turns w h in run_is_legal_by s h.log.are.zone can callers some most (take limit turns) h.log.logs all.run.turns all.fits
+
+  pub said_legal_by : IsVerdict callers s w.text verdict.Legal
+  said_legal_by = said callers some fit Two limit s can turns w h legal_by
+
+  pub only_legal_by : (v : Verdict) → IsVerdict callers s w.text v → v ≡ verdict.Legal
+  only_legal_by = only callers some fit Two limit s can turns w h legal_by

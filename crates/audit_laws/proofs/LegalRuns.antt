@@ -26,7 +26,7 @@ use Rattle.site_audit.specs.BlockReading.{block_read}
 use Rattle.site_audit.specs.Told.{all_told, no_orders, orders_after, orders_with, turn_told, turns_from, turns_with, turns_in}
 use Rattle.audit_laws.specs.Types.{Block, Open}
 use Rattle.audit_laws.specs.Fitting.{FitsLog, FitsOrder}
-use Rattle.audit_laws.specs.LegalLogs.{blocks_written, CanBeRun, IsLoneRun}
+use Rattle.audit_laws.specs.LegalLogs.{blocks_written, CanBeRun, IsRunInMemory}
 use Rattle.audit_laws.specs.Retaken.{lines_from, AreOthers}
 use Rattle.audit_laws.specs.ToldTurns.{block_of}
 use Rattle.audit_laws.proofs.AskedLines.{answered, answers_of}
@@ -139,7 +139,7 @@ module _ (style : Style) (s : PlainSite) (zone : Option Tzif) (can : CanBeRun s)
   start_alike : ShowsAlike style (start s (no_entries s)) (start s (no_entries s))
   start_alike = record { turns = refl; moment = refl; histories = refl; plans = refl; due = refl }
 
-  module _ (ts : List Turn) (ls : List TurnLog) (run : IsLoneRun s zone ts ls) where
+  module _ (ts : List Turn) (ls : List TurnLog) (run : IsRunInMemory 1 s zone ts ls) where
     all : IsToldRun (start s (no_entries s)) (no_orders s) ls
     all =
         walk ts ls (start s (no_entries s)) (start s (no_entries s)) (no_orders s) run.run.turns run.fits start_kept start_alike (lit< tt)

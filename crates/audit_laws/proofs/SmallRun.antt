@@ -12,7 +12,7 @@ use Rattle.turn_engine.specs.Orders.{command_of}
 use Rattle.turn_engine.specs.Stages.{basis_of_site}
 use Rattle.site_audit.specs.LogLines.{IsOfTexts}
 use Rattle.audit_laws.specs.Examples.{host, one_log, one_turn, service, small_site}
-use Rattle.audit_laws.specs.LegalLogs.{CanBeRun, IsLoneRun}
+use Rattle.audit_laws.specs.LegalLogs.{CanBeRun, IsRunInMemory}
 use Rattle.audit_laws.proofs.Fields.{small_utf8}
 use Rattle.audit_laws.proofs.SmallSite.{distinct, small_site_is_named}
 
@@ -68,7 +68,7 @@ small_site_can_be_run = record {
     commands (suc zero) = tt
     commands (suc (suc k)) = tt
 
-pub small_run : IsLoneRun small_site None one_turn one_log
+pub small_run : IsRunInMemory 1 small_site None one_turn one_log
 small_run = record {
   run = is_log (basis_of_site small_site None) (start small_site (no_entries small_site)) _ ((λ i a at. absurd cc), tt);
   fits = (record { number = lit< tt; moment = lit≤ tt; refusals = tt; entries = none; orders = (record { number = lit< tt; texts = tt }, (record { number = lit< tt; texts = tt }, tt)) }, tt);

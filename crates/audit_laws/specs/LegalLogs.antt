@@ -31,9 +31,9 @@ pub record CanBeRun (s : PlainSite) : Type 0 where
   pub attempts : AllByRecursion (λ c. c.max < 2 ^ 32) s.checkables
   pub commands : (k : ℕ) → IsOfTexts (command_of s k)
 
--- the logs of a run of one caller over these turns, without given histories and with nothing fed, all of which can stand in memory
-pub record IsLoneRun (s : PlainSite) (zone : Option Tzif) (turns : List Turn) (logs : List TurnLog) : Type 0 where
-  pub run : IsRun (basis_of_site s zone) 1 (start s (no_entries s)) (map (turn_read s) turns) logs
+-- the logs of a run of so many callers over these turns, without given histories and with nothing fed, all of which can stand in memory
+pub record IsRunInMemory (callers : ℕ) (s : PlainSite) (zone : Option Tzif) (turns : List Turn) (logs : List TurnLog) : Type 0 where
+  pub run : IsRun (basis_of_site s zone) callers (start s (no_entries s)) (map (turn_read s) turns) logs
   pub fits : AllByRecursion FitsLog logs
 
 -- the blocks of the text of these turns
@@ -42,8 +42,8 @@ blocks_written style s logs = blocks_of (lines_of (concat (flat_map (turn_lines 
 
 -- what is written of such a run over the first so many of these turns: each of them can stand in memory, they are at most 2^40, and no checkable
 -- gets 2^64 entries
-pub record IsLoneLog (style : Style) (limit : ℕ) (s : PlainSite) (turns : List Turn) (w : Whole) : Type 0 where
-  pub log : IsLog 1 style limit s (nothing_given s) turns w
+pub record IsLogInMemory (callers : ℕ) (style : Style) (limit : ℕ) (s : PlainSite) (turns : List Turn) (w : Whole) : Type 0 where
+  pub log : IsLog callers style limit s (nothing_given s) turns w
   pub turns_fit : AllByRecursion FitsTurn (take limit turns)
   pub few_turns : length (take limit turns) ≤ 2 ^ 40
   pub few_entries : (k : ℕ) → entries_in k log.logs < 2 ^ 64

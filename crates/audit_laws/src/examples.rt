@@ -6,7 +6,7 @@ ghost use Rattle.site_model.specs.declared.entry.Entry.{Entry};
 ghost use Rattle.site_model.specs.declared.event.Event.TheVariants as event;
 ghost use Rattle.site_audit.specs.Commands.{line_for, output_text, refused_text};
 ghost use Rattle.audit_laws.specs.Examples.{one_log, one_open, one_order, one_turn, small_site, two_lines};
-ghost use Rattle.audit_laws.specs.LegalLogs.{CanBeRun, IsLoneRun};
+ghost use Rattle.audit_laws.specs.LegalLogs.{CanBeRun, IsRunInMemory};
 ghost use Rattle.audit_laws.specs.Names.{IsWellNamed};
 ghost use Rattle.audit_laws.specs.Refilled.{asking_among, refused_from};
 ghost use Rattle.audit_laws.specs.Rereported.{refused_again, told_again};
@@ -49,6 +49,6 @@ pub fn a_turn_of_the_small_site()
 /// The small site can be run, and over one turn, in which both of its checks are ordered, its run is one of which the log is legal.
 pub fn a_run_of_the_small_site()
     ensures site { CanBeRun small_site }
-    ensures run { IsLoneRun small_site None one_turn one_log }
+    ensures run { IsRunInMemory 1 small_site None one_turn one_log }
     ensures orders { map (λ l. length l.orders) one_log ≡ 2 ∷ [] }
 {}
