@@ -1,4 +1,4 @@
--- In version two the log of a run of several callers is legal: of the turns that its blocks tell the same logs are those of a run.
+-- In version two the log of a run is legal, whatever callers it has: of the turns that its blocks tell the same logs are those of a run.
 use Rattle.std.proofs.Common.{◌≡◌, ◌<◌, ◌≤◌, ◌^◌, ℕ, suc, cond, List, [], ◌∷◌, ◌++◌, length, map, refl, sym, ap, ap₂, ◌∙◌, subst, arith, eq-eqb, Option, Some, None, lit<}
 use Rattle.std.proofs.lemmas.Slice.Eq.{bytes_eq-Decides}
 use Rattle.std.specs.List.{AllByRecursion, concat}
@@ -33,7 +33,7 @@ use Rattle.audit_laws.proofs.BlocksBack.{block_back}
 use Rattle.audit_laws.proofs.CallersTold.{turn_told_by}
 use Rattle.audit_laws.proofs.EventFacts.{all_imply}
 use Rattle.audit_laws.proofs.Lacking.{given_low}
-use Rattle.audit_laws.proofs.LegalRuns.{has, others, start_kept}
+use Rattle.audit_laws.proofs.CanRun.{has, others, start_kept}
 use Rattle.audit_laws.proofs.LogBlocks.{blocks_back}
 use Rattle.audit_laws.proofs.Opening.{number_at, order_line}
 use Rattle.audit_laws.proofs.OpensKept.{gives, kept, IsKept}
@@ -79,14 +79,14 @@ module _ (s : PlainSite) (zone : Option Tzif) (can : CanBeRun s) (callers : ℕ)
     told : IsToldBy callers s opens os st.due reports answers late l.moment (map order_line l.orders) b.rules st.histories l.round
     told =
         turn_told_by callers some s can.names opens os st.due reports answers late l.moment (map order_line l.orders) b.rules st.histories l.round tellable round_is
-        (record { callers_fit = most; checkables_fit = (let e = is.round.whole in let f = can.few in omega (arith, e, f)); entries_fit = room }) (others Two s zone can)
+        (record { callers_fit = most; checkables_fit = (let e = is.round.whole in let f = can.few in omega (arith, e, f)); entries_fit = room }) (others s zone can)
 
     named : length (full_names s) ≡ length s.checkables
     named = length_map (λ (c : PlainCheck). c.name) s.checkables
 
     read : block_read Two (names_of s) (turn_lines Two s l) ≡ Some block
     read =
-        block_back Two s (has Two s zone can) can.texts l answers os (st.due ++ reports)
+        block_back Two s (has s zone can) can.texts l answers os (st.due ++ reports)
         (is.refusals ∙ ap (λ ls. line_refusals 1 ls ++ report_refusals os (st.due ++ reports)) (answered s t.lines)) fits (all_printable s zone callers st t l is can.sound)
         (all_imply (λ (o : Ordered). o.checkable < length s.checkables) (λ o. o.checkable < length (full_names s)) (λ o lt. let e = named in omega (arith, lt, e)) l.orders
         (gives Two s zone callers some can.names st opens t l is k).counted.inside)
@@ -149,7 +149,7 @@ module _ (s : PlainSite) (zone : Option Tzif) (can : CanBeRun s) (callers : ℕ)
 
   pub run_is_legal_by : (ts : List Turn) (ls : List TurnLog) → IsRunFrom b callers (start s (no_entries s)) (map (turn_read s) ts) ls → AllByRecursion FitsLog ls → IsLegal Two b callers s (blocks_written Two s ls)
   run_is_legal_by ts ls run fits =
-      let all = walk ts ls (start s (no_entries s)) (no_orders s) run fits (start_kept Two s zone can) (lit< tt) (λ c. let e = ap (length {A = Entry}) (of_index_nothing s.checkables c) in omega (arith, e)) in
+      let all = walk ts ls (start s (no_entries s)) (no_orders s) run fits (start_kept s zone can) (lit< tt) (λ c. let e = ap (length {A = Entry}) (of_index_nothing s.checkables c) in omega (arith, e)) in
       subst (IsLegal Two b callers s) (sym (blocks_back Two s zone callers ts ls (start s (no_entries s)) run))
       (record {
         turns = all.turns;

@@ -1,5 +1,5 @@
 -- What an audit says of the log of a run: that it is legal, and nothing else.
-use Rattle.std.proofs.Common.{◌≡◌, ◌==◌, ◌||◌, ◌≤◌, ◌^◌, ℕ, arith, Bool, true, false, List, [], ◌∷◌, length, map, take, refl, sym, ap, subst, Option, Some, None}
+use Rattle.std.proofs.Common.{◌≡◌, ◌==◌, ◌||◌, ◌≤◌, ℕ, arith, Bool, true, false, List, [], ◌∷◌, length, map, take, refl, sym, ap, subst, Option, Some, None}
 use Rattle.std.specs.List.{concat, flat_map}
 use Rattle.jiff_tz.specs.declared.tzif.Tzif.{Tzif}
 use Rattle.site_edge.specs.declared.turn.Turn.{Turn}
@@ -25,7 +25,7 @@ use Rattle.site_audit.specs.declared.auditing.Verdict.TheVariants as verdict
 use Rattle.audit_laws.specs.LegalLogs.{blocks_written, CanBeRun, IsLogInMemory, IsRunInMemory}
 use Rattle.audit_laws.proofs.FittingRuns.{logs_fit}
 use Rattle.audit_laws.proofs.LegalCallers.{run_is_legal_by}
-use Rattle.audit_laws.proofs.LegalRuns.{run_is_legal}
+use Rattle.audit_laws.proofs.LegalUntold.{run_is_legal_untold}
 
 -- the text of turns, without the line of a version
 abbrev text_of : Style → PlainSite → List TurnLog → List ℕ
@@ -74,7 +74,11 @@ module _ (callers : ℕ) (style : Style) (s : PlainSite) (zone : Option Tzif) (i
 
 -- ---- the log of a run
 
-module _ (callers : ℕ) (some : 1 ≤ callers) (most : callers ≤ 2 ^ 32) (style : Style) (limit : ℕ) (s : PlainSite) (can : CanBeRun s) (turns : List Turn) (w : Whole) (h : IsLogInMemory callers style limit s turns w) where
+pub run_is_legal : (style : Style) (s : PlainSite) (zone : Option Tzif) (callers : ℕ) → CanBeRun s → 1 ≤ callers → callers ≤ 64 → (turns : List Turn) (logs : List TurnLog) → IsRunInMemory callers s zone turns logs → IsLegal style (basis_of_site s zone) callers s (blocks_written style s logs)
+run_is_legal One s zone callers can some most turns logs run = run_is_legal_untold s zone can callers some most turns logs run.run.turns run.fits
+run_is_legal Two s zone callers can some most turns logs run = run_is_legal_by s zone can callers some most turns logs run.run.turns run.fits
+
+module _ (style : Style) (limit : ℕ) (s : PlainSite) (callers : ℕ) (can : CanBeRun s) (some : 1 ≤ callers) (most : callers ≤ 64) (turns : List Turn) (w : Whole) (h : IsLogInMemory callers style limit s turns w) where
   abbrev zone : Option Tzif
   zone = h.log.are.zone
 
@@ -84,35 +88,13 @@ module _ (callers : ℕ) (some : 1 ≤ callers) (most : callers ≤ 2 ^ 32) (sty
   run_is : IsRun (basis_of_site s zone) callers (start s (no_entries s)) (map (turn_read s) (take limit turns)) logs
   run_is = subst (λ rs. IsRun (basis_of_site s zone) callers (start s (no_entries s)) rs logs) (turns_are s (take limit turns) h.log.are.reads can.sound.names h.log.are.read) h.log.are.run
 
-  run : IsRunInMemory callers s zone (take limit turns) logs
-  run = record { run = run_is; fits = logs_fit s zone callers some most can (take limit turns) logs run_is.turns h.turns_fit h.few_turns h.few_entries }
+  legal : IsLegal style (basis_of_site s zone) callers s (blocks_written style s logs)
+  legal =
+      run_is_legal style s zone callers can some most (take limit turns) logs
+      (record { run = run_is; fits = logs_fit s zone callers some (omega (arith, most)) can (take limit turns) logs run_is.turns h.turns_fit h.few_turns h.few_entries })
 
-  module _ (legal : IsLegal style (basis_of_site s zone) callers s (blocks_written style s logs)) where
-    said : IsVerdict callers s w.text verdict.Legal
-    said = subst (λ t. IsVerdict callers s t verdict.Legal) (sym h.log.text) (is_said callers style s zone h.log.are.is_zone logs legal)
+  pub said_legal : IsVerdict callers s w.text verdict.Legal
+  said_legal = subst (λ t. IsVerdict callers s t verdict.Legal) (sym h.log.text) (is_said callers style s zone h.log.are.is_zone logs legal)
 
-    only : (v : Verdict) → IsVerdict callers s w.text v → v ≡ verdict.Legal
-    only v g = is_only callers style s zone h.log.are.is_zone logs legal v (subst (λ t. IsVerdict callers s t v) h.log.text g)
-
-module _ (style : Style) (limit : ℕ) (s : PlainSite) (can : CanBeRun s) (turns : List Turn) (w : Whole) (h : IsLogInMemory 1 style limit s turns w) where
-  legal_of_one : IsLegal style (basis_of_site s h.log.are.zone) 1 s (blocks_written style s h.log.logs)
-  legal_of_one = run_is_legal style s h.log.are.zone can (take limit turns) h.log.logs (run 1 (omega arith) (omega arith) style limit s can turns w h)
-
-  pub said_legal : IsVerdict 1 s w.text verdict.Legal
-  said_legal = said 1 (omega arith) (omega arith) style limit s can turns w h legal_of_one
-
-  pub only_legal : (v : Verdict) → IsVerdict 1 s w.text v → v ≡ verdict.Legal
-  only_legal = only 1 (omega arith) (omega arith) style limit s can turns w h legal_of_one
-
-module _ (limit : ℕ) (s : PlainSite) (callers : ℕ) (can : CanBeRun s) (some : 1 ≤ callers) (most : callers ≤ 64) (turns : List Turn) (w : Whole) (h : IsLogInMemory callers Two limit s turns w) where
-  fit : callers ≤ 2 ^ 32
-  fit = omega (arith, most)
-
-  legal_by : IsLegal Two (basis_of_site s h.log.are.zone) callers s (blocks_written Two s h.log.logs)
-  legal_by = let all = run callers some fit Two limit s can turns w h in run_is_legal_by s h.log.are.zone can callers some most (take limit turns) h.log.logs all.run.turns all.fits
-
-  pub said_legal_by : IsVerdict callers s w.text verdict.Legal
-  said_legal_by = said callers some fit Two limit s can turns w h legal_by
-
-  pub only_legal_by : (v : Verdict) → IsVerdict callers s w.text v → v ≡ verdict.Legal
-  only_legal_by = only callers some fit Two limit s can turns w h legal_by
+  pub only_legal : (v : Verdict) → IsVerdict callers s w.text v → v ≡ verdict.Legal
+  only_legal v g = is_only callers style s zone h.log.are.is_zone logs legal v (subst (λ t. IsVerdict callers s t v) h.log.text g)

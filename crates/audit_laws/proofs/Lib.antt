@@ -25,6 +25,7 @@ pub mod Shown
 pub mod UntoldViews
 pub mod UntoldEntries
 pub mod UntoldRounds
+pub mod Retexting
 pub mod UntoldRuns
 pub mod Giving
 pub mod Lacking
@@ -32,7 +33,7 @@ pub mod Opening
 pub mod ByVersion
 pub mod AskedLines
 pub mod OpensKept
-pub mod WritesAgain
+pub mod ShowingAlike
 pub mod QuotedTexts
 pub mod LineTexts
 pub mod BlocksBack
@@ -43,8 +44,10 @@ pub mod OutputTexts
 pub mod DecidedNumbers
 pub mod EntryFits
 pub mod FittingRuns
-pub mod LegalRuns
+pub mod CanRun
+pub mod DealtShown
 pub mod LegalCallers
+pub mod LegalUntold
 pub mod LegalLogs
 pub mod SmallSite
 pub mod SmallRun

@@ -25,18 +25,18 @@ use Rattle.audit_laws.proofs.UntoldViews.{bare, views}
 
 -- ---- lists
 
-of_map : {A B : Type 0} (f : A → B) (k : ℕ) (xss : List (List A)) → of_index k (map (map f) xss) ≡ map f (of_index k xss)
+pub of_map : {A B : Type 0} (f : A → B) (k : ℕ) (xss : List (List A)) → of_index k (map (map f) xss) ≡ map f (of_index k xss)
 of_map f k [] = refl
 of_map f zero (xs ∷ xss) = refl
 of_map f (suc k) (xs ∷ xss) = of_map f k xss
 
 -- what stands in a list that was mapped
-record Got {A B : Type 0} (f : A → B) (xs : List A) (i : ℕ) (y : B) : Type 0 where
-  of : A
-  at : slice_get xs i ≡ Some of
-  is : f of ≡ y
+pub record Got {A B : Type 0} (f : A → B) (xs : List A) (i : ℕ) (y : B) : Type 0 where
+  pub of : A
+  pub at : slice_get xs i ≡ Some of
+  pub is : f of ≡ y
 
-got : {A B : Type 0} (f : A → B) (xs : List A) (i : ℕ) (y : B) → slice_get (map f xs) i ≡ Some y → Got f xs i y
+pub got : {A B : Type 0} (f : A → B) (xs : List A) (i : ℕ) (y : B) → slice_get (map f xs) i ≡ Some y → Got f xs i y
 got f [] i y e = absurd (let g : None ≡ Some y = e in cc)
 got f (x ∷ xs) zero y e = record { of = x; at = refl; is = same e }
   where

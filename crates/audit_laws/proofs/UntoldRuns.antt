@@ -42,7 +42,7 @@ refusals_of_lines n (faulty f ∷ ls) = ap (λ xs. refused_line n f ∷ xs) (ref
 
 -- ---- reports
 
-untold_result : (status : ℕ) (output : List ℕ) → without_texts (ordered_result status output) ≡ ordered_result (min status 3) []
+pub untold_result : (status : ℕ) (output : List ℕ) → without_texts (ordered_result status output) ≡ ordered_result (min status 3) []
 untold_result status output =
     sym (ap (λ r. event.Result r.status false r.output r.perf) (told_again empty_output.bytes [] [] (min status 3) empty_output.output_is empty_output.perf_is)
     ∙ ap (λ n. event.Result n false [] []) low)

@@ -7,7 +7,6 @@ ghost use Rattle.site_model.specs.PlainSite.{PlainSite};
 ghost use Rattle.run_meaning.specs.Runs.{IsRun, TurnLog, no_entries, start};
 ghost use Rattle.run_text.specs.TurnReading.{turn_read};
 ghost use Rattle.run_text.specs.declared.style.Style.{Style};
-ghost use Rattle.run_text.specs.declared.style.Style.TheVariants.{Two};
 ghost use Rattle.turn_engine.specs.Stages.{basis_of_site};
 ghost use Rattle.site_run.specs.Logs.{Whole};
 ghost use Rattle.site_audit.specs.Audit.{IsLegal, IsVerdict};
@@ -16,22 +15,15 @@ ghost use Rattle.site_audit.specs.declared.auditing.Verdict.TheVariants as verdi
 ghost use Rattle.audit_laws.specs.Fitting.{entries_in, FitsLog, FitsTurn};
 ghost use Rattle.audit_laws.specs.LegalLogs.{blocks_written, CanBeRun, IsLogInMemory, IsRunInMemory};
 
-/// The log that a run of one caller writes is legal, in both versions: its blocks tell turns, of which a run writes the same blocks. So an
-/// audit says of what is written that it is legal, and of no line that the log goes wrong there.
+/// The log that a run of up to 64 callers writes is legal, in both versions: its blocks tell turns, of which a run of as many writes the
+/// same blocks. So an audit says of what is written that it is legal, and of no line that the log goes wrong there.
 pub fn logs_of_runs_are_legal()
-    ensures legal { (style : Style) (s : PlainSite) (zone : Option Tzif) → CanBeRun s → (turns : List Turn) (logs : List TurnLog) → IsRunInMemory 1 s zone turns logs → IsLegal style (basis_of_site s zone) 1 s (blocks_written style s logs) }
-    ensures said { (style : Style) (limit : ℕ) (s : PlainSite) → CanBeRun s → (turns : List Turn) (w : Whole) → IsLogInMemory 1 style limit s turns w → IsVerdict 1 s w.text verdict.Legal }
-    ensures only { (style : Style) (limit : ℕ) (s : PlainSite) → CanBeRun s → (turns : List Turn) (w : Whole) → IsLogInMemory 1 style limit s turns w → (v : Verdict) → IsVerdict 1 s w.text v → v ≡ verdict.Legal }
+    ensures legal { (style : Style) (s : PlainSite) (zone : Option Tzif) (callers : ℕ) → CanBeRun s → 1 ≤ callers → callers ≤ 64 → (turns : List Turn) (logs : List TurnLog) → IsRunInMemory callers s zone turns logs → IsLegal style (basis_of_site s zone) callers s (blocks_written style s logs) }
+    ensures said { (style : Style) (limit : ℕ) (s : PlainSite) (callers : ℕ) → CanBeRun s → 1 ≤ callers → callers ≤ 64 → (turns : List Turn) (w : Whole) → IsLogInMemory callers style limit s turns w → IsVerdict callers s w.text verdict.Legal }
+    ensures only { (style : Style) (limit : ℕ) (s : PlainSite) (callers : ℕ) → CanBeRun s → 1 ≤ callers → callers ≤ 64 → (turns : List Turn) (w : Whole) → IsLogInMemory callers style limit s turns w → (v : Verdict) → IsVerdict callers s w.text v → v ≡ verdict.Legal }
 {}
 
 /// The logs of a run can stand in memory where its turns do and are at most 2^40, and where no checkable gets 2^64 entries.
 pub fn logs_of_runs_fit()
     ensures { (s : PlainSite) (zone : Option Tzif) (callers : ℕ) → CanBeRun s → 1 ≤ callers → callers ≤ 2 ^ 32 → (turns : List Turn) (logs : List TurnLog) → IsRun (basis_of_site s zone) callers (start s (no_entries s)) (map (turn_read s) turns) logs → AllByRecursion FitsTurn turns → length turns ≤ 2 ^ 40 → ((k : ℕ) → entries_in k logs < 2 ^ 64) → AllByRecursion FitsLog logs }
-{}
-
-/// In version two the log of a run of several callers is legal too, and an audit for so many says so.
-pub fn logs_of_callers_are_legal()
-    ensures legal { (s : PlainSite) (zone : Option Tzif) (callers : ℕ) → CanBeRun s → 1 ≤ callers → callers ≤ 64 → (turns : List Turn) (logs : List TurnLog) → IsRunInMemory callers s zone turns logs → IsLegal Two (basis_of_site s zone) callers s (blocks_written Two s logs) }
-    ensures said { (limit : ℕ) (s : PlainSite) (callers : ℕ) → CanBeRun s → 1 ≤ callers → callers ≤ 64 → (turns : List Turn) (w : Whole) → IsLogInMemory callers Two limit s turns w → IsVerdict callers s w.text verdict.Legal }
-    ensures only { (limit : ℕ) (s : PlainSite) (callers : ℕ) → CanBeRun s → 1 ≤ callers → callers ≤ 64 → (turns : List Turn) (w : Whole) → IsLogInMemory callers Two limit s turns w → (v : Verdict) → IsVerdict callers s w.text v → v ≡ verdict.Legal }
 {}

@@ -27,7 +27,7 @@ pub use examples::{
     a_host_with_a_service, a_run_of_the_small_site, a_turn_of_the_small_site, refused_lines,
     told_lines, told_turns,
 };
-pub use legal::{logs_of_callers_are_legal, logs_of_runs_are_legal, logs_of_runs_fit};
+pub use legal::{logs_of_runs_are_legal, logs_of_runs_fit};
 pub use lines::{lines_are_read_again, lines_are_refused_again, refusals_are_refused_again};
 pub use names::commits_name_well;
 pub use orders::{

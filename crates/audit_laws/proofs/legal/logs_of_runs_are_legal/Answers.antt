@@ -1,5 +1,4 @@
-use Rattle.audit_laws.proofs.LegalLogs.{only_legal, said_legal}
-use Rattle.audit_laws.proofs.LegalRuns.{run_is_legal}
+use Rattle.audit_laws.proofs.LegalLogs.{only_legal, run_is_legal, said_legal}
 use Rattle.audit_laws.proofs.legal.logs_of_runs_are_legal.Goals as goal
 
 pub returns-clause-legal : goal.returns-clause-legal
