@@ -5,9 +5,10 @@ use crate::heard::Heard;
 use crate::watched::Watched;
 use live_world::LiveWorld;
 use post_turn::OpenGate;
-use site_base::{OutOfMemory, Text};
-use site_edge::{DiskFiles, OutSink};
-use site_program::{self, Status};
+use site_base::{OutOfMemory, Text, Texts};
+use site_edge::{DiskFiles, Files, OutSink, Sink, Unread, World};
+use site_program::{self, Remarks, Status};
+use std::alloc::Global;
 use std::cell::Cell;
 use std::env;
 use std::io::ErrorKind;
@@ -58,32 +59,38 @@ pub(crate) fn run<R: Wait + Threads + Sync, T: Threads + Drop>(
 /// The words of a command line without `--quiet`, and whether that stood among them.
 #[derive(Drop)]
 struct Words {
-    words: Vec<Text>,
+    words: Texts,
     quiet: bool,
 }
 
-/// The words of the command line; one that isn't UTF-8 is a wrong use. `--quiet` is taken out once.
+impl Words {
+    /// Adds a word; the first `--quiet` is noted in its place.
+    fn take(&mut self, alloc: Global, word: &str) -> Result<(), OutOfMemory> {
+        if word == "--quiet" && !self.quiet {
+            self.quiet = true;
+            return Ok(());
+        }
+        self.words.push(Text::copy_of(alloc, word)?)
+    }
+}
+
+/// The words of the command line; one that isn't UTF-8 is a wrong use.
 fn words_of(rt: &HostRuntime) -> Result<Words, Status> {
     let args = match env::args(rt) {
         Ok(args) => args,
         Err(error) if error.kind() == ErrorKind::OutOfMemory => return Err(Status::OutOfMemory),
         Err(_) => return Err(Status::Usage),
     };
-    let mut words = Vec::new(rt.alloc());
-    let mut quiet = false;
+    let mut words = Words {
+        words: Texts::new(rt.alloc()),
+        quiet: false,
+    };
     for word in args.skip(1) {
-        if !quiet && word.as_str() == "--quiet" {
-            quiet = true;
-            continue;
-        }
-        let Ok(text) = Text::copy_of(rt.alloc(), word.as_str()) else {
-            return Err(Status::OutOfMemory);
-        };
-        if words.push(text).is_err() {
+        if words.take(rt.alloc(), word.as_str()).is_err() {
             return Err(Status::OutOfMemory);
         }
     }
-    Ok(Words { words, quiet })
+    Ok(words)
 }
 
 /// Does what the words ask for, over the real files and standard output.
@@ -114,30 +121,57 @@ fn run_over<R: Wait + Threads + Sync, T: Threads + Drop>(
     let Ok(world) = world_of(rt, threads) else {
         return Status::OutOfMemory;
     };
-    let Words { words, quiet } = words;
-    let alloc = rt.alloc();
     let limit = Cell::new(0);
     let mut files = DiskFiles::new(rt);
     let mut world = Watched::new(rt, world, &limit);
-    let mut out = Counted::new(OutSink::new(alloc, rt));
-    let mut remarks = Heard::new(rt, *quiet, &limit);
-    let status = site_program::run(
+    let mut out = Counted::new(OutSink::new(rt.alloc(), rt));
+    let mut remarks = Heard::new(rt, words.quiet, &limit);
+    let status = run_program(
+        rt.alloc(),
         turns,
-        alloc,
-        words,
+        words.words.as_slice(),
         &mut files,
         &mut world,
         &mut out,
         &mut remarks,
-        &OpenGate,
     );
+    say_ended(
+        rt,
+        words.words.as_slice(),
+        status,
+        out.lines(),
+        files.unread(),
+    );
+    status
+}
+
+/// Does what the words ask for over these files, world and output.
+fn run_program<R: Wait + Threads + Sync, F: Files, W: World, S: Sink, N: Remarks>(
+    alloc: Global,
+    turns: &R,
+    words: &[Text],
+    files: &mut F,
+    world: &mut W,
+    out: &mut S,
+    remarks: &mut N,
+) -> Status {
+    site_program::run(turns, alloc, words, files, world, out, remarks, &OpenGate)
+}
+
+/// Says on standard error what a status alone doesn't tell, after a run that put so many lines to standard output.
+fn say_ended(
+    rt: &HostRuntime,
+    words: &[Text],
+    status: Status,
+    lines: u64,
+    unread: Option<&Unread>,
+) {
     match status {
-        Status::Diagnosed => say_diagnosed(rt, words, out.lines()),
+        Status::Diagnosed => say_diagnosed(rt, words, lines),
         Status::Usage => say_misuse(rt, words),
-        Status::ReadFault => say_unread(rt, files.unread()),
+        Status::ReadFault => say_unread(rt, unread),
         _ => {}
     }
-    status
 }
 
 /// The clock, standard input and check programs, each of which a thread waits for.

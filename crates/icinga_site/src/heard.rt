@@ -1,6 +1,7 @@
 // Standard error, for what is remarked of a site.
 ghost use Rattle.std.specs.Prelude.{None};
 
+use crate::said::say;
 use site_base::OutOfMemory;
 use site_edge::{DiskFiles, Files};
 use site_program::{Remark, Remarks};
@@ -36,7 +37,7 @@ impl Remarks for Heard<'_> {
 
     fn tell(&mut self, remark: &Remark) -> Result<(), OutOfMemory> {
         if self.is_told(remark) {
-            let _ = eprintln!(self.rt; "icinga_site: {remark}");
+            say(self.rt, "", remark, "");
         }
         Ok(())
     }

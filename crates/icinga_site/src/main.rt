@@ -5,8 +5,10 @@ mod command_line;
 mod complaint;
 mod counted;
 mod heard;
+mod said;
 mod watched;
 
+use crate::said::say;
 use site_program::Status;
 use std::process::ExitCode;
 
@@ -16,7 +18,7 @@ fn main(rt: HostRuntime) -> ExitCode {
         Err(_) => Status::OutOfMemory,
     };
     if status.number() > 1 {
-        let _ = eprintln!(rt; "icinga_site: {status}");
+        say(&rt, "", status, "");
     }
     ExitCode::from(status.number())
 }

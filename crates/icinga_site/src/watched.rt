@@ -1,6 +1,7 @@
 // The world, and whether as many checks as may be have been outstanding for long.
 ghost use Rattle.std.specs.Prelude.{◌≡◌};
 
+use crate::said::say;
 use site_base::Moment;
 use site_edge::{Order, Turn, World, WorldError};
 use std::cell::Cell;
@@ -59,8 +60,11 @@ impl<'a, W: World + Drop> Watched<'a, W> {
         ensures { self.new.world ≡ self.old.world }
     {
         if !self.told {
-            let _ = eprintln!(self.rt;
-                "icinga_site: for five minutes as many checks have been outstanding as MaxConcurrentChecks allows: {limit}; others wait"
+            say(
+                self.rt,
+                "for five minutes as many checks have been outstanding as MaxConcurrentChecks allows: ",
+                limit,
+                "; others wait",
             );
         }
         self.told = true;
@@ -70,8 +74,11 @@ impl<'a, W: World + Drop> Watched<'a, W> {
         ensures { self.new.world ≡ self.old.world }
     {
         if self.told {
-            let _ = eprintln!(self.rt;
-                "icinga_site: fewer checks are outstanding than MaxConcurrentChecks allows"
+            say(
+                self.rt,
+                "fewer checks are outstanding than MaxConcurrentChecks allows",
+                "",
+                "",
             );
         }
         self.full = None;

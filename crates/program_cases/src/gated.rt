@@ -1,4 +1,5 @@
 // Workers that are held up at a gate until others have come somewhere.
+use crate::words::{cut, number_or};
 use post_turn::{Gate, GatePoint};
 use site_base::OutOfMemory;
 use std::alloc::Global;
@@ -20,12 +21,12 @@ struct At {
 impl At {
     /// Reads `0 inside 2` or `0 outside 2`.
     fn read(text: &str) -> At {
-        let (worker, rest) = text.split_once(' ').unwrap_or((text, ""));
-        let (place, checkable) = rest.split_once(' ').unwrap_or((rest, ""));
+        let (worker, rest) = cut(text, ' ');
+        let (place, checkable) = cut(rest, ' ');
         At {
-            worker: worker.parse::<u64>().unwrap_or(u64::MAX),
+            worker: number_or(worker, u64::MAX),
             inside: place == "inside",
-            checkable: checkable.parse::<u64>().unwrap_or(u64::MAX),
+            checkable: number_or(checkable, u64::MAX),
         }
     }
 
@@ -65,6 +66,20 @@ impl Hold {
         }
     }
 
+    /// Lets the worker go on if this caller is the other one.
+    fn release(&self, caller: u32, point: GatePoint) {
+        if self.until.is(caller, point) {
+            self.come.store(1, Ordering::SeqCst);
+        }
+    }
+
+    /// Holds this caller up if it is the worker.
+    fn hold(&self, caller: u32, point: GatePoint) {
+        if self.at.is(caller, point) {
+            self.wait();
+        }
+    }
+
     /// Waits until the other has come, or the limit is reached.
     fn wait(&self) {
         for _ in 0..LIMIT {
@@ -74,6 +89,10 @@ impl Hold {
             thread::yield_now();
         }
         self.late.store(1, Ordering::SeqCst);
+    }
+
+    fn is_late(&self) -> bool {
+        self.late.load(Ordering::SeqCst) == 1
     }
 }
 
@@ -97,23 +116,30 @@ impl Held {
 
     /// Whether some worker was held up until the limit was reached.
     pub(crate) fn is_late(&self) -> bool {
-        self.holds
-            .iter()
-            .any(|hold| hold.late.load(Ordering::SeqCst) == 1)
+        for hold in &self.holds {
+            if hold.is_late() {
+                return true;
+            }
+        }
+        false
     }
 }
 
 impl Gate for Held {
     fn enter(&self, caller: u32, point: GatePoint) {
-        for hold in &self.holds {
-            if hold.until.is(caller, point) {
-                hold.come.store(1, Ordering::SeqCst);
-            }
-        }
-        for hold in &self.holds {
-            if hold.at.is(caller, point) {
-                hold.wait();
-            }
-        }
+        release_all(&self.holds, caller, point);
+        hold_all(&self.holds, caller, point);
+    }
+}
+
+fn release_all(holds: &[Hold], caller: u32, point: GatePoint) {
+    for hold in holds {
+        hold.release(caller, point);
+    }
+}
+
+fn hold_all(holds: &[Hold], caller: u32, point: GatePoint) {
+    for hold in holds {
+        hold.hold(caller, point);
     }
 }

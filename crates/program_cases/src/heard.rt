@@ -1,7 +1,7 @@
 // What is remarked of a site.
 ghost use Rattle.std.specs.Prelude.{None};
 
-use site_base::{OutOfMemory, Text};
+use site_base::{OutOfMemory, Text, Texts};
 use site_program::{Remark, Remarks};
 use std::alloc::Global;
 
@@ -9,14 +9,14 @@ use std::alloc::Global;
 #[derive(Drop)]
 pub(crate) struct Heard {
     alloc: Global,
-    lines: Vec<Text>,
+    lines: Texts,
 }
 
 impl Heard {
     pub(crate) fn new(alloc: Global) -> Heard {
         Heard {
             alloc,
-            lines: Vec::new(alloc),
+            lines: Texts::new(alloc),
         }
     }
 
@@ -29,10 +29,12 @@ impl Remarks for Heard {
     ghost remarked = { λ _. None };
 
     fn tell(&mut self, remark: &Remark) -> Result<(), OutOfMemory> {
-        let line = format!(in self.alloc; "{remark}")?;
-        self.lines.push(Text::copy_of(self.alloc, line.as_str())?)?;
-        Ok(())
+        self.lines.push(line_of(self.alloc, remark)?)
     }
 
     fn limit(&mut self, _checks: u32) {}
+}
+
+fn line_of(alloc: Global, remark: &Remark) -> Result<Text, OutOfMemory> {
+    Text::of_string(alloc, remark.to_string(alloc)?)
 }

@@ -1,15 +1,14 @@
 // The log of a limited number of turns.
 use crate::case::Case;
-use crate::outcome::{push_lines, push_started, push_status};
+use crate::outcome::{push_output, push_started, push_status};
+use crate::scene::Scene;
 use run_text::Style;
 use site_base::{OutOfMemory, Text};
-use site_edge::{Files, MemFiles, MemSink, MemWorld, Sink, World};
+use site_edge::{Files, MemWorld, Sink, World};
 use site_load::config_answer;
 use site_phases::Answer;
 use site_run::{NoFeed, OneWorker, Status, write_log};
-use site_text::{ScriptError, read_script};
 use std::alloc::Global;
-use std::str;
 use turn_engine::Engine;
 
 /// No row takes more turns.
@@ -17,49 +16,47 @@ const MOST: u64 = 1_000;
 
 /// Writes the log of a world in memory over the site of a row's files, of which so many turns are taken at most, and adds the status, the
 /// lines and the orders that were started.
-pub(crate) fn push_limited(alloc: Global, out: &mut Text, case: Case) -> Result<(), OutOfMemory> {
-    let Case {
-        words,
-        files,
-        reads,
-        puts,
-        turns,
-        world,
-        held: _,
-        either: _,
-        remarks: _,
-    } = case;
-    let [limit, root] = words.as_slice() else {
+pub(crate) fn push_limited(out: &mut Text, case: &mut Case) -> Result<(), OutOfMemory> {
+    match case.mem_world()? {
+        Some(mut world) => {
+            push_log(out, case, &mut world)?;
+            push_started(out, world.started())
+        }
+        None => out.push_str("  →  no such world"),
+    }
+}
+
+fn push_log(out: &mut Text, case: &mut Case, world: &mut MemWorld) -> Result<(), OutOfMemory> {
+    let mut scene = Scene::of(case);
+    let Some((limit, root)) = limit_and_root(case.words.as_slice()) else {
         return out.push_str("  →  no limit and root");
     };
-    let Ok(limit) = limit.as_str().parse::<u64>() else {
-        return out.push_str("  →  no limit");
-    };
-    let script = match read_script(alloc, world.as_slice()) {
-        Ok(script) => script,
-        Err(ScriptError::BadScript { .. }) => return out.push_str("  →  no such world"),
-        Err(ScriptError::OutOfMemory) => return Err(OutOfMemory),
-    };
-    let mut files = MemFiles::new(alloc, files, reads);
-    let mut world = MemWorld::new(alloc, script, turns);
-    let mut sink = MemSink::new(alloc, puts);
-    let Some(status) = limited(
-        alloc,
+    let status = limited(
+        case.alloc,
         limit,
-        root.as_str(),
-        &mut files,
-        &mut world,
-        &mut sink,
-    ) else {
+        root,
+        &mut scene.files,
+        world,
+        &mut scene.sink,
+    );
+    push_ended(out, status, scene.sink.written())
+}
+
+fn limit_and_root(words: &[Text]) -> Option<(u64, &str)> {
+    match words {
+        [limit, root] => Some((limit.as_str().parse::<u64>().ok()?, root.as_str())),
+        _ => None,
+    }
+}
+
+/// Adds with what a log ended, and its lines.
+fn push_ended(out: &mut Text, status: Option<Status>, written: &[u8]) -> Result<(), OutOfMemory> {
+    let Some(status) = status else {
         return out.push_str("  →  no site");
     };
     out.push_str("  →  ")?;
     push_status(out, status)?;
-    match str::from_utf8(sink.written()) {
-        Ok(text) => push_lines(out, text)?,
-        Err(_) => out.push_str("\n  no text")?,
-    }
-    push_started(alloc, out, world.started())
+    push_output(out, written)
 }
 
 /// With what such a log ends; `None` where there is no site.

@@ -12,26 +12,44 @@ mod heard;
 mod limited;
 mod named;
 mod outcome;
+mod scene;
 mod table;
 mod told;
+mod words;
 
-use crate::table::run_table;
+use crate::table::{run_table, say_of};
 use site_edge::{DiskFiles, Files};
 use std::io::{BufRead, BufReader};
+use std::sync::Wait;
+use std::thread::Threads;
 
 fn main(rt: HostRuntime) -> anyhow::Result<()> {
+    let threads = rt.clone()?;
     // All names are read first: over the real world standard input has then ended.
+    let names = names_of(&rt)?;
+    for name in &names {
+        run_named(&rt, &threads, name.as_str())?;
+    }
+    Ok(())
+}
+
+/// The lines of standard input.
+fn names_of(rt: &HostRuntime) -> anyhow::Result<Vec<String>> {
     let mut names = Vec::new(rt.alloc());
     for line in BufReader::new(rt.alloc(), rt.reader())?.lines(rt.alloc()) {
         names.push(line?)?;
     }
-    let threads = rt.clone()?;
-    let mut files = DiskFiles::new(&rt);
-    for name in names.as_slice() {
-        match files.read(name.as_str()) {
-            Ok(Some(text)) => run_table(&rt, &threads, name.as_str(), text.as_slice())?,
-            _ => println!(rt; "{}: can't be read", name.as_str())?,
-        }
+    Ok(names)
+}
+
+/// Runs the rows of a table in a file.
+fn run_named<T: Wait + Threads + Sync + Clone + Drop>(
+    rt: &HostRuntime,
+    threads: &T,
+    name: &str,
+) -> anyhow::Result<()> {
+    match DiskFiles::new(rt).read(name) {
+        Ok(Some(text)) => run_table(rt, threads, name, text.as_slice()),
+        _ => say_of(rt, name, "can't be read"),
     }
-    Ok(())
 }
