@@ -142,7 +142,7 @@ program, wrapper, allocator, *sections = sys.argv[1:]
 SECONDS = 30
 NOBODY = 65534
 LAST = 2**64 - 1
-NAMES = ["Done", "Diagnosed", "Usage", "ReadFault", "WriteFault", "WorldFault", "OutOfMemory", "TurnsSpent"]
+NAMES = ["Done", "Diagnosed", "Usage", "ReadFault", "WriteFault", "WorldFault", "OutOfMemory", "TurnsSpent", "NotLegal"]
 ROOT = os.getuid() == 0
 
 BASE = """object CheckCommand "c" { command = [ "true" ] }
@@ -186,6 +186,10 @@ WORDS = {
     "query": "query site script query",
     "query, big": "query big big.script query",
     "resume": "resume site state script",
+    "keep": "keep site script",
+    "keep, big": "keep big big.script",
+    "audit": "audit site log",
+    "audit, not legal, workers": "audit site wrong.log --workers 4",
     "gen": "gen 20",
     "daemon": "daemon live --log 2",
     "daemon, workers, after a state": "daemon site state --workers 4 --recur",
@@ -196,6 +200,10 @@ LINE = re.compile(rb'log 2|turn \d+ \d+|order \d+ "h\d"( "[^"]*")*|refused line 
 for name, text in FILES.items():
     os.makedirs(os.path.dirname(name) or ".", exist_ok=True)
     with open(name, "w", encoding="utf-8") as file:
+        file.write(text)
+log = subprocess.run([program, "replay", "site", "script"], stdout=subprocess.PIPE, check=True).stdout
+for name, text in (("log", log), ("wrong.log", log.replace(b"Down SOFT 1", b"Down HARD 1", 1))):
+    with open(name, "wb") as file:
         file.write(text)
 
 rights = {}
@@ -269,7 +277,7 @@ def right(what):
     """The output of a run that nothing fails, and its status."""
     if what not in rights:
         rights[what] = run(what, WORDS[what])
-        if rights[what][0] != {"check, faulty": 1, "wrong words": 2}.get(what, 0):
+        if rights[what][0] != {"check, faulty": 1, "wrong words": 2, "audit, not legal, workers": 8}.get(what, 0):
             sys.exit(f"{what}, with all that it needs: {rights[what]}")
     return rights[what]
 
@@ -426,6 +434,7 @@ def files():
         "the state file of a daemon is a folder": ("daemon site folder", "folder"),
         "the script behind a state file is a folder": ("resume site state folder", "folder"),
         "the query is a folder": ("query site script folder", "folder"),
+        "the log is a folder": ("audit site folder", "folder"),
     }
     for where, (words, path) in of_folders.items():
         rights[where] = nothing
@@ -450,7 +459,7 @@ def files():
     rights["mem"] = nothing
     expect("mem", run("", "check /proc/self/mem"), 3, "a file that can't be read", "icinga_site: can't read /proc/self/mem: Input/output error")
     rights["no end"] = (6, b"", b"")
-    for words in ("check /dev/zero", "replay site /dev/zero", "resume site /dev/zero script", "query site script /dev/zero"):
+    for words in ("check /dev/zero", "replay site /dev/zero", "resume site /dev/zero script", "query site script /dev/zero", "audit site /dev/zero"):
         expect("no end", run("", words, limits=[(resource.RLIMIT_AS, 100 << 20)]), 6, f"{words}, with 100 MB")
     # Standard input of a daemon that can't be read.
     rights["daemon's input"] = (5, b"", b"")
@@ -470,8 +479,9 @@ def files():
         print("reads that are refused aren't tried: it takes root")
         return
     # Reads that are refused, to who isn't root.
-    for name in ("walk/root", "walk/one", "walk/conf.d", "walk/conf.d/two.conf", "script", "state", "query"):
-        words = {"script": "replay site script", "state": "resume site state script", "query": "query site script query"}.get(name, "check walk/root")
+    of_words = {"script": "replay site script", "state": "resume site state script", "query": "query site script query", "log": "audit site log"}
+    for name in ("walk/root", "walk/one", "walk/conf.d", "walk/conf.d/two.conf", *of_words):
+        words = of_words.get(name, "check walk/root")
         mode = os.stat(name).st_mode
         os.chmod(name, 0)
         rights["refused"] = nothing
