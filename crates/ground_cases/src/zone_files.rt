@@ -5,7 +5,7 @@ use std::alloc::{AllocError, Global};
 fn push_head(out: &mut Vec<u8>, times: u32, types: u32, characters: u32) -> Result<(), AllocError> {
     out.extend_from_slice(b"TZif2")?;
     out.extend_from_slice(&[0; 15])?;
-    for count in [0, 0, 0, times, types, characters] {
+    for count in &[0, 0, 0, times, types, characters] {
         out.extend_from_slice(&count.to_be_bytes())?;
     }
     Ok(())
@@ -43,7 +43,7 @@ pub(crate) fn with_summer(alloc: Global, rule: &str) -> Result<Vec<u8>, AllocErr
 fn push_summer(out: &mut Vec<u8>, rule: &str) -> Result<(), AllocError> {
     push_head(out, 2, 2, 9)?;
     // 2024-03-31 and 2024-10-27, each at 01:00 in UTC.
-    for time in [1_711_846_800_i64, 1_729_990_800] {
+    for time in &[1_711_846_800_i64, 1_729_990_800] {
         out.extend_from_slice(&time.to_be_bytes())?;
     }
     push_types(out)?;
