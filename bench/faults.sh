@@ -293,6 +293,8 @@ def judge(what, got, allowed, where, whole_of=None):
         wrong = "it hangs"
     elif status < 0:
         wrong = f"a signal ends it: {-status}"
+    elif status == 127 and not out and b"error while loading shared libraries" in said:
+        wrong = None  # The machine has too little memory to load the program, so it never began.
     elif status not in allowed and status != wanted[0]:
         wrong = f"it ends with {status}"
     elif status > 1 and not said.endswith(f"icinga_site: {NAMES[status]}\n".encode()) and "stderr" not in where:
