@@ -7,13 +7,28 @@ use eval_work::{SourceFile, Stop};
 use site_base::{DiagKind, OutOfMemory, Text};
 use std::alloc::Global;
 use std::test::Fail;
-use std::thread::Builder;
+use std::thread::{Builder, Threads};
 
 /// The stack of each thread, which a worker has too.
 const STACK: usize = 2 << 20;
 
 /// One less than brackets may be open.
 const CALLS: u32 = 99;
+
+/// Functions that call themselves.
+const FORMS: [&str; 11] = [
+    "function f() { f() }\nf()",
+    "f = () => f()\nf()",
+    "f = (v) => f(f(v))\nf(1)",
+    "f = (v) => [ v ].map(f)\nf(1)",
+    "f = (v) => [ v ].any((w) => f(w))\nf(1)",
+    "f = (v) => { a = f(v) }\nf(1)",
+    "d = { f = () => d.f() }\nd.f()",
+    "d = { f = () => this[\"f\"]() }\nd.f()",
+    "function f() { if (f()) { } }\nf()",
+    "function f() { for (x in [ 1 ]) { f() } }\nf()",
+    "function f() { object Host f() { } }\nf()",
+];
 
 /// The tree of a text; none where it isn't one of the language.
 fn tree_of(alloc: Global, text: &Text) -> Option<File> {
@@ -30,17 +45,25 @@ fn tree_of(alloc: Global, text: &Text) -> Option<File> {
     }
 }
 
+/// A text as the only file; none where it isn't one of the language.
+fn files_of(alloc: Global, text: &Text) -> Result<Vec<SourceFile>, OutOfMemory> {
+    let mut files = Vec::new(alloc);
+    if let Some(file) = tree_of(alloc, text) {
+        files.push(SourceFile {
+            name: Text::copy_of(alloc, "r")?,
+            builtin: false,
+            file,
+        })?;
+    }
+    Ok(files)
+}
+
 /// What the load of a text as the only file comes to; want of memory stands for a text that isn't one of the language too.
 fn load(alloc: Global, text: &Text) -> Result<(), Stop> {
-    let Some(file) = tree_of(alloc, text) else {
+    let files = files_of(alloc, text)?;
+    if files.is_empty() {
         return Err(Stop::Memory);
-    };
-    let mut files = Vec::new(alloc);
-    files.push(SourceFile {
-        name: Text::copy_of(alloc, "r")?,
-        builtin: false,
-        file,
-    })?;
+    }
     eval_files(alloc, &files, &[0, 0])?;
     Ok(())
 }
@@ -53,28 +76,19 @@ fn is_too_deep(alloc: Global, text: &Text) -> bool {
     }
 }
 
+/// The same in a thread with little stack.
+fn is_too_deep_within<R: Threads>(rt: &R, alloc: Global, text: Text) -> Result<bool, Fail> {
+    let thread = Builder::new()
+        .stack_size(STACK)
+        .spawn(rt, move || is_too_deep(alloc, &text))?;
+    Ok(thread.join(rt))
+}
+
 #[test]
 fn the_deepest_calls_take_little_stack(rt: HostRuntime) -> Result<(), Fail> {
-    let forms = [
-        "function f() { f() }\nf()",
-        "f = () => f()\nf()",
-        "f = (v) => f(f(v))\nf(1)",
-        "f = (v) => [ v ].map(f)\nf(1)",
-        "f = (v) => [ v ].any((w) => f(w))\nf(1)",
-        "f = (v) => { a = f(v) }\nf(1)",
-        "d = { f = () => d.f() }\nd.f()",
-        "d = { f = () => this[\"f\"]() }\nd.f()",
-        "function f() { if (f()) { } }\nf()",
-        "function f() { for (x in [ 1 ]) { f() } }\nf()",
-        "function f() { object Host f() { } }\nf()",
-    ];
-    for form in forms {
-        let alloc = rt.alloc();
-        let text = Text::copy_of(alloc, form)?;
-        let thread = Builder::new()
-            .stack_size(STACK)
-            .spawn(&rt, move || is_too_deep(alloc, &text))?;
-        assert!(rt; thread.join(&rt));
+    let alloc = rt.alloc();
+    for form in &FORMS {
+        assert!(rt; is_too_deep_within(&rt, alloc, Text::copy_of(alloc, form)?)?);
     }
     Ok(())
 }
@@ -95,12 +109,8 @@ fn calls_among_arguments(alloc: Global) -> Result<Text, OutOfMemory> {
 
 #[test]
 fn calls_among_arguments_take_little_stack(rt: HostRuntime) -> Result<(), Fail> {
-    let alloc = rt.alloc();
-    let text = calls_among_arguments(alloc)?;
-    let thread = Builder::new()
-        .stack_size(STACK)
-        .spawn(&rt, move || is_too_deep(alloc, &text))?;
-    assert!(rt; thread.join(&rt));
+    let text = calls_among_arguments(rt.alloc())?;
+    assert!(rt; is_too_deep_within(&rt, rt.alloc(), text)?);
     Ok(())
 }
 

@@ -1,6 +1,6 @@
 use Rattle.std.proofs.Common.{◌≡◌, length}
 use Rattle.dsl_value.specs.Whole.{Names}
-use Rattle.language_tests.proofs.stores.a_deep_value_is_walked_in_time.Given as goal
+use Rattle.language_tests.proofs.stores.deep_value.Given as goal
 
 abbrev pub invariant-loop-made : goal.invariant-loop-made
-invariant-loop-made g l = (length l.store.cells ≡ l.made) × ((length l.store.functions ≡ 1) × Names l.made 1 l.inner)
+invariant-loop-made l = (length l.store.cells ≡ l.made) × ((length l.store.functions ≡ 1) × Names l.made 1 l.inner)
