@@ -43,7 +43,7 @@ done
 # clocked ROOT WORKERS: the seconds by the clock, those of the processor and the kilobytes of peak memory of the fastest of three runs
 clocked() {
     for _ in 1 2 3; do
-        /usr/bin/time -f '%e %U %S %M' -o "$work/time" "$program" check "$1" --workers "$2" >"$work/out"
+        /usr/bin/time -f '%e %U %S %M' -o "$work/time" "$program" check "$1" --workers "$2" --quiet >"$work/out"
         awk '{ print $1, $2 + $3, $4 }' "$work/time"
     done | sort -n | head -1
 }
