@@ -1,6 +1,6 @@
 -- Changing a cell of two layers.
 use Rattle.std.proofs.Common.{◌≡◌, ℕ, zero, suc, ◌-◌, ◌<◌, ◌≤◌, List, [], ◌∷◌, ◌++◌, length, set, Result, Ok, Err, OnOk, refl, sym, ap, subst, ◌∙◌, arith}
-use Rattle.dsl_value.specs.Contents.{Contained, PlainCell, cell_at, with_cell}
+use Rattle.dsl_value.specs.Contents.{Contained, PlainCell, cell_at}
 use Rattle.dsl_value.specs.Parts.{beside}
 use Rattle.dsl_value.proofs.Kept.{at_live, set_live}
 

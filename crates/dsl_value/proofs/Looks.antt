@@ -1,8 +1,8 @@
 -- A walk over the elements of one cell, once each is counted and looked at.
-use Rattle.std.proofs.Common.{◌≡◌, ℕ, ◌+◌, ◌-◌, ◌<◌, ◌≤◌, List, ◌∷◌, length, map, Some, Ok, Err, sym, ap, subst, ◌∙◌}
+use Rattle.std.proofs.Common.{◌≡◌, ℕ, ◌+◌, ◌-◌, ◌<◌, ◌≤◌, List, ◌∷◌, length, map, Some, Err, sym, ap, subst, ◌∙◌}
 use Rattle.site_base.specs.Data.{Data}
 use Rattle.dsl_value.specs.Contents.{PlainCell, cell_at}
-use Rattle.dsl_value.specs.Walks.{most, Walk, walked, stopped, ◌>>=◌, Walker, value_walked, walk, outcome, Stops}
+use Rattle.dsl_value.specs.Walks.{most, Walk, walked, stopped, Walker, value_walked, walk, outcome, Stops}
 use Rattle.dsl_value.specs.Paths.{next_value, key_bytes, with_child, inside_walk, from_here, going_with}
 use Rattle.dsl_value.specs.Entering.{Entered, cell_of}
 use Rattle.dsl_value.specs.declared.value.Value.{Value}

@@ -12,6 +12,9 @@ use std::alloc::Global;
 use std::marker::Model;
 use std::sync::Arc;
 
+/// There is room for so many cells once there is one.
+pub(crate) const ROOM: usize = 8;
+
 /// Cells and functions that several stores may share. It takes no memory before something is in it.
 #[derive(Drop)]
 pub(crate) struct Layer {
@@ -177,7 +180,7 @@ impl Layer {
 fn part_of_cell(alloc: Global, cell: Cell) -> Result<Arc<Part>, OutOfMemory>
     ensures { IfOk result (λ p. part_of p ≡ record { cells = plain cell ∷ []; functions = [] }) }
 {
-    let mut cells = Vec::new(alloc);
+    let mut cells = Vec::with_capacity(alloc, ROOM)?;
     cells.push(cell)?;
     let functions = Vec::new(alloc);
     Ok(Arc::new(alloc, Part { cells, functions })?)

@@ -8,6 +8,12 @@ use std::alloc::Global;
 use std::cmp::Ordering;
 use std::collections::BTreeMap;
 
+/// So many pairs at most are sorted by being put in one after another.
+const FEW: usize = 32;
+
+/// A row has room for so many pairs once one is put into it.
+const ROOM: usize = 8;
+
 /// Where a key stands, or where it would go.
 fn place_of(pairs: &[(Text, Value)], key: &str) -> Result<usize, usize>
     requires { T (is_sorted pairs.now) }
@@ -71,6 +77,22 @@ pub(crate) fn put_pair(
     }
 }
 
+/// The same in a row that others are put into as well. It takes room for some of them at once.
+pub(crate) fn put_with_room(
+    pairs: &mut Vec<(Text, Value)>,
+    key: &Text,
+    value: Value,
+) -> Result<(), OutOfMemory>
+    requires { T (is_sorted pairs.old.items) }
+    ensures ok { OnOk result (pairs.new.items ≡ put key.now value pairs.old.items) }
+    ensures err { OnErr result (pairs.new.items ≡ pairs.old.items) }
+{
+    if pairs.is_empty() {
+        pairs.reserve(ROOM)?;
+    }
+    put_pair(pairs, key, value)
+}
+
 /// Takes a key's pair out.
 pub(crate) fn remove_pair(pairs: &mut Vec<(Text, Value)>, key: &str)
     requires { T (is_sorted pairs.old.items) }
@@ -88,7 +110,7 @@ pub(crate) fn remove_pair(pairs: &mut Vec<(Text, Value)>, key: &str)
 fn rises(pairs: &[(Text, Value)]) -> bool
     ensures { IsTrue result → T (is_sorted pairs.now) }
 {
-    pairs.is_sorted_by(|one, next| one.0.as_str() < next.0.as_str())
+    pairs.is_sorted_by(|one, next| key_order(one.0.as_str(), next.0.as_str()).is_lt())
 }
 
 /// Sorts pairs by their keys. Of equal keys the last has its value kept. Pairs that rise, as most do, stay as they are.
@@ -101,10 +123,24 @@ pub(crate) fn sorted_pairs(
     if rises(&pairs) {
         return Ok(pairs);
     }
+    if pairs.len() <= FEW {
+        return put_in_turn(alloc, pairs);
+    }
     pairs_by_key(alloc, pairs)
 }
 
-/// The same for pairs that needn't rise. It isn't inlined, so that those that rise don't pay for its room.
+/// The same for few pairs, each of which is put among those before it.
+fn put_in_turn(alloc: Global, pairs: Vec<(Text, Value)>) -> Result<Vec<(Text, Value)>, OutOfMemory>
+    ensures { IfOk result (λ v. v.items ≡ dict_of pairs.items []) }
+{
+    let mut sorted = Vec::with_capacity(alloc, pairs.len())?;
+    for (key, value) in pairs {
+        put_pair(&mut sorted, &key, value)?;
+    }
+    Ok(sorted)
+}
+
+/// The same for any number of pairs. It isn't inlined, so that those that rise don't pay for its room.
 #[inline(never)]
 fn pairs_by_key(alloc: Global, pairs: Vec<(Text, Value)>) -> Result<Vec<(Text, Value)>, OutOfMemory>
     ensures { IfOk result (λ v. v.items ≡ dict_of pairs.items []) }

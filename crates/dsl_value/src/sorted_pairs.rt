@@ -5,7 +5,7 @@ ghost use Rattle.dsl_value.specs.PairsKept.{pairs_kept};
 
 use crate::Value;
 use crate::pair_rows::PairRows;
-use crate::pairs::{put_pair, remove_pair, sorted_pairs, value_of};
+use crate::pairs::{put_with_room, remove_pair, sorted_pairs, value_of};
 use crate::pairs_left::PairsLeft;
 use site_base::{OutOfMemory, Text};
 use std::alloc::Global;
@@ -216,7 +216,7 @@ fn put_kept(alloc: Global, kept: &mut Kept, key: &Text, value: Value) -> Result<
     ensures sorted { T (is_sorted (pairs_kept kept.new)) }
 {
     match kept {
-        Kept::Row(row) => put_pair(row, key, value),
+        Kept::Row(row) => put_with_room(row, key, value),
         Kept::Rows(rows) => rows.put(alloc, key, value),
     }
 }

@@ -13,6 +13,7 @@ ghost use Rattle.dsl_value.specs.Whole.{Names, NamesAll, Stands, Captures};
 ghost use Rattle.dsl_value.specs.Faults.{Concerns};
 
 use crate::frozen::Frozen;
+use crate::layer::ROOM;
 use crate::live::Live;
 use crate::loading::make_tree;
 use crate::walking::walk_value;
@@ -246,7 +247,7 @@ impl Store {
         ensures given_back { IfOk result (λ v. Fits (view tree.now) → tree_walked self.new.cells v ≡ Ok (view tree.now)) }
     {
         let before = (self.frozen.len() + self.live.len()) as u32;
-        let mut made = Vec::new(self.alloc);
+        let mut made = Vec::with_capacity(self.alloc, ROOM)?;
         let value = make_tree(self.alloc, tree, before, &mut made)?;
         if made.len() > (u32::MAX - before) as usize {
             return Err(OutOfMemory);

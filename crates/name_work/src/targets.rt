@@ -16,7 +16,7 @@ use dsl_syntax::{Base, BinOp, SetOp};
 use dsl_value::{Priced, Refusal, Value};
 use eval_work::{Stop, Task, Work, fault, member_stop};
 use site_base::{DiagKind, Place, Text};
-use std::alloc::Global;
+use std::slice;
 
 /// Assigns a value to what the keys lead to from the base.
 #[tactic(auto, unfolding(eval_meaning::specs::Targets::target_of))]
@@ -41,9 +41,8 @@ pub fn assign(
                 assign_local(work, place, name, local, keys, op, value)
             }
             None => {
-                let keys = behind(work.alloc, name, keys)?;
                 let this = work.this.clone()?;
-                assign_into(work, place, this, keys, op, value)
+                assign_behind(work, place, this, name, keys, op, value)
             }
         },
         Base::This => {
@@ -113,6 +112,51 @@ fn make_local(work: &mut Work, place: Place, name: &Text) -> Result<Value, Stop>
     let made = work.make_dict(place, Vec::new(work.alloc))?;
     work.set_local(name, made.clone()?)?;
     Ok(made)
+}
+
+/// Assigns into a value, to what keys lead to behind a name.
+fn assign_behind(
+    work: &mut Work,
+    place: Place,
+    container: Value,
+    name: &Text,
+    keys: Vec<Value>,
+    op: SetOp,
+    value: Value,
+) -> Result<(), Stop>
+    requires fit { IsFit work.old }
+    requires container { Named work.old.store container }
+    requires keys { NamedAll work.old.store keys.items }
+    requires value { Named work.old.store value }
+    ensures gives { Gives (λ _. On) result (state_of work.new) (assigned place op (into container (Value.Str name.now ∷ keys.items)) value (state_of work.old)) }
+    ensures kept { IfOk result (λ _. IsStill work.old work.new) }
+{
+    if keys.is_empty() {
+        let key = Value::Str(name.clone()?);
+        return assign_at(work, place, container, key, op, value);
+    }
+    let keys = behind(name, keys)?;
+    assign_into(work, place, container, keys, op, value)
+}
+
+/// Assigns into a value at one key.
+#[tactic(auto, unfolding(eval_meaning::specs::Targets::assigned))]
+fn assign_at(
+    work: &mut Work,
+    place: Place,
+    container: Value,
+    key: Value,
+    op: SetOp,
+    value: Value,
+) -> Result<(), Stop>
+    requires fit { IsFit work.old }
+    requires container { Named work.old.store container }
+    requires value { Named work.old.store value }
+    ensures gives { Gives (λ _. On) result (state_of work.new) (assigned place op (into container (key ∷ [])) value (state_of work.old)) }
+    ensures kept { IfOk result (λ _. IsStill work.old work.new) }
+{
+    let value = new_value(work, place, &container, slice::from_ref(&key), op, value)?;
+    put_in(work, place, &container, &key, value)
 }
 
 /// Assigns into a value.
@@ -342,15 +386,12 @@ fn write_member(
 }
 
 /// The keys behind a name.
-fn behind(alloc: Global, name: &Text, keys: Vec<Value>) -> Result<Vec<Value>, Stop>
+fn behind(name: &Text, keys: Vec<Value>) -> Result<Vec<Value>, Stop>
     ensures keys { IfOk result (λ v. v.items ≡ Value.Str name.now ∷ keys.items) }
     ensures memory { IfErr result (λ e. e ≡ Stop.Memory) }
 {
-    let mut all = Vec::with_capacity(alloc, 1)?;
-    all.push(Value::Str(name.clone()?))?;
-    for key in keys {
-        all.push(key)?;
-    }
+    let mut all = keys;
+    all.insert(0, Value::Str(name.clone()?))?;
     Ok(all)
 }
 

@@ -1,2 +1,3 @@
+pub mod AttributeLaws
 pub mod RowLaws
 pub mod SetLaws

@@ -1,11 +1,12 @@
 // What an object sets under an attribute, and what holds where it doesn't.
-ghost use Rattle.std.specs.Prelude.{◌≡◌};
+ghost use Rattle.std.specs.Prelude.{◌≡◌, Some};
+ghost use Rattle.std.specs.Option.{option_and_then};
 ghost use Rattle.site_base.specs.View.{view, pairs_view};
 ghost use Rattle.object_types.specs.Names.{attribute_name};
 ghost use Rattle.object_types.specs.Schema.{row_named, row_among as first_row};
 ghost use Rattle.object_values.specs.Attributes.{set_value, set_among as set_in, unset_of, value_under as value_in, if_set as set_if, value_view};
 
-use object_types::{Attribute, ObjectType, SchemaRow, Unset, ValueKind};
+use object_types::{Attribute, ObjectType, SchemaRow, Unset};
 use site_base::{Text, Tree};
 
 /// The attributes of an object of a type.
@@ -22,9 +23,7 @@ impl<'a> Attributes<'a> {
         ensures { value_view result ≡ set_value self.now.kind attribute (view self.now.tree.now) }
     {
         match self.tree {
-            Tree::Dict(pairs) => {
-                set_among(row_of(self.kind, attribute), attribute.name(), pairs)
-            }
+            Tree::Dict(pairs) => set_among(self.kind, attribute, pairs),
             _ => None,
         }
     }
@@ -64,22 +63,26 @@ fn row_among(rows: &[SchemaRow], attribute: Attribute) -> Option<SchemaRow>
     None
 }
 
-/// What pairs set under an attribute of which the schema says this.
-fn set_among<'a>(row: Option<SchemaRow>, name: &str, pairs: &'a [(Text, Tree)]) -> Option<&'a Tree>
-    ensures { value_view result ≡ set_in row name.now (pairs_view pairs.now) }
+/// What pairs set under an attribute of a type. The schema is looked at only if they have a value.
+fn set_among<'a>(
+    kind: ObjectType,
+    attribute: Attribute,
+    pairs: &'a [(Text, Tree)],
+) -> Option<&'a Tree>
+    ensures { value_view result ≡ set_in (row_named kind (attribute_name attribute)) (attribute_name attribute) (pairs_view pairs.now) }
 {
-    match row {
-        Some(row) => if_set(row.kind, value_under(name, pairs)),
+    match value_under(attribute.name(), pairs) {
+        Some(value) => set_by(row_of(kind, attribute), value),
         None => None,
     }
 }
 
-/// A value, unless it counts as not set.
-fn if_set(kind: ValueKind, value: Option<&Tree>) -> Option<&Tree>
-    ensures { value_view result ≡ set_if kind (value_view value.entry) }
+/// A value under an attribute of which the schema says this, unless it counts as not set.
+fn set_by(row: Option<SchemaRow>, value: &Tree) -> Option<&Tree>
+    ensures { value_view result ≡ option_and_then (λ r. set_if r.kind (Some (view value.now))) row }
 {
-    match value {
-        Some(value) if !kind.is_unset(value) => Some(value),
+    match row {
+        Some(row) if !row.kind.is_unset(value) => Some(value),
         _ => None,
     }
 }

@@ -1,10 +1,9 @@
--- The bytes of a text, which several texts may share.
-use Rattle.std.specs.Prelude.{ℕ, List, [], Option, Some, None, String, string_bytes}
+-- The bytes of a text, which may lie in it, or which several texts may share.
+use Rattle.std.specs.Prelude.{ℕ, List, string_bytes}
 use Rattle.std.specs.Arc.{arc_value}
-use Rattle.std.specs.Global.{Global}
-use Rattle.std.specs.declared.sync.Arc.{Arc}
+use Rattle.site_base.specs.declared.text.Kept.{Kept}
+use Rattle.site_base.specs.declared.text.Kept.TheVariants as kept
 
--- where there is no string, there are no bytes
-abbrev pub shared_bytes : Option (Arc (String Global) Global) → List ℕ
-shared_bytes None = []
-shared_bytes (Some s) = string_bytes (arc_value s)
+abbrev pub kept_bytes : Kept → List ℕ
+kept_bytes (kept.Short s) = s
+kept_bytes (kept.Shared s) = string_bytes (arc_value s)

@@ -19,6 +19,7 @@ mod place;
 mod quoting;
 mod reading;
 mod row;
+mod short;
 mod target_no;
 mod text;
 mod tree;

@@ -3,27 +3,35 @@ ghost use Rattle.std.specs.Prelude.{◌≡◌, ◌<◌, ◌++◌, [], ◌∷◌,
 ghost use Rattle.std.specs.Fmt.{decimal};
 
 use crate::OutOfMemory;
+use crate::short::Short;
 use std::alloc::{AllocError, Global};
 use std::cmp::Ordering;
 use std::fmt::Write;
 use std::marker::Model;
 use std::sync::Arc;
 
-/// A text in UTF-8. Clauses see it as the list of its bytes, by which it is compared. Clones share the bytes; one that is changed
-/// copies them first.
+/// A text in UTF-8. Clauses see it as the list of its bytes, by which it is compared. A short one has them in itself; clones of a longer one
+/// share them, and one that is changed copies them first.
 #[derive(Debug, Drop)]
 pub struct Text {
     alloc: Global,
-    shared: Option<Arc<String>>,
+    kept: Kept,
+}
+
+/// How the bytes of a text are kept.
+#[derive(Debug, Drop)]
+pub(crate) enum Kept {
+    Short(Short),
+    Shared(Arc<String>),
 }
 
 impl Model for Text {
     ghost use Rattle.std.specs.Prelude.{List, ℕ};
-    ghost use Rattle.site_base.specs.Texts.{shared_bytes};
+    ghost use Rattle.site_base.specs.Texts.{kept_bytes};
 
     ghost Value = { List ℕ };
 
-    ghost view = { λ t. shared_bytes t.shared };
+    ghost view = { λ t. kept_bytes t.kept };
 }
 
 impl Text {
@@ -33,39 +41,52 @@ impl Text {
     {
         Text {
             alloc,
-            shared: None,
+            kept: Kept::Short(Short::new()),
         }
     }
 
-    /// A text of its own with these bytes. One of an empty text takes no memory.
+    /// A text of its own with these bytes. A short one takes no memory.
     pub fn copy_of(alloc: Global, text: &str) -> Result<Text, OutOfMemory>
         ensures { IfOk result (λ t. t ≡ text.now) }
     {
-        if text.is_empty() {
-            return Ok(Text::new(alloc));
+        match Short::of(text) {
+            Some(short) => Ok(Text {
+                alloc,
+                kept: Kept::Short(short),
+            }),
+            None => Text::shared(alloc, String::from_str(alloc, text)?),
         }
-        Text::of_string(alloc, String::from_str(alloc, text)?)
     }
 
-    /// A text of a string's bytes, which aren't copied. One of an empty string takes no memory.
+    /// A text of a string's bytes, which aren't copied unless they are few. A short one takes no memory.
     pub fn of_string(alloc: Global, string: String) -> Result<Text, OutOfMemory>
         ensures { IfOk result (λ t. t ≡ string_bytes string) }
     {
-        if string.as_str().is_empty() {
-            return Ok(Text::new(alloc));
+        match Short::of(string.as_str()) {
+            Some(short) => Ok(Text {
+                alloc,
+                kept: Kept::Short(short),
+            }),
+            None => Text::shared(alloc, string),
         }
+    }
+
+    /// A text of a string's bytes, however many they are.
+    fn shared(alloc: Global, string: String) -> Result<Text, OutOfMemory>
+        ensures { IfOk result (λ t. t ≡ string_bytes string) }
+    {
         Ok(Text {
             alloc,
-            shared: Some(Arc::new(alloc, string)?),
+            kept: Kept::Shared(Arc::new(alloc, string)?),
         })
     }
 
     pub fn as_str(&self) -> &str
         ensures { result.now ≡ self.now }
     {
-        match &self.shared {
-            Some(string) => string.as_str(),
-            None => "",
+        match &self.kept {
+            Kept::Short(short) => short.as_str(),
+            Kept::Shared(string) => string.as_str(),
         }
     }
 
@@ -102,11 +123,12 @@ impl Text {
         ensures ok { OnOk result (self.new ≡ self.old ++ more.now) }
         ensures err { OnErr result (self.new ≡ self.old) }
     {
-        match &mut self.shared {
-            Some(string) => Arc::make_mut(string)?.push_str(more)?,
-            None => {
-                let string = String::from_str(self.alloc, more)?;
-                self.shared = Some(Arc::new(self.alloc, string)?);
+        match &mut self.kept {
+            Kept::Shared(string) => Arc::make_mut(string)?.push_str(more)?,
+            Kept::Short(short) => {
+                let mut string = longer(self.alloc, short, more.len())?;
+                string.push_str(more)?;
+                self.kept = Kept::Shared(Arc::new(self.alloc, string)?);
             }
         }
         Ok(())
@@ -116,16 +138,29 @@ impl Text {
     pub fn push_decimal(&mut self, number: u64) -> Result<(), OutOfMemory>
         ensures { OnOk result (self.new ≡ self.old ++ decimal number) }
     {
-        match &mut self.shared {
-            Some(string) => write!(Arc::make_mut(string)?, "{number}")?,
-            None => {
-                let mut string = String::new(self.alloc);
+        match &mut self.kept {
+            Kept::Shared(string) => write!(Arc::make_mut(string)?, "{number}")?,
+            Kept::Short(short) => {
+                let mut string = longer(self.alloc, short, DIGITS)?;
                 write!(&mut string, "{number}")?;
-                self.shared = Some(Arc::new(self.alloc, string)?);
+                self.kept = Kept::Shared(Arc::new(self.alloc, string)?);
             }
         }
         Ok(())
     }
+}
+
+/// How many decimal digits a number has at most.
+const DIGITS: usize = 20;
+
+/// A string of a short text's bytes, with room for more of them.
+fn longer(alloc: Global, short: &Short, more: usize) -> Result<String, OutOfMemory>
+    ensures { IfOk result (λ s. string_bytes s ≡ short.now) }
+{
+    let front = short.as_str();
+    let mut string = String::with_capacity(alloc, front.len().saturating_add(more))?;
+    string.push_str(front)?;
+    Ok(string)
 }
 
 impl PartialEq for Text {
@@ -190,13 +225,13 @@ impl Clone for Text {
     ghost is_clone = { λ s t. t ≡ s };
 
     fn clone(&self) -> Result<Text, AllocError> {
-        let shared = match &self.shared {
-            Some(string) => Some(string.clone()?),
-            None => None,
+        let kept = match &self.kept {
+            Kept::Short(short) => Kept::Short(short.copied()),
+            Kept::Shared(string) => Kept::Shared(string.clone()?),
         };
         Ok(Text {
             alloc: self.alloc,
-            shared,
+            kept,
         })
     }
 }

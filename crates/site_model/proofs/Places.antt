@@ -1,6 +1,7 @@
 -- Places of names among strings.
 use Rattle.std.proofs.Common.{◌≡◌, ◌≢◌, ℕ, ◌+◌, ◌<◌, ◌≤◌, Bool, not, cond, List, [], ◌∷◌, length, map, position, Some, None, refl, ap, ap₂, ◌∙◌, ◌++◌, nat_lt, true, false, String, Global, string_bytes, sym, arith, get_or, AllPairs}
-use Rattle.std.specs.List.{AllByRecursion, IsDistinct, list_any, prefix_len, position_or_len}
+use Rattle.std.specs.Cmp.Lexicographic.{nat_list_eq_equiv}
+use Rattle.std.specs.List.{IsDistinct, list_any, prefix_len, position_or_len}
 use Rattle.std.proofs.lemmas.Bool.{ltb-true}
 use Rattle.std.proofs.lemmas.Bool.Decides.{nat_tests, not_from_Decides}
 use Rattle.std.proofs.lemmas.Grind.{common_steps}
@@ -43,6 +44,10 @@ placed p (k ∷ keys) x e = grind (arith, common_steps, placed p keys x e)
 pub placed_name : (name : String Global) (keys : List (String Global)) → position (string_eq name) (cond (list_any (string_eq name) keys) keys (keys ++ name ∷ [])) ≡ Some (position_or_len (string_eq name) keys)
 placed_name name keys = placed (string_eq name) keys name (string_eq_equiv.refl name)
 
+-- the same of names: where one stands once it is there
+pub place_kept : (name : List ℕ) (ns : List (List ℕ)) → place_of name (with_name name ns) ≡ Some (position_or_len (bytes_eq name) ns)
+place_kept name ns = placed (bytes_eq name) ns name (nat_list_eq_equiv.refl name)
+
 at_place : (name : List ℕ) (ns : List (List ℕ)) (b : Bool) → nat_lt (position_or_len (bytes_eq name) ns) (length ns) ≡ b → IsPlaceOf name ns (cond b (Some (position_or_len (bytes_eq name) ns)) None)
 at_place name ns true e =
     let at = position_or_len (bytes_eq name) ns in
@@ -60,15 +65,6 @@ at_place name ns false e = λ h.
 pub place_is : (name : List ℕ) (ns : List (List ℕ)) → IsPlaceOf name ns (place_of name ns)
 place_is name ns = at_place name ns (nat_lt (position_or_len (bytes_eq name) ns) (length ns)) refl
 
-others-map : (k : String Global) (ks : List (String Global)) → AllByRecursion (λ y. string_eq k y ≡ false) ks → AllByRecursion (λ n. bytes_eq (string_bytes k) n ≡ false) (map string_bytes ks)
-others-map k [] h = tt
-others-map k (x ∷ ks) h = (h.0, others-map k ks h.1)
-
-distinct-map : (ks : List (String Global)) → IsDistinct string_eq ks → IsDistinct bytes_eq (map string_bytes ks)
-unfolding IsDistinct
-distinct-map [] h = tt
-distinct-map (k ∷ ks) h = (others-map k ks h.0, distinct-map ks h.1)
-
--- strings that no two are equal of are distinct names
-pub distinct_names : (ks : List (String Global)) → IsDistinct string_eq ks → AllPairs (λ x y. x ≢ y) (map string_bytes ks)
-distinct_names ks h = AllPairs-from_IsDistinct {eq = bytes_eq} bytes_eq-Decides (map string_bytes ks) (distinct-map ks h)
+-- names of which no two are equal are distinct
+pub distinct_names : (ns : List (List ℕ)) → IsDistinct bytes_eq ns → AllPairs (λ x y. x ≢ y) ns
+distinct_names ns h = AllPairs-from_IsDistinct {eq = bytes_eq} bytes_eq-Decides ns h

@@ -1,5 +1,5 @@
-use Rattle.std.proofs.Common.{◌≡◌, ◌≤◌, ◌∷◌, IfSome, ap, subst, ◌∙◌, arith, rules}
-use Rattle.site_base.specs.View.{view, pairs_view}
+use Rattle.std.proofs.Common.{◌≡◌, ◌∷◌, IfSome, ap, subst, ◌∙◌, arith, rules}
+use Rattle.site_base.specs.View.{view}
 use Rattle.site_base.specs.Weight.{pairs_weight}
 use Rattle.dsl_value.specs.Loads.{bare, load}
 use Rattle.dsl_value.proofs.Parted.{bare_pair_added}

@@ -7,4 +7,4 @@ use Rattle.dsl_value.proofs.sorted_pairs.put_kept.Goals as goal
 pub returns-in-Row-clause-sorted : goal.returns-in-Row-clause-sorted
 returns-in-Row-clause-sorted c =
     let sorted = subst (λ kept. T (is_sorted (pairs_kept kept))) c.in-Row.is c.requires in
-    sorted_either c.put_pair.result c.args.key.now c.args.value c.in-Row.row.items c.put_pair.new.pairs.items c.put_pair.ensures.ok c.put_pair.ensures.err sorted
+    sorted_either c.put_with_room.result c.args.key.now c.args.value c.in-Row.row.items c.put_with_room.new.pairs.items c.put_with_room.ensures.ok c.put_with_room.ensures.err sorted

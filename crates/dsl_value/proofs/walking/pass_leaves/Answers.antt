@@ -1,4 +1,4 @@
-use Rattle.std.proofs.Common.{◌≡◌, ◌<◌, ◌≤◌, ◌+◌, ◌∷◌, length, map, Some, None, Ok, Err, sym, ap, subst, ◌∙◌, arith, rules}
+use Rattle.std.proofs.Common.{◌≡◌, ◌<◌, ◌+◌, ◌∷◌, length, map, Some, None, Ok, Err, sym, ap, subst, ◌∙◌, arith, rules}
 use Rattle.site_base.specs.View.{view}
 use Rattle.dsl_value.specs.Contents.{plain, cell_at}
 use Rattle.dsl_value.specs.Walks.{most, outcome, is_open, Stops}

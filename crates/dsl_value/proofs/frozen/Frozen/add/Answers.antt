@@ -1,4 +1,4 @@
-use Rattle.std.proofs.Common.{◌≡◌, ap, ◌∙◌}
+use Rattle.std.proofs.Common.{ap, ◌∙◌}
 use Rattle.dsl_value.specs.Parts.{beside, all_of, layers_of}
 use Rattle.dsl_value.proofs.Layered.{counted_beside}
 use Rattle.dsl_value.proofs.frozen.Frozen.add.Goals as goal

@@ -13,7 +13,7 @@ invariant_of-self-2 c =
     let count : length (c.self.inside.frozen.cells ++ c.self.inside.live.cells) ≡ length c.args.self.now.cells = ap (λ s. length s.cells) c.self.view_is in
     let sum = length-append c.self.inside.frozen.cells c.self.inside.live.cells in
     let before : c.len.result + c.len-2.result ≡ length c.args.self.now.cells = omega (arith, c.len.ensures, c.len-2.ensures, count, sum) in
-    let made = same_cells (view c.args.tree.now) (length c.args.self.now.cells) _ _ cs before (ap (map plain) c.new-made.ensures.items) c.in_ok-value.ensures.cells in
+    let made = same_cells (view c.args.tree.now) (length c.args.self.now.cells) _ _ cs before (ap (map plain) c.in_ok-made.ensures.items) c.in_ok-value.ensures.cells in
     let long : length cs ≡ length c.make_tree.new.made.items = length-map c.make_tree.new.made.items plain in
     let few : length c.args.self.now.cells + length cs < 2 ^ 32 = omega (arith, c.if-len-before.false, c.len-3.ensures, c.make_tree.new.made.ok, long, before) in
     added_all c.self.inside.frozen c.self.inside.live c.self.inside.base c.self.invariant c.args.self.now c.self.view_is _ cs few
@@ -27,8 +27,8 @@ returns-clause-given_back c =
     let before : c.len.result + c.len-2.result ≡ length cells = omega (arith, c.len.ensures, c.len-2.ensures, sum) in
     store_gives_back cells _ (view c.args.tree.now) cs c.in_ok-value.value
     (ap (λ l. c.self.inside.frozen.cells ++ l.cells) c.in_ok-add_all.ensures.ok ∙ sym (append_assoc c.self.inside.frozen.cells c.self.inside.live.cells cs))
-    (same_cells (view c.args.tree.now) (length cells) _ _ cs before (ap (map plain) c.new-made.ensures.items) c.in_ok-value.ensures.cells)
-    (same_value (view c.args.tree.now) (length cells) _ _ c.in_ok-value.value before (ap (map plain) c.new-made.ensures.items) c.in_ok-value.ensures.value)
+    (same_cells (view c.args.tree.now) (length cells) _ _ cs before (ap (map plain) c.in_ok-made.ensures.items) c.in_ok-value.ensures.cells)
+    (same_value (view c.args.tree.now) (length cells) _ _ c.in_ok-value.value before (ap (map plain) c.in_ok-made.ensures.items) c.in_ok-value.ensures.value)
 
 pub returns-clause-grows : goal.returns-clause-grows
 returns-clause-grows c =
@@ -37,7 +37,7 @@ returns-clause-grows c =
     let sum = length-append c.self.inside.frozen.cells c.self.inside.live.cells in
     let before : c.len.result + c.len-2.result ≡ length c.args.self.now.cells = omega (arith, c.len.ensures, c.len-2.ensures, count, sum) in
     shows_tree c.self.inside.frozen c.self.inside.live c.self.inside.base c.args.self.now c.self.view_is _ (view c.args.tree.now) cs c.in_ok-add_all.ensures.ok
-    (same_cells (view c.args.tree.now) (length c.args.self.now.cells) _ _ cs before (ap (map plain) c.new-made.ensures.items) c.in_ok-value.ensures.cells)
+    (same_cells (view c.args.tree.now) (length c.args.self.now.cells) _ _ cs before (ap (map plain) c.in_ok-made.ensures.items) c.in_ok-value.ensures.cells)
 
 pub returns-clause-stands : goal.returns-clause-stands
 returns-clause-stands c =
@@ -46,5 +46,5 @@ returns-clause-stands c =
     let sum = length-append c.self.inside.frozen.cells c.self.inside.live.cells in
     let before : c.len.result + c.len-2.result ≡ length c.args.self.now.cells = omega (arith, c.len.ensures, c.len-2.ensures, count, sum) in
     shows_value c.self.inside.frozen c.self.inside.live c.self.inside.base c.args.self.now c.self.view_is _ (view c.args.tree.now) cs c.in_ok-value.value c.in_ok-add_all.ensures.ok
-    (same_cells (view c.args.tree.now) (length c.args.self.now.cells) _ _ cs before (ap (map plain) c.new-made.ensures.items) c.in_ok-value.ensures.cells)
-    (same_value (view c.args.tree.now) (length c.args.self.now.cells) _ _ c.in_ok-value.value before (ap (map plain) c.new-made.ensures.items) c.in_ok-value.ensures.value)
+    (same_cells (view c.args.tree.now) (length c.args.self.now.cells) _ _ cs before (ap (map plain) c.in_ok-made.ensures.items) c.in_ok-value.ensures.cells)
+    (same_value (view c.args.tree.now) (length c.args.self.now.cells) _ _ c.in_ok-value.value before (ap (map plain) c.in_ok-made.ensures.items) c.in_ok-value.ensures.value)

@@ -1,12 +1,11 @@
-use Rattle.std.proofs.Common.{◌≡◌, ℕ, Option, Some, None, sym, ap, ◌∙◌, string_bytes, subst}
-use Rattle.std.specs.Str.{bytes_eq}
+use Rattle.std.proofs.Common.{◌≡◌, ℕ, Option, Some, None, sym, ap, ◌∙◌, subst}
 use Rattle.site_model.specs.Names.{place_of, IsPlaceOf}
-use Rattle.site_model.proofs.Places.{place_is, position-map}
+use Rattle.site_model.proofs.Places.{place_is}
 use Rattle.site_model.proofs.names.Names.find.Goals as goal
 
 pub returns-in-Some-clause-value : goal.returns-in-Some-clause-value
 returns-in-Some-clause-value c =
-    sym c.in-Some.is ∙ c.get_index_of.ensures.index ∙ sym (position-map string_bytes (bytes_eq c.args.name.now) c.self.inside.set.keys) ∙ ap (place_of c.args.name.now) c.self.view_is
+    sym c.in-Some.is ∙ c.get_index_of.ensures.index ∙ ap (place_of c.args.name.now) c.self.view_is
 
 pub returns-in-Some-clause-place : goal.returns-in-Some-clause-place
 returns-in-Some-clause-place c =
@@ -16,7 +15,7 @@ returns-in-Some-clause-place c =
 
 pub returns-in-None-clause-value : goal.returns-in-None-clause-value
 returns-in-None-clause-value c =
-    sym c.in-None.is ∙ c.get_index_of.ensures.index ∙ sym (position-map string_bytes (bytes_eq c.args.name.now) c.self.inside.set.keys) ∙ ap (place_of c.args.name.now) c.self.view_is
+    sym c.in-None.is ∙ c.get_index_of.ensures.index ∙ ap (place_of c.args.name.now) c.self.view_is
 
 pub returns-in-None-clause-place : goal.returns-in-None-clause-place
 returns-in-None-clause-place c =
