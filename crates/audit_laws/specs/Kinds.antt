@@ -41,7 +41,7 @@ abbrev pub reports_among : (Asked → ℕ) → ℕ → ℕ → ℕ → List Aske
 reports_among kind low middle high all =
     filter (λ a. nat_lt (kind a) high) (filter (λ a. not (nat_lt (kind a) middle)) (filter (λ a. not (nat_lt (kind a) low)) all))
 
--- the same events, where lines stand among lines and reports among reports in another order
+-- the same events, but lines may be in another order among lines, and reports among reports
 pub record AreAsInTurn (kind : Asked → ℕ) (low middle high : ℕ) (lines lacking reports ticks all : List Asked) : Type 0 where
   pub are : all ≡ lines_among kind low all ++ (lacking ++ (reports_among kind low middle high all ++ ticks))
   pub same_lines : AreSameOnEach (lines_among kind low all) lines

@@ -16,7 +16,7 @@ pub record IsOrder (must : ℕ → ℕ → Type 0) (count : ℕ) (order : List �
   pub whole : IsPermutation (from_on 0 count) order
   pub meets : (a b : ℕ) → must a b → StandsBefore order a b
 
--- a test by which one waits where it stands already, or where one that must stand before it doesn't
+-- a test by which one waits if it stands already, or if one that must stand before it doesn't
 pub record IsWaiting (must : ℕ → ℕ → Type 0) (waits : List ℕ → ℕ → Bool) : Type 0 where
   pub left : (done : List ℕ) (k : ℕ) → waits done k ≡ false → stands done k ≡ false
   pub ready : (done : List ℕ) (a k : ℕ) → waits done k ≡ false → must a k → stands done a ≡ true
@@ -27,7 +27,7 @@ abbrev pub taken_so : (List ℕ → ℕ → Bool) → ℕ → ℕ → List ℕ �
 taken_so waits zero count done = done
 taken_so waits (suc most) count done = taken_next (taken_so waits most count) done (filter (λ k. not (waits done k)) (from_on 0 count))
 
--- all of them, where each can be taken
+-- all of them, if each can be taken
 abbrev pub all_taken : (List ℕ → ℕ → Bool) → ℕ → Option (List ℕ)
 all_taken waits count = all_or_none count (taken_so waits count count [])
 
@@ -39,11 +39,11 @@ AreWithin must count = (a b : ℕ) → must a b → b < count
 abbrev pub TakesInOrder : (ℕ → ℕ → Type 0) → (List ℕ → ℕ → Bool) → Type 0
 TakesInOrder must waits = (count : ℕ) (told : List ℕ) → AreWithin must count → all_taken waits count ≡ Some told → IsOrder must count told
 
--- where there is an order, some thing can always be taken, and so all are
+-- if there is an order, some thing can always be taken, and so all are
 abbrev pub TakesAll : (ℕ → ℕ → Type 0) → (List ℕ → ℕ → Bool) → Type 0
 TakesAll must waits = (count : ℕ) (order : List ℕ) → IsOrder must count order → (told : List ℕ) × (all_taken waits count ≡ Some told)
 
--- Where things stand at spots.
+-- Things that stand at spots.
 
 -- of two things one has a spot that is earlier than a spot of the other
 pub record IsEarlierThing {S : Type 0} (spots : List S) (is_earlier : S → S → Bool) (thing : S → ℕ) (a b : ℕ) : Type 0 where

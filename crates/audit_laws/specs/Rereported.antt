@@ -1,4 +1,4 @@
--- The reports of a turn told again: one for each that was taken, in whatever order, and behind them one for each that was refused.
+-- The reports of a turn told again: one for each that was taken, in whatever order, and after them one for each that was refused.
 use Rattle.std.specs.Prelude.{◌≡◌, ℕ, List, [], ◌∷◌, ◌++◌, map, Some}
 use Rattle.run_meaning.specs.Dealing.{checkable_of, ordered_result, report_refusals, still, taken_reports, Taken}
 use Rattle.run_meaning.specs.Shares.{orders_refused}

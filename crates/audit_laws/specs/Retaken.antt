@@ -29,7 +29,7 @@ events_by xs caller (k ∷ ks) = with_event caller (slice_get xs k) (events_by x
 abbrev pub all_events : List EntryLine → ℕ → List ℕ → List (List Asked)
 all_events xs callers order = map (λ caller. events_by xs caller order) (from_on 0 callers)
 
--- the spots of all of these entries, of which the first is the thing of this number, where they say this
+-- the spots of all of these entries, of which the first is the thing of this number, if they say this
 abbrev pub spots_from : ℕ → List EntryLine → List Said → List Spot
 spots_from k [] ss = []
 spots_from k (x ∷ xs) [] = []

@@ -30,7 +30,7 @@ abbrev pub AreRising : List ℕ → Type 0
 AreRising [] = Unit {0}
 AreRising (n ∷ ns) = AllByRecursion (λ m. n < m) ns × AreRising ns
 
--- a turn whose lines were read so, where these orders are outstanding and these reports come first since their macros are missing
+-- a turn whose lines were read so, while these orders are outstanding and these reports come first since their macros are missing
 pub record IsTellable (s : PlainSite) (opens : List (Option Open)) (os : List Outstanding) (due : List Reported) (answers : List Answer) (ticks : List Asked) : Type 0 where
   -- each refused line is some line's fault, and what was asked can be asked
   pub refused : AreOfLines s answers

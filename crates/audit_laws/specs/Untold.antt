@@ -1,4 +1,4 @@
--- What stays the same where the texts of results are left out.
+-- What stays the same if the texts of results are left out.
 use Rattle.std.specs.Prelude.{◌≡◌, ℕ, Bool, List, map}
 use Rattle.log_text.specs.EntryTwo.{untold}
 use Rattle.run_meaning.specs.Acts.{Act, Seen, entry_of}

@@ -23,7 +23,7 @@ pub fn logs_of_runs_are_legal()
     ensures only { (style : Style) (limit : ℕ) (s : PlainSite) (callers : ℕ) → CanBeRun s → 1 ≤ callers → callers ≤ 64 → (turns : List Turn) (w : Whole) → IsLogInMemory callers style limit s turns w → (v : Verdict) → IsVerdict callers s w.text v → v ≡ verdict.Legal }
 {}
 
-/// The logs of a run can stand in memory where its turns do and are at most 2^40, and where no checkable gets 2^64 entries.
+/// The logs of a run fit in memory if its turns do and are at most 2^40, and if no checkable gets 2^64 entries.
 pub fn logs_of_runs_fit()
     ensures { (s : PlainSite) (zone : Option Tzif) (callers : ℕ) → CanBeRun s → 1 ≤ callers → callers ≤ 2 ^ 32 → (turns : List Turn) (logs : List TurnLog) → IsRun (basis_of_site s zone) callers (start s (no_entries s)) (map (turn_read s) turns) logs → AllByRecursion FitsTurn turns → length turns ≤ 2 ^ 40 → ((k : ℕ) → entries_in k logs < 2 ^ 64) → AllByRecursion FitsLog logs }
 {}

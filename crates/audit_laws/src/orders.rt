@@ -6,7 +6,7 @@ ghost use Rattle.audit_laws.specs.Orders.{IsEarlierThing, IsOrder, IsWaiting, Ta
 ghost use Rattle.site_audit.specs.Tracks.{is_earlier, taken_in};
 
 /// Things of which some must stand before others are taken one after another, each time the first that waits for none: all that is
-/// taken stands in an order that meets this, and where there is such an order some thing can always be taken, so that all are.
+/// taken stands in an order that meets this, and if there is such an order some thing can always be taken, so that all are.
 pub fn what_is_taken_is_in_order()
     ensures meets { (must : ℕ → ℕ → Bool) (waits : List ℕ → ℕ → Bool) → IsWaiting (λ a b. must a b ≡ true) waits → TakesInOrder (λ a b. must a b ≡ true) waits }
     ensures takes { (must : ℕ → ℕ → Bool) (waits : List ℕ → ℕ → Bool) → IsWaiting (λ a b. must a b ≡ true) waits → TakesAll (λ a b. must a b ≡ true) waits }

@@ -13,7 +13,7 @@ pub fn reports_are_read_again()
     ensures reported { (style : Style) (output : List ℕ) (status : ℕ) → IsReportedAgain style output status }
 {}
 
-/// The reports of a turn, told again: one for each that was taken, in whatever order they are told, and behind them one for each that was
+/// The reports of a turn, told again: one for each that was taken, in whatever order they are told, and after them one for each that was
 /// refused. They are taken as what they tell, the same are refused, and the same orders stay outstanding.
 pub fn reports_are_refused_again()
     ensures { (os : List Outstanding) (reports told : List Reported) (takens : List Taken) → AreTakenAs os told takens → IsPermutation (orders_taken (taken_reports os reports)) (orders_of told) → AreRereported os reports told takens }

@@ -26,7 +26,7 @@ pub fn told_orders_go_by_kinds()
     ensures { (xs : List EntryLine) (said : List Said) (order : List ℕ) → taken_in (length said) (spots_from 0 xs said) ≡ Some order → GoesByKinds xs said order }
 {}
 
-/// Where a round has events, and along those of each caller lines come first, then reports, and then ticks, some event can always be taken:
+/// If a round has events, and among those of each caller lines come first, then reports, and then ticks, some event can always be taken:
 /// all that the entries say is taken in some order.
 pub fn rounds_are_told()
     ensures { (r : Rules) (moment : ℕ) (before : Histories) (events : List (List Asked)) (round : Histories) (said : List Said) → IsRound r moment before events round → HaveRoom (length events) (behind before round) (length round) → length said ≡ length (lines_from 0 round) → AreOthers r → AreInKinds (lines_from 0 round) events round said → (order : List ℕ) × (taken_in (length said) (spots_from 0 (lines_from 0 round) said) ≡ Some order) }

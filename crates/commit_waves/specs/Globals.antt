@@ -13,11 +13,11 @@ abbrev pub tree_or : Result Data TreeFault → Data
 tree_or (Ok d) = d
 tree_or (Err e) = null
 
--- the tree of a value; null where it has none
+-- the tree of a value; null if it has none
 abbrev pub tree_or_null : List PlainCell → Value → Data
 tree_or_null cells v = tree_or (tree_walked cells v)
 
--- the tree of a global, where it is set
+-- the tree of a global, if it is set
 abbrev pub global_tree : List PlainCell → List ℕ → Option Data
 global_tree cells name = option_map (tree_or_null cells) (name_in cells name (value.Ref 0))
 

@@ -93,7 +93,7 @@ pub(crate) fn commit_by<M: WaveMaker>(
     finish(alloc, Loaded { files, parts, zone }, made.objects)
 }
 
-/// What the waves come to: the objects that they made, all of them where nothing is wrong, and what is wrong.
+/// What the waves come to: the objects that they made, all of them if nothing is wrong, and what is wrong.
 #[derive(Drop)]
 struct Run {
     objects: Vec<Object>,
@@ -143,7 +143,7 @@ fn run_waves<M: WaveMaker>(
     run_last(alloc, maker, parts, left, known, objects, groups)
 }
 
-/// Runs the last wave. Nothing looks its objects up, so they stand behind the others without being committed.
+/// Runs the last wave. Nothing looks its objects up, so they stand after the others without being committed.
 fn run_last<M: WaveMaker>(
     alloc: Global,
     maker: &M,
@@ -169,7 +169,7 @@ fn run_last<M: WaveMaker>(
     })
 }
 
-/// Objects with more of them behind, in no more memory than they need.
+/// Objects, and more of them after these, in no more memory than they need.
 fn with_objects(objects: Vec<Object>, more: Vec<Object>) -> Result<Vec<Object>, OutOfMemory>
     ensures { IfOk result (λ all. all.items ≡ objects.items ++ more.items) }
 {

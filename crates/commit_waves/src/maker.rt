@@ -20,8 +20,8 @@ pub(crate) trait WaveMaker {
     ghost apt: { Self → Type 0 };
 
     /// Makes the objects of a wave, from 1 on, over the objects that were committed and the items of the groups among them. The load
-    /// registered these items, and of its parts the rest; each item goes once its object is made. Where nothing is wrong, the wave's groups
-    /// stand behind the others then.
+    /// registered these items, and of its parts the rest; each item goes once its object is made. If nothing is wrong, the wave's groups
+    /// stand after the others then.
     fn make(
         &self,
         alloc: Global,

@@ -31,7 +31,7 @@ use std::thread::Threads;
 ///
 /// # Errors
 ///
-/// `OutOfMemory` where there is none for an object, or for what is made on the way.
+/// `OutOfMemory` if there is too little memory for an object, or for what is made on the way.
 pub fn commit_many<R: Threads + Wait + Sync>(
     rt: &R,
     alloc: Global,

@@ -29,7 +29,7 @@ pub(crate) fn site_globals(parts: LoadParts, zone: Option<Blob>) -> Result<Globa
     })
 }
 
-/// The tree of a global; `Null` where its value has none.
+/// The tree of a global; `Null` if its value has none.
 fn tree_of_global(store: &Store, name: &str) -> Result<Option<Tree>, OutOfMemory>
     requires { HasGlobals store.now }
     ensures { IfOk result (λ t. tree_view t ≡ global_tree store.now.cells name.now) }

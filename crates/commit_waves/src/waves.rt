@@ -36,8 +36,8 @@ pub(crate) struct Wave {
 }
 
 /// Makes the objects of a wave, from 1 on, over the objects that were committed and the items of the groups among them. The load
-/// registered these items, and of its parts the rest; each item goes once its object is made. Where nothing is wrong, the wave's groups stand
-/// behind the others then.
+/// registered these items, and of its parts the rest; each item goes once its object is made. If nothing is wrong, the wave's groups stand
+/// after the others then.
 pub(crate) fn make_wave(
     alloc: Global,
     parts: &LoadParts,
@@ -124,7 +124,7 @@ fn too_many(alloc: Global, item: &Pending) -> Result<Wave, OutOfMemory>
     })
 }
 
-/// Runs a wave: what is wrong in it, by number. Where nothing is, its objects are committed and its groups stand behind the others then.
+/// Runs a wave: what is wrong in it, by number. If nothing is, its objects are committed and its groups stand after the others then.
 pub(crate) fn run_wave<M: WaveMaker>(
     alloc: Global,
     maker: &M,

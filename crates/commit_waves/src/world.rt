@@ -39,7 +39,7 @@ const TYPES: [ObjectType; 22] = [
     ObjectType::IcingaApplication,
 ];
 
-/// Adds the items of groups behind others.
+/// Adds the items of groups after others.
 pub(crate) fn add_groups(out: &mut Vec<Item>, more: Vec<Item>) -> Result<(), OutOfMemory>
     ensures { OnOk result (map plain_item out.new.items ≡ map plain_item out.old.items ++ map plain_item more.items) }
 {
@@ -48,7 +48,7 @@ pub(crate) fn add_groups(out: &mut Vec<Item>, more: Vec<Item>) -> Result<(), Out
     Ok(())
 }
 
-/// Commits objects behind others.
+/// Commits objects after others.
 pub(crate) fn add_objects(out: &mut Committed, more: Vec<Object>) -> Result<(), OutOfMemory>
     ensures { OnOk result (out.new ≡ out.old ++ more.items) }
 {

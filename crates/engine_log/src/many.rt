@@ -17,12 +17,12 @@ use std::alloc::Global;
 use std::thread::Threads;
 use turn_engine::TurnOut;
 
-/// The lines that [`crate::turn_lines`] gives. So many threads at most make those of the entries, each for a part of the checkables; where few
+/// The lines that [`crate::turn_lines`] gives. So many threads at most make those of the entries, each for a part of the checkables; if few
 /// checkables have entries no thread is made.
 ///
 /// # Errors
 ///
-/// `OutOfMemory` where there is none for a line.
+/// `OutOfMemory` if there is too little memory for a line.
 pub fn turn_lines_by_many<R: Threads + Sync>(
     rt: &R,
     alloc: Global,

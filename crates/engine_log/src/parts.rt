@@ -76,7 +76,7 @@ fn lines_of(
     Ok(lines)
 }
 
-/// Adds the lines of all parts, one behind another.
+/// Adds the lines of all parts, one after another.
 fn add_parts(
     _style: Style,
     _site: &Site,

@@ -27,7 +27,7 @@ use turn_engine::{OrderOut, TurnOut};
 ///
 /// # Errors
 ///
-/// `OutOfMemory` where there is none for a line.
+/// `OutOfMemory` if there is too little memory for a line.
 pub fn turn_lines(
     alloc: Global,
     style: Style,

@@ -55,7 +55,7 @@ impl Machine for Counting {
     }
 }
 
-/// The count of a caller's calls in a history, where their serial numbers are 0, 1, 2 .. in order.
+/// The count of a caller's calls in a history, if their serial numbers are 0, 1, 2 .. in order.
 pub fn in_order(history: &[Call], caller: u32) -> Option<u32> {
     let mut count = 0u32;
     for call in history {

@@ -21,9 +21,9 @@ struct Held {
     begun: AtomicU64,
     /// 1 once caller 1 was at Inside.
     next: AtomicU64,
-    /// 1 where caller 1 came to Inside while caller 0 was there.
+    /// 1 if caller 1 came to Inside while caller 0 was there.
     both: AtomicU64,
-    /// 1 where caller 1 never came.
+    /// 1 if caller 1 never came.
     late: AtomicU64,
 }
 

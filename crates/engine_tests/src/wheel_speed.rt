@@ -64,7 +64,7 @@ fn place_one<L: Ledger>(
     wheel.place(id, at(u64::from(id) % seconds), steps)
 }
 
-/// Does an hour of checks from a second on, where each member is due every five minutes, and gives how many they are.
+/// Does an hour of checks from a second on, with each member due every five minutes, and gives how many they are.
 fn check_hour<L: Ledger, R: Abort>(
     rt: &R,
     wheel: &mut Wheel,
@@ -120,7 +120,7 @@ fn check_one<L: Ledger, R: Abort>(
     Ok(())
 }
 
-/// How many checks there are in an hour from a second on, where the members are first spread over so many seconds.
+/// How many checks there are in an hour from a second on, with the members first spread over so many seconds.
 fn an_hour<L: Ledger, R: Abort>(
     rt: &R,
     alloc: Global,

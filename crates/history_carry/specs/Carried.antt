@@ -12,7 +12,7 @@ abbrev pub history_at : Histories → Option ℕ → List Entry
 history_at hs None = []
 history_at hs (Some k) = of_index k hs
 
--- those of each of some names, where these are the histories of others
+-- those of each of some names, if these are the histories of others
 abbrev pub histories_named : List (List ℕ) → Histories → List (List ℕ) → Histories
 histories_named others hs names = map (λ name. history_at hs (place_of name others)) names
 

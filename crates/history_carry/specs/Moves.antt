@@ -5,7 +5,7 @@ use Rattle.site_model.specs.PlainSite.{PlainSite, full_names}
 use Rattle.site_text.specs.Entries.{depend_names, notify_names, user_names}
 use Rattle.history_carry.specs.declared.moves.Moves.{Moves}
 
--- for each of these names its place among others; none where it isn't there
+-- for each of these names its place among others; none if it isn't there
 abbrev pub places_among : List (List ℕ) → List (List ℕ) → List (Option ℕ)
 places_among names others = map (λ name. place_of name others) names
 

@@ -27,7 +27,7 @@ use std::alloc::Global;
 ///
 /// # Errors
 ///
-/// `OutOfMemory` where there is none for the places of names, for what entries name, or for the checkables.
+/// `OutOfMemory` if there is too little memory for the places of names, for what entries name, or for the checkables.
 pub fn carry(
     alloc: Global,
     old: &Site,
@@ -73,7 +73,7 @@ fn checkables_with(
     Ok(books)
 }
 
-/// The entries of the checkable of this full name; none where the site has none of that name.
+/// The entries of the checkable of this full name; none if the site has none of that name.
 fn entries_of<'h>(site: &Site, histories: &'h [Row<Entry>], name: &str) -> &'h [Entry]
     requires names { HasNames (site_view site.now) }
     requires whole { length histories.now ≡ length site.now.checkables }

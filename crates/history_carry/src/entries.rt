@@ -57,7 +57,7 @@ fn carried_sights(alloc: Global, moves: &Moves, sights: &[Sight]) -> Result<Row<
     sights_in_order(carried)
 }
 
-/// A sight, where its checkable is there.
+/// A sight, if its checkable is there.
 fn carried_sight(moves: &Moves, sight: &Sight) -> Option<Sight>
     ensures { result ≡ sight_of moves.now sight.now }
 {
@@ -70,7 +70,7 @@ fn carried_sight(moves: &Moves, sight: &Sight) -> Option<Sight>
     }
 }
 
-/// Adds an item at the end, where there is one.
+/// Adds an item at the end, if there is one.
 fn push_some<T: Drop>(items: &mut Vec<T>, item: Option<T>) -> Result<(), OutOfMemory>
     ensures { OnOk result (items.new.items ≡ items.old.items ++ option_to_list item) }
 {
@@ -111,7 +111,7 @@ fn decisions_in_order(decisions: Vec<Decision>) -> Result<Row<Decision>, OutOfMe
     Ok(Row::from(sorted))
 }
 
-/// A decision, where its notification and what its outcome names are there.
+/// A decision, if its notification and what its outcome names are there.
 fn carried_decision(
     alloc: Global,
     moves: &Moves,
@@ -132,7 +132,7 @@ fn carried_decision(
     }))
 }
 
-/// An outcome, where what it names is there.
+/// An outcome, if what it names is there.
 fn carried_outcome(
     alloc: Global,
     moves: &Moves,

@@ -11,7 +11,7 @@ pub fn a_host_goes_and_one_comes()
         ≡ (first_entry (seen 2 7 ∷ []) ∷ []) ∷ [] ∷ (first_entry (seen 0 5 ∷ []) ∷ []) ∷ [] }
 {}
 
-/// Where two hosts change places, an entry tells them in their new order.
+/// If two hosts change places, an entry tells them in their new order.
 pub fn two_hosts_change_places()
     ensures { carried (hosts (codes "a" ∷ codes "b" ∷ codes "c" ∷ [])) (hosts (codes "b" ∷ codes "a" ∷ codes "c" ∷ []))
         ([] ∷ [] ∷ (first_entry (seen 0 8 ∷ seen 1 9 ∷ []) ∷ []) ∷ [])

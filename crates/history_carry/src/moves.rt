@@ -9,7 +9,7 @@ use site_base::{OutOfMemory, Row};
 use site_model::Site;
 use std::alloc::Global;
 
-/// For each thing of one site, by its place, the place of the thing of that name in another site; `None` where that has none.
+/// For each thing of one site, by its place, the place of the thing of that name in another site; `None` if that has none.
 #[derive(Drop)]
 pub(crate) struct Moves {
     pub(crate) checkables: Row<Option<u32>>,
@@ -23,7 +23,7 @@ impl Moves {
     ///
     /// # Errors
     ///
-    /// `OutOfMemory` where there is none for the names of the other site, or for four places of each thing.
+    /// `OutOfMemory` if there is too little memory for the names of the other site, or for four places of each thing.
     pub(crate) fn between(alloc: Global, site: &Site, other: &Site) -> Result<Moves, OutOfMemory>
         requires { IsSound (site_view other.now) }
         ensures { IfOk result (λ m. m ≡ moves_between (site_view site.now) (site_view other.now)) }

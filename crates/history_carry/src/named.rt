@@ -60,7 +60,7 @@ pub(crate) fn names_of<T: Named>(alloc: Global, things: &[T]) -> Result<Names, O
     Ok(names)
 }
 
-/// For each thing the place of its name; `None` where the name isn't there.
+/// For each thing the place of its name; `None` if the name isn't there.
 pub(crate) fn places<T: Named>(
     alloc: Global,
     things: &[T],

@@ -5,7 +5,7 @@ use site_edge::Unread;
 use site_words::{Command, Task, command_of};
 use std::alloc::Global;
 
-/// Words that may stand behind the first words of a command line. If one that the program takes begins with these, one of these
+/// Words that may follow the first words of a command line. If one that the program takes begins with these, one of these
 /// ends it.
 const ENDS: [&[&str]; 6] = [
     &[],
@@ -81,7 +81,7 @@ fn may_begin(alloc: Global, begun: &[Text]) -> Result<bool, OutOfMemory> {
     Ok(false)
 }
 
-/// Whether these words are a command line, with further ones behind them.
+/// Whether these words are a command line, with further ones after them.
 fn is_command(alloc: Global, begun: &[Text], end: &[&str]) -> Result<bool, OutOfMemory> {
     let mut words = Texts::new(alloc);
     push_words(&mut words, begun)?;

@@ -76,7 +76,7 @@ fn push_loaded(
     }
 }
 
-/// The steps, the units and how many nodes may be open, with which a row begins, and what stands behind them.
+/// The steps, the units and how many nodes may be open, with which a row begins, and what follows them.
 fn limited(row: &str) -> (Budget, &str) {
     let mut numbers = [0u64; 3];
     let mut words = row.splitn(4, ' ');

@@ -63,7 +63,7 @@ fn push_made(alloc: Global, out: &mut Text, item: &Item, tree: Tree) -> Result<(
     push_object(alloc, out, &object)
 }
 
-/// Adds the objects that a body asked for, with its fault behind them.
+/// Adds the objects that a body asked for, with its fault after them.
 pub(crate) fn push_reads(
     alloc: Global,
     out: &mut Text,
@@ -76,7 +76,7 @@ pub(crate) fn push_reads(
     push_reads_of(out, view, &mut work, item)
 }
 
-/// Runs a body, and adds what it asked for, with its fault behind it.
+/// Runs a body, and adds what it asked for, with its fault after it.
 fn push_reads_of(out: &mut Text, view: &WorldView, work: &mut Work, item: &Item) -> Result<(), Stop>
     requires fit { IsFit work.old }
     requires told { IsTold view.now work.old.store }

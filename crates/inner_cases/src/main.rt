@@ -1,5 +1,5 @@
 //! Reads rows from standard input, and writes each with what no command line shows of loads and of items: what they cost, what they
-//! come to within so many steps and units, which objects they read, and what they come to where not all objects are told.
+//! come to within so many steps and units, which objects they read, and what they come to if not all objects are told.
 //!
 //! The head of the file `stdin` says what a row is. Empty lines and those that begin with `#` are written as they are, so
 //! that line N of the output is of line N of the input.
@@ -25,7 +25,7 @@ fn main(rt: HostRuntime) -> anyhow::Result<()> {
     Ok(())
 }
 
-/// The line, with the answer behind it if it is a row.
+/// The line, with the answer after it if it is a row.
 fn told(alloc: Global, line: &str) -> Result<Text, OutOfMemory> {
     let mut out = Text::copy_of(alloc, line)?;
     if let Some((word, row)) = row_of(line) {

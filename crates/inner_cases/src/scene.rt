@@ -147,7 +147,7 @@ fn add_tree(
     Ok(())
 }
 
-/// A tree with the marks of rows in it; null where the text is none.
+/// A tree with the marks of rows in it; null if the text is none.
 fn marked_tree(alloc: Global, text: &str) -> Result<Tree, OutOfMemory> {
     let text = unmarked(alloc, text)?;
     Ok(tree_of(alloc, text.as_str())?.unwrap_or(Tree::Null))

@@ -5,7 +5,7 @@ use Rattle.site_model.specs.PlainSite.{PlainSite}
 use Rattle.site_posts.specs.declared.segment.Segment.{Segment}
 use Rattle.site_text.specs.Entries.{IsPrintable}
 
--- with the lines of the entries that a checkable gets behind its own
+-- with the lines of the entries that a checkable gets, after its own
 abbrev pub with_lines : PlainSite → List (List (List ℕ)) → Segment → List (List (List ℕ))
 with_lines s lines x = slice_set lines x.checkable (get_or lines x.checkable [] ++ map (saved_line s x.checkable) x.entries)
 

@@ -18,7 +18,7 @@ pub record IsKept (callers : ℕ) (s : PlainSite) (given : Given) (turns : List 
   pub are : AreLogs callers s given turns logs
   pub is : text ≡ state_file s (histories_left callers s given turns logs are)
 
--- that of at most so many turns; there is none where there are more
+-- that of at most so many turns; there is none if there are more
 abbrev pub AnswersKeep : ℕ → ℕ → PlainSite → List Turn → Option (List ℕ) → Type 0
 AnswersKeep callers limit s turns (Some text) = (length turns ≤ limit) × IsKept callers s (nothing_given s) turns text
 AnswersKeep callers limit s turns None = limit < length turns

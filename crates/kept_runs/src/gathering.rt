@@ -25,7 +25,7 @@ pub(crate) fn no_lines(alloc: Global, site: &Site) -> Result<Vec<SavedLines>, Ou
     Ok(lines)
 }
 
-/// Adds the lines of the entries of a round, each behind those of its checkable. The entries are dropped.
+/// Adds the lines of the entries of a round, each after those of its checkable. The entries are dropped.
 pub(crate) fn gather(
     alloc: Global,
     site: &Site,

@@ -21,7 +21,7 @@ use site_run::Workers;
 use std::alloc::Global;
 use turn_engine::Engine;
 
-/// The state file of the entries that the turns of a script leave, whose events these workers take; `None` where there are more turns than
+/// The state file of the entries that the turns of a script leave, whose events these workers take; `None` if there are more turns than
 /// the limit. No order of a check is started.
 ///
 /// The site is one that an engine can be made of, the workers are 1 to 64, and the limit is at most 2^40. Of the entries their lines alone
@@ -29,7 +29,7 @@ use turn_engine::Engine;
 ///
 /// # Errors
 ///
-/// `OutOfMemory` where there is none for the run, the lines of its entries or the text.
+/// `OutOfMemory` if there is too little memory for the run, the lines of its entries or the text.
 pub fn keep_turns<C: Workers>(
     alloc: Global,
     workers: &C,

@@ -19,7 +19,7 @@ use Rattle.commit_meaning.specs.Worlds.{targets, world_view}
 use Rattle.kept_tasks.specs.Bare.{Agree, bare_group, bare_item, bare_member, bare_rule, bare_target}
 use Rattle.kept_tasks.specs.Reads.{AreReadsOf, SeenAlike}
 
--- The commit of a load gave a site: nothing is wrong in its waves, nor in the phases behind them.
+-- The commit of a load gave a site: nothing is wrong in its waves, nor in the phases after them.
 abbrev pub GivesSite : (List PlainObject → List (List Diag)) → Loaded → Type 0
 GivesSite phases load = first_told (map (diags_of load) waves ++ phases (committed load)) ≡ []
 

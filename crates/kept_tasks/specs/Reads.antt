@@ -34,7 +34,7 @@ IsAnswered (made a) = Unit {0}
 IsAnswered (diagnosed ds) = Unit {0}
 IsAnswered (blocked r) = ⊥
 
--- behind earlier reads these are the others: over the view of the earlier ones the task is blocked on the first of these, and so on, until
+-- after earlier reads these are the others: over the view of the earlier ones the task is blocked on the first of these, and so on, until
 -- the view of all of them answers it
 abbrev pub AreReadsBehind : {A : Type 0} → (List Read → Answer A) → List Read → List Read → Type 0
 AreReadsBehind answer before [] = IsAnswered (answer before)

@@ -30,7 +30,7 @@ const FORMS: [&str; 11] = [
     "function f() { object Host f() { } }\nf()",
 ];
 
-/// The tree of a text; none where it isn't one of the language.
+/// The tree of a text; none if it isn't one of the language.
 fn tree_of(alloc: Global, text: &Text) -> Option<File> {
     let bytes = text.as_str().as_bytes();
     if bytes.len() >= 1_000_000 {
@@ -45,7 +45,7 @@ fn tree_of(alloc: Global, text: &Text) -> Option<File> {
     }
 }
 
-/// A text as the only file; none where it isn't one of the language.
+/// A text as the only file; none if it isn't one of the language.
 fn files_of(alloc: Global, text: &Text) -> Result<Vec<SourceFile>, OutOfMemory> {
     let mut files = Vec::new(alloc);
     if let Some(file) = tree_of(alloc, text) {

@@ -19,7 +19,7 @@ use site_run::Status;
 use std::alloc::Global;
 
 /// Writes whether a log is one that a run with so many workers, from 1 to 64, writes over a site, and else in which line it goes wrong; or
-/// that it isn't there. It ends with `NotLegal` where it goes wrong.
+/// that it isn't there. It ends with `NotLegal` if it goes wrong.
 pub fn audit_site<F: Files, S: Sink>(
     alloc: Global,
     callers: u32,

@@ -8,7 +8,7 @@ use site_text::{ScriptError, read_script};
 use std::alloc::Global;
 use std::mem;
 
-/// What stands behind the expression of a value: two functions and the least number, which it may name.
+/// What follows the expression of a value: two functions and the least number, which it may name.
 const NAMES: &[u8] = b"
 }
 const f = () => null
@@ -84,7 +84,7 @@ impl Case {
         self.add_file("r", text)
     }
 
-    /// Takes `EXPRESSION`, or `STATEMENTS ▸ EXPRESSION`: the listing of an object whose attribute `r` is the expression, behind the
+    /// Takes `EXPRESSION`, or `STATEMENTS ▸ EXPRESSION`: the listing of an object whose attribute `r` is the expression, after the
     /// statements.
     fn take_value(&mut self, named: &Named, value: &str) -> Result<(), OutOfMemory> {
         self.is_short = true;
@@ -93,7 +93,7 @@ impl Case {
         self.add_file("r", text)
     }
 
-    /// Takes what stands behind each `‖`.
+    /// Takes what follows each `‖`.
     fn take_parts(&mut self, named: &Named, parts: &str) -> Result<(), OutOfMemory> {
         for part in parts.split('‖') {
             self.take_part(named, part)?;

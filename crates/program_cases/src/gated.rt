@@ -50,7 +50,7 @@ pub(crate) struct Hold {
     until: At,
     /// 1 once the other has come.
     come: AtomicU64,
-    /// 1 where it didn't come within the limit.
+    /// 1 if it didn't come within the limit.
     late: AtomicU64,
 }
 

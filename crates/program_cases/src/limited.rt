@@ -59,7 +59,7 @@ fn push_ended(out: &mut Text, status: Option<Status>, written: &[u8]) -> Result<
     push_output(out, written)
 }
 
-/// With what such a log ends; `None` where there is no site.
+/// With what such a log ends; `None` if there is no site.
 fn limited<F: Files, W: World, S: Sink>(
     alloc: Global,
     limit: u64,

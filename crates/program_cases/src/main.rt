@@ -1,7 +1,7 @@
 //! Runs the rows of tables, and says which of them the program doesn't answer as they are written.
 //!
 //! Standard input has the names of the tables, which lie in data/: each has the rows of one subject, with the answer that is
-//! wanted right below or behind each row (the head of `data/words.rows` says how rows are written). A row is a command line, with
+//! wanted right below or after each row (the head of `data/words.rows` says how rows are written). A row is a command line, with
 //! files and a world in memory and calls that fail, or with files in memory over the real world, or a log of a limited number of
 //! turns. For each table a line is written, `NAME: N rows as written`, and above it each row that has another answer, with that one.
 #![tactic(auto)]

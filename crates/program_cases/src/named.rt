@@ -68,7 +68,7 @@ impl Named {
         Ok(())
     }
 
-    /// Adds what stands behind a `⟨`, or before the first.
+    /// Adds what follows a `⟨`, or stands before the first.
     fn push_piece(&self, out: &mut Blob, piece: &str) -> Result<(), OutOfMemory> {
         match piece.split_once('⟩') {
             Some((part, tail)) => {

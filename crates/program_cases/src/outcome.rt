@@ -52,7 +52,7 @@ pub(crate) fn push_live<T: Wait + Threads + Sync + Clone + Drop>(
     push_run(threads, out, case, &mut world)
 }
 
-/// Runs the program as a case says over files and a sink in memory, where these calls fail, and a world, and adds what it comes to.
+/// Runs the program as a case says over files and a sink in memory, of whose calls these fail, and a world, and adds what it comes to.
 fn push_run<T: Wait + Threads + Sync, W: World>(
     turns: &T,
     out: &mut Text,
@@ -92,13 +92,13 @@ fn push_heard(out: &mut Text, remarks: &[Text]) -> Result<(), OutOfMemory> {
     Ok(())
 }
 
-/// Adds a text behind what a line begins with.
+/// Adds a text after what a line begins with.
 fn push_line(out: &mut Text, begin: &str, text: &str) -> Result<(), OutOfMemory> {
     out.push_str(begin)?;
     out.push_str(text)
 }
 
-/// Adds a line where a worker was held up for too long.
+/// Adds a line if a worker was held up for too long.
 fn push_late(out: &mut Text, held: &Held) -> Result<(), OutOfMemory> {
     if held.is_late() {
         out.push_str("\n  a worker was held up for too long")?;
@@ -132,7 +132,7 @@ pub(crate) fn push_output(out: &mut Text, written: &[u8]) -> Result<(), OutOfMem
     }
 }
 
-/// Adds what the program writes: one line behind the row, or more lines below it. The status stands before them where it is
+/// Adds what the program writes: one line after the row, or more lines below it. The status stands before them if it is
 /// neither `Done` nor `Diagnosed`.
 fn push_short(out: &mut Text, status: Status, written: &[u8]) -> Result<(), OutOfMemory> {
     out.push_str("  →")?;
@@ -146,7 +146,7 @@ fn push_short(out: &mut Text, status: Status, written: &[u8]) -> Result<(), OutO
     }
 }
 
-/// Adds one line behind the row, or more lines below it, without the objects that are to be silent.
+/// Adds one line after the row, or more lines below it, without the objects that are to be silent.
 fn push_brief(out: &mut Text, text: &str) -> Result<(), OutOfMemory> {
     let is_alone = text.split('\n').filter(|line| is_told(line)).count() == 1;
     for line in text.split('\n') {
@@ -170,7 +170,7 @@ fn is_told(line: &str) -> bool {
     !line.is_empty() && !line.ends_with(SILENT)
 }
 
-/// The value of the attribute `r`, where a line is that of the object `value`, and else the line.
+/// The value of the attribute `r`, if a line is that of the object `value`, and else the line.
 fn value_in(line: &str) -> &str {
     match line.strip_prefix("Zone \"value\" {\"name\":\"value\",\"r\":") {
         Some(value) => value.strip_suffix('}').unwrap_or(value),
@@ -185,7 +185,7 @@ pub(crate) fn push_status(out: &mut Text, status: Status) -> Result<(), OutOfMem
     out.push_str(status.name())
 }
 
-/// Adds each line behind two blanks; `…` stands behind a piece without a newline.
+/// Adds each line after two blanks; `…` follows a piece without a newline.
 fn push_lines(out: &mut Text, text: &str) -> Result<(), OutOfMemory> {
     for line in text.split_terminator('\n') {
         push_line(out, "\n  ", line)?;

@@ -1,6 +1,6 @@
 // Words and numbers of rows.
 
-/// What stands before the first of these characters, and behind it; the whole and nothing where there is none.
+/// What stands before the first of these characters, and after it; the whole and nothing if there is none.
 pub(crate) fn cut(text: &str, at: char) -> (&str, &str) {
     text.split_once(at).unwrap_or((text, ""))
 }

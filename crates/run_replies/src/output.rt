@@ -31,7 +31,7 @@ pub fn write_reply<S: Sink>(reply: &Reply, out: &mut S) -> Status
     }
 }
 
-/// Writes a reply, where there was memory for it.
+/// Writes a reply, if there was memory for it.
 pub fn write_made<S: Sink>(reply: Result<Reply, OutOfMemory>, out: &mut S) -> Status
     ensures never_usage { result ≢ Status.Usage }
     ensures never_illegal { result ≢ Status.NotLegal }

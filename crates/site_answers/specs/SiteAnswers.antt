@@ -35,7 +35,7 @@ abbrev pub OnScript : (List Turn → Whole → Type 0) → List ℕ → Option (
 OnScript Is script None w = w ≡ replied (no_file script)
 OnScript Is script (Some bytes) w = (a : Answer) × Has bytes a × OnTurns Is script a w
 
--- the log of a script's turns with so many callers behind these entries, where downtimes recur or don't
+-- the log of a script's turns with so many callers after these entries, with downtimes that recur or don't
 abbrev pub AnswersBytes : ℕ → Style → Bool → List ℕ → PlainSite → Histories → Option (List ℕ) → Whole → Type 0
 AnswersBytes callers style recur script s histories found w = OnScript (IsSiteLog callers style recur most_turns s histories) script found w
 
@@ -69,7 +69,7 @@ OnBefore Is state (has histories) w = Is histories w
 OnBefore Is state absent w = w ≡ replied (no_file (name_of state))
 OnBefore Is state bad w = w ≡ replied (bad_state (name_of state))
 
--- the log of a script's turns behind them
+-- the log of a script's turns after them
 abbrev pub AnswersReplayed : ℕ → Style → Bool → Option (List ℕ) → List ℕ → Files → PlainSite → Whole → Type 0
 AnswersReplayed callers style recur state script all s w =
     OnBefore (λ histories. AnswersBytes callers style recur script s histories (find_file script all)) state (before state s all) w
@@ -81,7 +81,7 @@ AnswersWatched callers style recur state turns all s w =
 
 -- Queries.
 
--- the text of an answer or of a state file; nothing where there were more turns than may be taken
+-- the text of an answer or of a state file; nothing if there were more turns than may be taken
 abbrev pub answered : Option (List ℕ) → Whole
 answered (Some text) = record { text = text; ends = status.Done }
 answered None = record { text = []; ends = status.TurnsSpent }
@@ -110,7 +110,7 @@ AnswersLeft callers s turns w = (file : Option (List ℕ)) × AnswersKeep caller
 abbrev pub AnswersKept : ℕ → List ℕ → PlainSite → Option (List ℕ) → Whole → Type 0
 AnswersKept callers script s found w = OnScript (AnswersLeft callers s) script found w
 
--- How far a run of the world's turns came: to no answer of its files, to no entries before its first turn, or behind these.
+-- How far a run of the world's turns came: to no answer of its files, to no entries before its first turn, or after these.
 
 -- the files could not be read, or there was no memory for what they come to; nothing was taken, started or written
 pub record IsUnanswered (end : Status) (old new : Outside) : Type 0 where
@@ -129,7 +129,7 @@ pub record IsStateless (state : Option (List ℕ)) (files : Option Files) (s : P
   pub started : new.started ≡ old.started
   pub calls : new.calls ≡ old.calls
 
--- there are entries before the first turn, and it went so far behind them
+-- there are entries before the first turn, and it went so far after them
 pub record IsBehind (end : Status) (callers : ℕ) (style : Style) (recur : Bool) (state : Option (List ℕ)) (files : Option Files) (s : PlainSite) (old new : Outside) : Type 0 where
   pub histories : Histories
   pub are : IfSome files (λ all. before state s all ≡ has histories)

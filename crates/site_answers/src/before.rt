@@ -103,7 +103,7 @@ fn books_of_bytes(alloc: Global, bytes: &Blob, site: &Site) -> Result<Vec<Checka
     }
 }
 
-/// Writes why there are no checkables to begin with, where that is told by a diagnostic of the state file.
+/// Writes why there are no checkables to begin with, if that is told by a diagnostic of the state file.
 pub(crate) fn write_lost<S: Sink>(
     alloc: Global,
     lost: Lost,
@@ -131,7 +131,7 @@ pub(crate) fn write_lost<S: Sink>(
     }
 }
 
-/// The name of a state file; empty where none is named.
+/// The name of a state file; empty if none is named.
 fn state_name(state: Option<&str>) -> &str
     ensures { result.now ≡ name_of (option_map (λ name. name.now) state.entry) }
 {

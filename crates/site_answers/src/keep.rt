@@ -86,7 +86,7 @@ fn keep_bytes<S: Sink, C: Workers>(
     }
 }
 
-/// Writes a state file, in one piece; nothing where more turns came than may be taken.
+/// Writes a state file, in one piece; nothing if more turns came than may be taken.
 fn write_file<S: Sink>(alloc: Global, file: Option<Text>, out: &mut S) -> Status
     ensures never_usage { result ≢ Status.Usage }
     ensures never_illegal { result ≢ Status.NotLegal }

@@ -27,7 +27,7 @@ use std::alloc::Global;
 use whole_runs::query_turns;
 
 /// Writes what a query is answered once the turns of a script are over, whose events these workers take, over a site, or why it has no answer.
-/// The script is read first, and the query only where it has turns. The workers are 1 to 64.
+/// The script is read first, and the query only if it has turns. The workers are 1 to 64.
 pub fn query_site<F: Files, S: Sink, C: Workers>(
     alloc: Global,
     workers: &C,
@@ -162,7 +162,7 @@ fn query_of(alloc: Global, bytes: &Blob) -> Result<Query, QueryError>
     read_query(alloc, bytes.as_slice())
 }
 
-/// Writes the text of an answer; nothing where more turns came than may be taken.
+/// Writes the text of an answer; nothing if more turns came than may be taken.
 fn write_answer<S: Sink>(alloc: Global, answer: Option<Text>, out: &mut S) -> Status
     ensures never_usage { result ≢ Status.Usage }
     ensures never_illegal { result ≢ Status.NotLegal }
@@ -216,7 +216,7 @@ fn with_newline(alloc: Global, line: &str) -> Result<Text, OutOfMemory>
     Ok(text)
 }
 
-/// The first line of a text, and what stands behind its newline.
+/// The first line of a text, and what follows its newline.
 fn cut_line(text: &str) -> Option<(&str, &str)>
     ensures cut { IfSome result (λ x. text.now ≡ x.0.now ++ 10 ∷ x.1.now) }
     ensures shorter { IfSome result (λ x. length x.1.now < length text.now) }

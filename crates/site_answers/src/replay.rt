@@ -28,9 +28,9 @@ use whole_runs::write_site_log;
 /// How many turns are taken at most.
 pub(crate) const MOST_TURNS: u64 = 100_000_000;
 
-/// Writes the log of a script's turns over a site, whose events these workers take, behind the entries of a state file, if one is named, or why
-/// there is none. Its downtimes recur or don't. The state file is read first, and the script only where there are such entries. The workers are
-/// 1 to 64.
+/// Writes the log of a script's turns over a site, whose events these workers take, after the entries of a state file, if one is named, or
+/// why there is none. Its downtimes recur or don't. The state file is read first, and the script only if there are such entries. The
+/// workers are 1 to 64.
 pub fn replay_site<F: Files, S: Sink, C: Workers>(
     alloc: Global,
     workers: &C,
@@ -64,7 +64,7 @@ pub fn replay_site<F: Files, S: Sink, C: Workers>(
     }
 }
 
-/// Reads the script, and writes the log of its turns over a site, behind the entries of its checkables, one each by index.
+/// Reads the script, and writes the log of its turns over a site, after the entries of its checkables, one each by index.
 fn replay_over<F: Files, S: Sink, C: Workers>(
     alloc: Global,
     workers: &C,

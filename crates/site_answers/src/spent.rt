@@ -8,7 +8,7 @@ ghost use Rattle.site_run.specs.Logs.{EndsWhole};
 use site_edge::{Sink, SinkFault};
 use site_run::Status;
 
-/// Writes nothing, where more turns came than may be taken, and hands on what was kept back.
+/// Writes nothing, since more turns came than may be taken, and hands on what was kept back.
 pub(crate) fn write_spent<S: Sink>(out: &mut S) -> Status
     ensures never_usage { result ≢ Status.Usage }
     ensures never_illegal { result ≢ Status.NotLegal }

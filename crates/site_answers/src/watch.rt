@@ -17,8 +17,8 @@ use site_run::{Status, Workers};
 use std::alloc::Global;
 use whole_runs::write_site_log;
 
-/// Writes the log of the world's turns over a site, whose events these workers take, behind the entries of a state file, if one is named, or
-/// why there is none. Its downtimes recur or don't. No turn is taken and no check started where there are no such entries. The workers are 1
+/// Writes the log of the world's turns over a site, whose events these workers take, after the entries of a state file, if one is named, or
+/// why there is none. Its downtimes recur or don't. No turn is taken and no check started if there are no such entries. The workers are 1
 /// to 64.
 pub fn watch_site<F: Files, W: World, S: Sink, C: Workers>(
     alloc: Global,

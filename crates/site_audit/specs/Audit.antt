@@ -32,13 +32,13 @@ is_written style b s blocks (Some turns) = agreeing style b (start s (no_entries
 abbrev pub is_legal : Style → Basis → PlainSite → List (List (List ℕ)) → Bool
 is_legal style b s blocks = is_written style b s blocks (turns_in 1 s style blocks)
 
--- behind so many blocks stands the first one such that the blocks through it are no legal log
+-- the block after so many is the first one such that the blocks through it are no legal log
 pub record IsFirstBad (style : Style) (b : Basis) (callers : ℕ) (s : PlainSite) (blocks : List (List (List ℕ))) (count : ℕ) : Type 0 where
   pub within : count < length blocks
   pub before : (k : ℕ) → k ≤ count → IsLegal style b callers s (take k blocks)
   pub bad : IsLegal style b callers s (take (suc count) blocks) → ⊥
 
--- its first line has this number, where that of the first block has the one before
+-- its first line is line `line`, if that of the first block is line `first`
 pub record IsBadLine (style : Style) (b : Basis) (callers : ℕ) (s : PlainSite) (first : ℕ) (blocks : List (List (List ℕ))) (line : ℕ) : Type 0 where
   pub count : ℕ
   pub is_first : IsFirstBad style b callers s blocks count

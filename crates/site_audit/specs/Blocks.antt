@@ -2,7 +2,7 @@
 use Rattle.std.specs.Prelude.{ℕ, suc, ◌==◌, nat_eq, not, Bool, List, [], ◌∷◌, codes, if◌then◌else◌}
 use Rattle.std.specs.List.{onto_first, starts_with}
 
--- bytes cut behind each newline; what stands behind the last one is a line too
+-- bytes cut after each newline; what follows the last one is a line too
 abbrev pub lines_of : List ℕ → List (List ℕ)
 lines_of [] = []
 lines_of (b ∷ bs) = if b == 10 then (b ∷ []) ∷ lines_of bs else onto_first b (lines_of bs)
@@ -15,7 +15,7 @@ line_len (b ∷ bs) = if b == 10 then 1 else suc (line_len bs)
 abbrev pub begins_turn : List ℕ → Bool
 begins_turn line = starts_with nat_eq line (codes "turn ")
 
--- a line behind which its block goes on
+-- a line after which its block goes on
 abbrev pub goes_on : List ℕ → Bool
 goes_on line = not (begins_turn line)
 

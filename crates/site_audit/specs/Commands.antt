@@ -67,7 +67,7 @@ abbrev pub output_text : List ℕ → List ℕ → List ℕ
 output_text output [] = output
 output_text output (b ∷ bs) = output ++ 124 ∷ b ∷ bs
 
--- what stands behind the names, with empty authors and comments
+-- what follows the names, with empty authors and comments
 abbrev pub fields_text : Event → List ℕ
 fields_text (event.Result status passive output perf) = 59 ∷ (decimal status ++ 59 ∷ output_text output perf)
 fields_text event.Tick = []
@@ -116,7 +116,7 @@ abbrev pub closed_line : Option (List ℕ) → Option (List ℕ)
 closed_line None = None
 closed_line (Some name) = line_for name (event.Result 0 true [] [])
 
--- a line that is refused so, where this host and this checkable are those
+-- a line that is refused so, if this host and this checkable are those
 abbrev pub refused_with : Option (List ℕ) → Option (List ℕ) → LineFault → Option (List ℕ)
 refused_with host closed fault.NotText = Some (255 ∷ [])
 refused_with host closed fault.NoBracket = Some []

@@ -9,7 +9,7 @@ pub record Filling : Type 0 where
   pub lines : List (List ℕ)
   pub left : List (List ℕ)
 
--- how many told lines stand between so many lines and the one of this number; none where it is 0, doesn't rise, or is above what is left
+-- how many told lines stand between so many lines and the one of this number; none if it is 0, doesn't rise, or is above what is left
 abbrev pub gap_to : ℕ → ℕ → ℕ → Option ℕ
 gap_to number so_far left =
     if nat_lt so_far number then (if nat_lt left (number - suc so_far) then None else Some (number - suc so_far)) else None
@@ -21,7 +21,7 @@ abbrev pub with_text : Filling → ℕ → Option (List ℕ) → Option Filling
 with_text f gap None = None
 with_text f gap (Some line) = Some (with_gap f gap line)
 
--- with one line more that is refused, where each fault has such a line
+-- with one line more that is refused, if each fault has such a line
 abbrev pub one_filled : (LineFault → Option (List ℕ)) → RefusedLine → Filling → Option Filling
 one_filled text r f = gap_to r.number (length f.lines) (length f.left) >>= λ gap. with_text f gap (text r.fault)
 

@@ -16,7 +16,7 @@ abbrev pub heard_with : Heard → EntryLine → Option Said → Option Heard
 heard_with h x None = None
 heard_with h x (Some s) = Some (hearing h x s)
 
--- an entry tells nothing that could have been where its caller is none of so many
+-- an entry tells nothing that could have been if its caller is none of so many
 abbrev pub entry_said : ℕ → List (List ℕ) → List (Option Open) → EntryLine → Option Said
 entry_said callers names os x =
     if nat_lt x.entry.caller callers then event_said (get_or names x.checkable []) (get_or os x.checkable None) x.entry.event else None
@@ -24,7 +24,7 @@ entry_said callers names os x =
 abbrev pub one_heard : ℕ → List (List ℕ) → List (Option Open) → Heard → EntryLine → Option Heard
 one_heard callers names os h x = heard_with h x (entry_said callers names os x)
 
--- what all entries say, one behind another
+-- what all entries say, one after another
 abbrev pub entries_heard : ℕ → List (List ℕ) → List (Option Open) → List EntryLine → Heard → Option Heard
 entries_heard callers names os [] h = Some h
 entries_heard callers names os (x ∷ xs) h = one_heard callers names os h x >>= entries_heard callers names (after_entry os x) xs

@@ -14,7 +14,7 @@ use Rattle.run_text.specs.declared.style.Style.TheVariants.{One, Two}
 use Rattle.site_audit.specs.declared.log_line.LogLine.{LogLine}
 use Rattle.site_audit.specs.declared.log_line.LogLine.TheVariants as line
 
--- Behind `turn `.
+-- After `turn `.
 unfoldable pub turn_at : List ℕ → Option LogLine
 turn_at bytes = do
   number ← number_at bytes
@@ -22,7 +22,7 @@ turn_at bytes = do
   moment ← bounded_at last_moment a
   ended (line.Turn number.0 moment.0, moment.1)
 
--- Behind `refused `.
+-- After `refused `.
 
 unfoldable pub fault_at : List ℕ → Front LineFault
 fault_at bytes =
@@ -40,9 +40,9 @@ refused_report_at bytes = do
   order ← number_at bytes
   ended (line.RefusedReport order.0, order.1)
 
--- Behind `order `.
+-- After `order `.
 
--- quoted words, joined by blanks, with a bound on their number; what stands behind them
+-- quoted words, joined by blanks, with a bound on their number; what follows them
 abbrev pub next_word : (List ℕ → Option (List ℕ)) → List ℕ → Option (List ℕ) → Option (List ℕ)
 next_word again rest None = Some rest
 next_word again rest (Some next) = again next

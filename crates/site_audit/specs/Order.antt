@@ -27,7 +27,7 @@ abbrev pub order_from : ℕ → ℕ → List Pair → List ℕ → List ℕ
 order_from zero count pairs done = done
 order_from (suc most) count pairs done = taken_next (order_from most count pairs) done (free_in count pairs done)
 
--- all of them, where each can be taken
+-- all of them, if each can be taken
 abbrev pub all_or_none : ℕ → List ℕ → Option (List ℕ)
 all_or_none count order = if length order == count then Some order else None
 
@@ -44,7 +44,7 @@ zeros_from k (w ∷ ws) = if w == 0 then k ∷ zeros_from (suc k) ws else zeros_
 abbrev pub zeros : List ℕ → List ℕ
 zeros ws = zeros_from 0 ws
 
--- with one more number, where its count is 0
+-- with one more number, if its count is 0
 abbrev pub noted : ℕ → ℕ → List ℕ → List ℕ
 noted k w ks = if nat_lt 0 w then ks else insert_key nat_cmp ks k
 

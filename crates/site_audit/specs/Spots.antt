@@ -7,7 +7,7 @@ use Rattle.site_audit.specs.declared.telling.Said.TheVariants as said
 use Rattle.site_audit.specs.declared.tracks.Spot.{Spot}
 
 -- Among the events of a caller come lines, then reports of orders for which a macro is missing, by number, then other reports, and then ticks, by
--- checkable. All callers stand on the first track, one behind another.
+-- checkable. All callers stand on the first track, one after another.
 abbrev pub kind_of : ℕ → Said → ℕ
 kind_of checkable (said.Line l) = 0
 kind_of checkable (said.Lacking order) = 1 + order
@@ -17,8 +17,8 @@ kind_of checkable said.Tick = 2 ^ 64 + 2 + checkable
 abbrev pub kind_spot : ℕ → EntryLine → Said → Spot
 kind_spot k x s = record { at = x.entry.caller * 2 ^ 66 + kind_of x.checkable s; thing = k }
 
--- The others are those of a checkable for a caller. Its entry of number n stands there at 2 n, and one that has seen n entries of it at 2 n + 1: behind
--- them, and before the next one.
+-- The others are those of a checkable for a caller. Its entry of number n stands there at 2 n, and one that has seen n entries of it at
+-- 2 n + 1: after them, and before the next one.
 abbrev pub track_at : ℕ → ℕ → ℕ
 track_at caller checkable = (1 + caller * 2 ^ 32 + checkable) * 2 ^ 80
 

@@ -63,7 +63,7 @@ turn_in text moment lines reports said (Some order) = turn_with moment (reports_
 abbrev pub turn_heard : PlainSite → Block → Heard → Option Turn
 turn_heard s b h = turn_in (refused_text s) b.moment b.lines b.reports h.said (taken_in (length h.said) h.spots)
 
--- the turn that a block of so many callers tells, where each checkable has this order; the orders after the block
+-- the turn that a block of so many callers tells, if each checkable has this order; the orders after the block
 abbrev pub nothing_heard : Heard
 nothing_heard = record { said = []; spots = [] }
 
@@ -106,7 +106,7 @@ all_told count turns = if length turns == count then Some turns else None
 abbrev pub turns_in : ℕ → PlainSite → Style → List (List (List ℕ)) → Option (List Turn)
 turns_in callers s style blocks = all_told (length blocks) (first_turns callers s style blocks)
 
--- the turns that a log of so many callers tells, behind the line of its version
+-- the turns that a log of so many callers tells, after the line of its version
 abbrev pub told_turns : ℕ → PlainSite → Style → List ℕ → Option (List Turn)
 told_turns callers s style log = turns_in callers s style (blocks_of (lines_of log))
 

@@ -21,7 +21,7 @@ is_earlier a b = same_track a b && nat_lt a.at b.at
 abbrev pub is_held : List Spot → List ℕ → Spot → Bool
 is_held spots done b = list_any (λ a. is_earlier a b && not (stands done a.thing)) spots
 
--- one waits where this is so of a spot of its own; one that stands already can't be taken either
+-- one waits if this is so of a spot of its own; one that stands already can't be taken either
 abbrev pub waits : List Spot → List ℕ → ℕ → Bool
 waits spots done k = stands done k || list_any (λ b. nat_eq b.thing k && is_held spots done b) spots
 
@@ -33,13 +33,13 @@ abbrev pub taken_from : ℕ → ℕ → List Spot → List ℕ → List ℕ
 taken_from zero count spots done = done
 taken_from (suc most) count spots done = taken_next (taken_from most count spots) done (ready count spots done)
 
--- all of them, where each can be taken
+-- all of them, if each can be taken
 unfoldable pub taken_in : ℕ → List Spot → Option (List ℕ)
 taken_in count spots = all_or_none count (taken_from count count spots [])
 
--- As it is counted: behind each spot stands a gate, which is open once all things up to it on its track are taken.
+-- As it is counted: after each spot stands a gate, which is open once all things up to it on its track are taken.
 
--- the gate for which a spot waits, where the gates before it are so many: the one behind those that are earlier on its track
+-- the gate for which a spot waits, if the gates before it are so many: the one after those that are earlier on its track
 abbrev pub low_behind : Last → ℕ → Spot → Option ℕ
 low_behind last gate x = if same_track last.spot x then (if nat_lt last.spot.at x.at then Some gate else last.low) else None
 
@@ -67,7 +67,7 @@ abbrev pub pair_with : Option ℕ → ℕ → List Pair
 pair_with None behind = []
 pair_with (Some before) behind = record { before = before; behind = behind } ∷ []
 
--- a thing waits for the gate before its spot, and the gate behind that for the thing and for the gate before it
+-- a thing waits for the gate before its spot, and the gate after that for the thing and for the gate before it
 abbrev pub spot_pairs : ℕ → ℕ → Option ℕ → Option ℕ → List Pair
 spot_pairs thing gate low next = pair_with low thing ++ (pair_with next gate ++ pair_with (Some thing) gate)
 

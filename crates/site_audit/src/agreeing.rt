@@ -38,7 +38,7 @@ const MOST_TURNS: u64 = 1 << 40;
 ///
 /// # Errors
 ///
-/// `OutOfMemory` where there is none for the run, also where it has more than 2^40 turns.
+/// `OutOfMemory` if there is too little memory for the run, and also if it has more than 2^40 turns.
 pub(crate) fn blocks_agreed(
     alloc: Global,
     site: Site,
@@ -63,7 +63,7 @@ pub(crate) fn blocks_agreed(
 ///
 /// # Errors
 ///
-/// `OutOfMemory` where there is none for what a turn gives. The engine is spent then.
+/// `OutOfMemory` if there is too little memory for what a turn gives. The engine is spent then.
 fn agreed(
     alloc: Global,
     engine: &mut Engine,
@@ -94,7 +94,7 @@ fn agreed(
     Ok(count)
 }
 
-/// Takes a turn of so many callers, and tells whether a block is what is written of it. The engine is spent where it isn't.
+/// Takes a turn of so many callers, and tells whether a block is what is written of it. The engine is spent if it isn't.
 fn agrees(
     alloc: Global,
     engine: &mut Engine,
@@ -173,7 +173,7 @@ fn agrees_told(
     Ok(is_text_of(block, lines.as_slice()))
 }
 
-/// Whether some bytes are these lines, one behind another.
+/// Whether some bytes are these lines, one after another.
 fn is_text_of(bytes: &[u8], lines: &[Text]) -> bool
     ensures { result ≡ bytes_eq bytes.now (concat lines.now) }
 {

@@ -34,7 +34,7 @@ pub enum Verdict {
 ///
 /// # Errors
 ///
-/// `OutOfMemory` where there is none for the turns that the log tells or for their run, also where it has more than 2^40 turns.
+/// `OutOfMemory` if there is too little memory for the turns that the log tells or for their run, and also if it has more than 2^40 turns.
 pub fn audit(alloc: Global, site: Site, callers: u32, log: &[u8]) -> Result<Verdict, OutOfMemory>
     requires sound { IsSound (site_view site) }
     requires few { length (site_view site).checkables < 2 ^ 32 - 1 }

@@ -29,7 +29,7 @@ pub(crate) struct EntryLine {
     pub(crate) entry: Entry,
 }
 
-/// A check that was ordered, which isn't started where a macro is missing.
+/// A check that was ordered, which isn't started if a macro is missing.
 #[derive(Clone, Copy)]
 pub(crate) struct OrderLine {
     pub(crate) number: u64,
@@ -52,7 +52,7 @@ pub(crate) struct Block {
 ///
 /// # Errors
 ///
-/// `BadLine` where one of them is no line of a log of this version, and `OutOfMemory` where there is none for what they tell.
+/// `BadLine` if one of them is no line of a log of this version, and `OutOfMemory` if there is too little memory for what they tell.
 pub(crate) fn read_block(
     alloc: Global,
     style: Style,

@@ -3,7 +3,7 @@ ghost use Rattle.std.specs.Prelude.{◌≡◌, ◌<◌, ◌≤◌, ◌==◌, ◌
 ghost use Rattle.std.specs.List.{prefix_len};
 ghost use Rattle.site_audit.specs.Blocks.{begins_turn as begins, blocks_of, goes_on, line_len as len_of_line, lines_of};
 
-/// The first block of a log: its first line, and the lines behind it up to the next one that begins a turn; and what stands behind it.
+/// The first block of a log: its first line, and the lines after it up to the next one that begins a turn; and what follows the block.
 pub(crate) fn cut_block(log: &[u8]) -> (&[u8], &[u8])
     requires { 0 < length log.now }
     ensures blocks { blocks_of (lines_of log.now) ≡ lines_of result.0.now ∷ blocks_of (lines_of result.1.now) }
@@ -37,7 +37,7 @@ pub(crate) fn begins_turn(line: &[u8]) -> bool
     line.starts_with(b"turn ")
 }
 
-/// The first line of some bytes with its newline, which the last line may lack, and what stands behind it.
+/// The first line of some bytes with its newline, which the last line may lack, and what follows it.
 pub(crate) fn cut_line(bytes: &[u8]) -> (&[u8], &[u8])
     requires { 0 < length bytes.now }
     ensures lines { lines_of bytes.now ≡ result.0.now ∷ lines_of result.1.now }

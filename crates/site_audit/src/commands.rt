@@ -12,7 +12,7 @@ use site_model::Event;
 use site_text::Line;
 use std::alloc::Global;
 
-/// The line that asks for an event of a checkable of this name, with the moment 0, and with an empty author and comment. `None` where no
+/// The line that asks for an event of a checkable of this name, with the moment 0, and with an empty author and comment. `None` if no
 /// line can name it, or the event is none that a line can ask for.
 pub(crate) fn command_line(
     alloc: Global,
@@ -37,7 +37,7 @@ pub(crate) fn can_be_named(name: &str) -> bool
     cut_field(name).is_none()
 }
 
-/// What stands before the first semicolon, and what behind it.
+/// What stands before the first semicolon, and what after it.
 fn cut_field(text: &str) -> Option<(&str, &str)>
     ensures { MatchOption result (cut_at semicolon text.now ≡ uncut) (λ x. cut_at semicolon text.now ≡ cut_into x.0.now x.1.now) }
 {
@@ -124,7 +124,7 @@ fn command_for(event: &Event, service: bool) -> Option<Command>
     }
 }
 
-/// Adds what stands behind the names.
+/// Adds what follows the names.
 fn push_fields(out: &mut Line, event: &Event) -> Result<(), OutOfMemory>
     ensures { OnOk result (out.new ≡ out.old ++ fields_text event.now) }
 {
@@ -172,7 +172,7 @@ fn push_acknowledgement(out: &mut Line, sticky: bool, notify: bool) -> Result<()
     out.push_str(";0;;")
 }
 
-/// Adds whether a downtime is fixed, and how long it lasts where it isn't.
+/// Adds whether a downtime is fixed, and how long it lasts if it isn't.
 fn push_length(out: &mut Line, fixed: bool, duration: u64) -> Result<(), OutOfMemory>
     ensures { OnOk result (out.new ≡ out.old ++ ((if fixed then codes ";1;0;" else codes ";0;0;") ++ (decimal duration ++ codes ";;"))) }
 {

@@ -8,8 +8,8 @@ use crate::refused::refused_line;
 use site_base::{Blob, OutOfMemory, Row, Text};
 use std::alloc::Global;
 
-/// The lines of a turn, of which these are refused: each stands at its number, and the told ones fill the other numbers. `None` where a
-/// number is 0, above the count, or doesn't rise, or where a refused line can't be had. The host and the checkable are those that
+/// The lines of a turn, of which these are refused: each stands at its number, and the told ones fill the other numbers. `None` if a
+/// number is 0, above the count, or doesn't rise, or if a refused line can't be had. The host and the checkable are those that
 /// `refused_line` names.
 pub(crate) fn fill(
     alloc: Global,

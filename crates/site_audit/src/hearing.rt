@@ -19,7 +19,7 @@ pub(crate) struct Heard {
     pub(crate) spots: Row<Spot>,
 }
 
-/// What these entries of so many callers tell behind what others told, where each checkable has this order. `None` where one tells nothing
+/// What these entries of so many callers tell after what others told, if each checkable has this order. `None` if one tells nothing
 /// that could have been; else the orders are those after all entries.
 pub(crate) fn hear_all(
     alloc: Global,
@@ -73,7 +73,7 @@ fn hear(
     }
 }
 
-/// The name of the checkable at a place; the empty one where there is none.
+/// The name of the checkable at a place; the empty one if there is none.
 #[tactic(auto, using(crate::proofs::HearLaws::name_there, crate::proofs::HearLaws::no_name_there))]
 fn name_at(checks: &[CheckSpec], checkable: u32) -> &str
     ensures { result.now ≡ get_or (map (λ c. c.name) (map check_view checks.now)) checkable [] }
@@ -96,7 +96,7 @@ fn order_at(orders: &[Option<Open>], checkable: u32) -> Option<Open>
     }
 }
 
-/// The order of a checkable has its result, where the entry is one.
+/// The order of a checkable has its result, if the entry is one.
 fn close(orders: &mut Vec<Option<Open>>, entry: &EntryLine)
     ensures { orders.new.items ≡ after_entry orders.old.items entry.now }
 {

@@ -9,7 +9,7 @@ ghost use Rattle.site_model.specs.PlainSite.{PlainSite};
 ghost use Rattle.site_audit.specs.Audit.{is_legal, IsLegal};
 ghost use Rattle.site_audit.specs.Told.{turns_in};
 
-/// With one caller it is a test whether blocks are legal: what is legal passes it, and what passes it is legal, where all that the told turns
+/// With one caller it is a test whether blocks are legal: what is legal passes it, and what passes it is legal, if all that the told turns
 /// bring is on checkables of the site.
 pub fn legal_blocks_of_one_caller_pass_a_test()
     ensures passes { (style : Style) (b : Basis) (s : PlainSite) (blocks : List (List (List ℕ))) → IsLegal style b 1 s blocks → is_legal style b s blocks ≡ true }

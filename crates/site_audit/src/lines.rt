@@ -33,7 +33,7 @@ const FAULTS: [LineFault; 9] = [
 ///
 /// # Errors
 ///
-/// `BadLine` where it is no line of a log of this version, and `OutOfMemory` where there is none for an entry or a name.
+/// `BadLine` if it is no line of a log of this version, and `OutOfMemory` if there is too little memory for an entry or a name.
 pub(crate) fn read_line(
     alloc: Global,
     style: Style,
@@ -145,7 +145,7 @@ fn read_order(
     read_command(alloc, style, number, checkable, rest)
 }
 
-/// The order of this number of a checkable, behind its name.
+/// The order of this number of a checkable, after its name.
 fn read_command(
     alloc: Global,
     style: Style,
@@ -202,7 +202,7 @@ fn read_started(
     }
 }
 
-/// What stands behind the words of a command, of which there may be none.
+/// What follows the words of a command, of which there may be none.
 fn read_words<'a>(alloc: Global, bytes: &'a [u8]) -> Result<&'a [u8], EntryError>
     ensures { Gives (λ x. x.now) result (words_at bytes.now) }
 {
@@ -212,7 +212,7 @@ fn read_words<'a>(alloc: Global, bytes: &'a [u8]) -> Result<&'a [u8], EntryError
     }
 }
 
-/// What stands behind words that are joined by blanks, of which each takes a byte at least.
+/// What follows words that are joined by blanks, of which each takes a byte at least.
 fn read_each_word<'a>(alloc: Global, bytes: &'a [u8]) -> Result<&'a [u8], EntryError>
     ensures { Gives (λ x. x.now) result (words_within (length bytes.now) bytes.now) }
 {

@@ -25,7 +25,7 @@ pub(crate) enum LogLine {
         checkable: u32,
         entry: Entry,
     },
-    /// A check of a checkable is ordered. It isn't started where a macro is missing.
+    /// A check of a checkable is ordered. It isn't started if a macro is missing.
     Order {
         number: u64,
         checkable: u32,

@@ -15,7 +15,7 @@ pub(crate) struct Pair {
 }
 
 /// The order in which so many things are taken, one after another: each time the first before which none that is left must stand. `None`
-/// where some can't be taken.
+/// if some can't be taken.
 ///
 /// It takes a time that grows with the pairs and the things, times a logarithm.
 pub(crate) fn order_of(
@@ -63,7 +63,7 @@ fn take(waits: &mut Vec<usize>, next: usize)
     waits[next] += 1;
 }
 
-/// Those that must stand behind one that was taken wait for one less, and may be free then.
+/// Those that must stand after one that was taken wait for one less, and may be free then.
 fn let_go(
     behind: &[usize],
     waits: &mut Vec<usize>,
@@ -80,7 +80,7 @@ fn let_go(
     Ok(())
 }
 
-/// One waits for one less, and is free where it waits for none.
+/// One waits for one less, and is free if it waits for none.
 fn release(k: usize, waits: &mut Vec<usize>, ready: &mut BTreeSet<usize>) -> Result<(), OutOfMemory>
     requires within { k < length waits.old.items }
     requires ready { ready.old.keys ≡ zeros waits.old.items }
@@ -137,7 +137,7 @@ fn ready_of(alloc: Global, waits: &[usize]) -> Result<BTreeSet<usize>, OutOfMemo
     Ok(ready)
 }
 
-/// One is free where it waits for none.
+/// One is free if it waits for none.
 fn note(k: usize, wait: usize, ready: &mut BTreeSet<usize>) -> Result<(), OutOfMemory>
     ensures { OnOk result (ready.new.keys ≡ noted k wait ready.old.keys) }
 {

@@ -9,8 +9,8 @@ use site_base::{Blob, OutOfMemory, Text};
 use site_model::{CheckSpec, Event};
 use std::alloc::Global;
 
-/// A line that is refused so, where this is the first host that a line can name, and that the first checkable that takes no passive
-/// results and that one can name. `None` where there is no such one.
+/// A line that is refused so, if this is the first host that a line can name, and that the first checkable that takes no passive
+/// results and that one can name. `None` if there is no such one.
 pub(crate) fn refused_line(
     alloc: Global,
     host: &Option<Text>,

@@ -11,8 +11,8 @@ use site_model::Sight;
 /// How many kinds of events are told apart for each caller.
 const KINDS: u128 = 1 << 66;
 
-/// Adds where an entry stands which says this: on the track of all, on that of its checkable, and on those of the checkables that it saw. Its
-/// caller is one of 64.
+/// Adds the spots of an entry that says this: on the track of all, on that of its checkable, and on those of the checkables that it saw.
+/// Its caller is one of 64.
 pub(crate) fn add_spots(
     thing: usize,
     line: &EntryLine,

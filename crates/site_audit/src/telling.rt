@@ -8,7 +8,7 @@ use site_edge::Report;
 use site_model::Event;
 use std::alloc::Global;
 
-/// An order that has no result yet, which wasn't started where a macro is missing.
+/// An order that has no result yet, which wasn't started if a macro is missing.
 #[derive(Clone, Copy)]
 pub(crate) struct Open {
     pub(crate) number: u64,
@@ -27,7 +27,7 @@ pub(crate) enum Said {
     Tick,
 }
 
-/// What an event of a checkable of this name tells, whose order is this one. `None` where no line can name it, or it has no order and this
+/// What an event of a checkable of this name tells, whose order is this one. `None` if no line can name it, or it has no order and this
 /// is a result.
 pub(crate) fn say(
     alloc: Global,

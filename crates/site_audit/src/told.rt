@@ -38,7 +38,7 @@ pub(crate) fn named_of(site: &Site) -> Result<Named, OutOfMemory>
     })
 }
 
-/// The turn that a block of so many callers tells, where each checkable has this order. `None` where it tells none; else the orders are
+/// The turn that a block of so many callers tells, if each checkable has this order. `None` if it tells none; else the orders are
 /// those after it.
 pub(crate) fn tell(
     alloc: Global,

@@ -18,7 +18,7 @@ pub(crate) struct Spot {
 /// How many instants a track has.
 pub(crate) const TRACK: u128 = 1 << 80;
 
-/// A spot, with the gate behind those that are earlier than it on its track.
+/// A spot, with the gate after those that are earlier than it on its track.
 #[derive(Clone, Copy)]
 pub(crate) struct Last {
     pub(crate) spot: Spot,
@@ -26,10 +26,10 @@ pub(crate) struct Last {
 }
 
 /// The order in which so many things are taken, one after another: each time the first before which none that is left must stand. `None`
-/// where some can't be taken.
+/// if some can't be taken.
 ///
-/// It takes a time that grows with the spots and the things, times a logarithm. Spots in order have a gate behind each, which is open once
-/// all things up to it on its track are taken; a thing waits for the gate behind those that are earlier than it.
+/// It takes a time that grows with the spots and the things, times a logarithm. Spots in order have a gate after each, which is open once
+/// all things up to it on its track are taken; a thing waits for the gate after those that are earlier than it.
 pub(crate) fn take_all(
     alloc: Global,
     count: usize,
@@ -99,7 +99,7 @@ fn pairs_of(
     Ok(pairs)
 }
 
-/// The gate for which a spot waits, where the gates before it are so many.
+/// The gate for which a spot waits, if the gates before it are so many.
 fn low_of(last: Option<Last>, gates: usize, spot: Spot) -> Option<usize>
     ensures { result ≡ low_for last gates spot }
 {
@@ -170,7 +170,7 @@ fn on_one_track(a: Spot, b: Spot) -> bool
     a.at / TRACK == b.at / TRACK
 }
 
-/// A thing waits for the gates before a spot of it, and the gate behind that for the thing and the gate before it.
+/// A thing waits for the gates before a spot of it, and the gate after that for the thing and the gate before it.
 fn add_spot(
     thing: usize,
     gate: usize,

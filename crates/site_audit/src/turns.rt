@@ -51,7 +51,7 @@ pub(crate) fn first_turns(
     )
 }
 
-/// The turns that the blocks of a log tell, where each checkable has this order.
+/// The turns that the blocks of a log tell, if each checkable has this order.
 fn tell_blocks(
     alloc: Global,
     callers: u32,
@@ -97,7 +97,7 @@ fn empty_orders(alloc: Global, count: usize) -> Result<Vec<Option<Open>>, OutOfM
     Ok(vec![in alloc; None; count]?)
 }
 
-/// The turn that a block tells, where each checkable has this order. `None` where it tells none; else the orders are those after it.
+/// The turn that a block tells, if each checkable has this order. `None` if it tells none; else the orders are those after it.
 fn tell_block(
     alloc: Global,
     callers: u32,
@@ -123,7 +123,7 @@ fn tell_block(
     }
 }
 
-/// What a block tells; `None` where it is none.
+/// What a block tells; `None` if it is none.
 fn read(
     alloc: Global,
     style: Style,

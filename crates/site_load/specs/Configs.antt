@@ -8,7 +8,7 @@ use Rattle.site_phases.specs.Phases.{phases, site_made}
 use Rattle.commit_waves.specs.Globals.{globals_of}
 use Rattle.site_load.specs.Loads.{LoadOutcome, loads, refuses}
 
--- the commit over these globals, where it is known whether the zone's file is none
+-- the commit over these globals, given whether the zone's file is none
 abbrev pub commit_with : List (List ℕ) → PlainGlobals → Bool → Loaded → Committed PlainSite
 commit_with names g bad load = commit (λ os. phases names g os bad) (site_made names g) load
 

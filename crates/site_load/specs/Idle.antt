@@ -16,11 +16,11 @@ comes_from n o = nat_eq n o.number.item
 abbrev pub is_idle : List PlainObject → PlainRule → Bool
 is_idle os r = not (list_any (comes_from r.number.item) os)
 
--- where those rules stand, in the order in which they were registered
+-- the places of those rules, in the order in which they were registered
 abbrev pub idle_places : List PlainRule → List PlainObject → List Place
 idle_places rs os = map (λ r. r.place) (filter (is_idle os) rs)
 
--- those of what was committed; where there is no site, nothing is said of its rules
+-- those of what was committed; if there is no site, nothing is said of its rules
 abbrev pub idle_by : List PlainRule → Committed PlainSite → List Place
 idle_by rs (site s) = idle_places rs s.objects
 idle_by rs (refused list) = []

@@ -20,7 +20,7 @@ use Rattle.site_load.specs.declared.load_answer.LoadAnswer.{LoadAnswer}
 use Rattle.site_load.specs.declared.load_answer.LoadAnswer.TheVariants as answer
 use Rattle.site_load.specs.Zones.{ZoneFound, unnamed, there, missing, zone_found, zone_name}
 
--- the names of the files with what they registered and the bytes of the zone's file, where one is named; or what is wrong
+-- the names of the files with what they registered and the bytes of the zone's file, if one is named; or what is wrong
 pub data LoadOutcome : Type 0 where
   loads : List (List ℕ) → Loaded → Option (List ℕ) → LoadOutcome
   refuses : List (List ℕ) → List Diag → LoadOutcome

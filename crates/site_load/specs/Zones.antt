@@ -14,7 +14,7 @@ abbrev pub name_by : Option Value → Option (List ℕ)
 name_by (Some (value.Str name)) = Some name
 name_by v = None
 
--- the name of the zone's file, where the global is a string
+-- the name of the zone's file, if the global is a string
 abbrev pub zone_name : List PlainCell → Option (List ℕ)
 zone_name cells = name_by (name_in cells (codes "SiteZone") (value.Ref 0))
 

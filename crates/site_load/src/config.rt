@@ -17,7 +17,7 @@ use std::alloc::Global;
 
 /// What the files of a site come to, from its root on: its typed site, or what is wrong with them.
 ///
-/// It is what `load` comes to, and then `commit_one` (commit_waves). `Failed` comes only where the files' count of faults rose.
+/// It is what `load` comes to, and then `commit_one` (commit_waves). `Failed` comes only if the files' count of faults rose.
 pub fn config_answer<F: Files>(
     alloc: Global,
     files: &mut F,

@@ -34,7 +34,7 @@ pub(crate) fn marks_of(alloc: Global, rules: &[Rule]) -> Result<Vec<Mark>, OutOf
     Ok(marks)
 }
 
-/// Where those of the rules stand of which the answer has no object; none where it has no site.
+/// The places of those rules of which the answer has no object; none if it has no site.
 #[tactic(auto, using(crate::proofs::Idling::idle_by_sources))]
 pub(crate) fn idle_rules(
     alloc: Global,
@@ -76,7 +76,7 @@ fn add_sources(sources: &mut IndexSet<u32>, objects: &[Object]) -> Result<(), Ou
     Ok(())
 }
 
-/// Where those rules stand from which nothing comes.
+/// The places of those rules from which nothing comes.
 fn idle_of(
     alloc: Global,
     rules: &[Mark],

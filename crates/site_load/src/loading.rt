@@ -39,9 +39,9 @@ const NO_ITEM: ItemNo = ItemNo {
 
 /// Reads and runs the files of a site, from its root on.
 ///
-/// All diagnostics of the walk are the answer, in walking order, where there are any; else the first fault of running the files as one
-/// evaluation; else `NoFile` at the head of the root where `SiteZone` is a string and there is no file of that name. `Failed`
-/// comes only where the files' count of faults rose.
+/// All diagnostics of the walk are the answer, in walking order, if there are any; else the first fault of running the files as one
+/// evaluation; else `NoFile` at the head of the root if `SiteZone` is a string and there is no file of that name. `Failed`
+/// comes only if the files' count of faults rose.
 pub fn load<F: Files>(alloc: Global, files: &mut F, root: &str) -> Result<LoadAnswer, LoadFault>
     ensures value { (all : Told) → F.told files.old ≡ Some all → IfOk result (λ a. load_view a ≡ load_outcome all root.now) }
     ensures is_load { IfOk result (IfLoaded IsLoad) }
@@ -85,7 +85,7 @@ fn run<F: Files>(alloc: Global, files: &mut F, walk: Walk) -> Result<LoadAnswer,
     }
 }
 
-/// What was loaded, with the file of the zone, where one is named.
+/// What was loaded, with the file of the zone, if one is named.
 fn with_zone<F: Files>(
     alloc: Global,
     files: &mut F,

@@ -23,17 +23,17 @@ use site_edge::Files;
 use site_phases::Answer;
 use std::alloc::Global;
 
-/// What the files of a site come to, and where the apply rules stand of which no object was made.
+/// What the files of a site come to, and the places of the apply rules of which no object was made.
 #[derive(Drop)]
 pub struct Made {
     pub answer: Answer,
     pub idle: Row<Place>,
 }
 
-/// The same as [`crate::config_answer`], and where those apply rules stand of which no object was made, in the order in which they were
-/// registered. Where there is no site, none is named.
+/// The same as [`crate::config_answer`], and the places of those apply rules of which no object was made, in the order in which they were
+/// registered. If there is no site, none is named.
 ///
-/// `Failed` comes only where the files' count of faults rose.
+/// `Failed` comes only if the files' count of faults rose.
 pub fn config_made<F: Files>(alloc: Global, files: &mut F, root: &str) -> Result<Made, LoadFault>
     ensures value { (all : Told) (bad : Bool) → F.told files.old ≡ Some all → Decides bad (IsBadZone (load_outcome all root.now))
         → IfOk result (λ m. answer_view m.answer ≡ config_outcome bad (load_outcome all root.now)) }

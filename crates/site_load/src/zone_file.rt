@@ -21,7 +21,7 @@ pub(crate) enum ZoneFile {
     Missing(Text),
 }
 
-/// Reads the file of the zone, where the global `SiteZone` is a string.
+/// Reads the file of the zone, if the global `SiteZone` is a string.
 pub(crate) fn zone_file<F: Files>(
     alloc: Global,
     files: &mut F,
@@ -55,7 +55,7 @@ fn read_zone<F: Files>(alloc: Global, files: &mut F, name: &str) -> Result<ZoneF
     }
 }
 
-/// The name of the zone's file, where the global `SiteZone` is a string.
+/// The name of the zone's file, if the global `SiteZone` is a string.
 fn zone_name(store: &Store) -> Option<&str>
     requires { HasGlobals store.now }
     ensures { option_map (λ n. n.now) result ≡ name_of_zone store.now.cells }

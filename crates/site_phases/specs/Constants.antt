@@ -47,7 +47,7 @@ constant_fault kind name = record { number = no_item; place = root_start; kind =
 
 -- ---- `MaxConcurrentChecks`
 
--- so many thousandths as a whole number from 1 to 65,535; none where they are no such number
+-- so many thousandths as a whole number from 1 to 65,535; none if they are no such number
 abbrev pub count_by : ℕ → Option ℕ
 count_by n = if n % 1000 == 0 && (nat_le 1000 n && nat_le n 65535000) then Some (n / 1000) else None
 
@@ -111,7 +111,7 @@ AreBadBytes (Some bytes) = IsBadFile bytes
 
 -- ---- both
 
--- what is wrong with the two, where it is known whether the zone's file is none
+-- what is wrong with the two, given whether the zone's file is none
 abbrev pub constant_faults : PlainGlobals → Bool → List Diag
 constant_faults g bad = fault_unless (orders_by g.max_checks) ++ zone_faults g.site_zone bad
 

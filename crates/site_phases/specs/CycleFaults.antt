@@ -37,7 +37,7 @@ name_or_none (Some d) = d.name
 abbrev pub name_at : PlainSite → ℕ → List ℕ
 name_at s k = name_or_none (slice_get s.depends k)
 
--- the quoted names of some behind the first, a blank before each
+-- the quoted names of some after the first, a blank before each
 abbrev pub more_names : PlainSite → List ℕ → List ℕ
 more_names s [] = []
 more_names s (k ∷ ks) = 32 ∷ (quoted (name_at s k) ++ more_names s ks)

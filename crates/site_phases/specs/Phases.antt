@@ -19,7 +19,7 @@ use Rattle.site_phases.specs.declared.answer.Answer.TheVariants as answer
 abbrev pub site_made : List (List ℕ) → PlainGlobals → List PlainObject → PlainSite
 site_made files g os = typed_site files (settings_of g) os
 
--- what the phases tell, where it is known whether the zone's file is none
+-- what the phases tell, given whether the zone's file is none
 abbrev pub phases : List (List ℕ) → PlainGlobals → List PlainObject → Bool → List (List Diag)
 phases files g os bad =
     by_number diag_number (duplicate_faults files os)
@@ -44,7 +44,7 @@ abbrev pub FilesStay : List (List ℕ) → Answer → Type 0
 FilesStay files (answer.Site s) = s.files ≡ files
 FilesStay files (answer.Diags fs list) = fs ≡ files
 
--- something holds of its site, where it is one
+-- something holds of its site, if it is one
 abbrev pub IfSite : Answer → (PlainSite → Type 0) → Type 0
 IfSite (answer.Site s) P = P (site_view s)
 IfSite (answer.Diags fs list) P = Unit {0}

@@ -33,7 +33,7 @@ pub(crate) const NO_ITEM: ItemNo = ItemNo {
     key: 0,
 };
 
-/// How many checks may be outstanding where nothing is set.
+/// How many checks may be outstanding if nothing is set.
 const USUAL_ORDERS: u32 = 512;
 
 impl Globals {
@@ -73,7 +73,7 @@ impl Globals {
     }
 }
 
-/// The value, where there is one.
+/// The value, if there is one.
 fn lent(value: &Option<Tree>) -> Option<&Tree>
     ensures { lent_tree result ≡ tree_view value.now }
 {
@@ -83,14 +83,14 @@ fn lent(value: &Option<Tree>) -> Option<&Tree>
     }
 }
 
-/// The zone's file, which counts where the value of `SiteZone` names it.
+/// The zone's file, which counts if the value of `SiteZone` names it.
 fn used(value: Option<&Tree>, file: Option<Blob>) -> Option<Blob>
     ensures { result ≡ file_used (lent_tree value.entry) file }
 {
     if names_file(value) { file } else { None }
 }
 
-/// Adds that `MaxConcurrentChecks` is no such count, where it is so.
+/// Adds that `MaxConcurrentChecks` is no such count, if it is so.
 fn push_unless(alloc: Global, out: &mut Diags, count: Option<u32>) -> Result<(), OutOfMemory>
     ensures { OnOk result (out.new ≡ out.old ++ fault_unless count) }
 {
@@ -116,7 +116,7 @@ fn push_zone(
     push_other(alloc, out, value)
 }
 
-/// Adds that a value names no file, where there is one.
+/// Adds that a value names no file, if there is one.
 fn push_other(alloc: Global, out: &mut Diags, value: Option<&Tree>) -> Result<(), OutOfMemory>
     ensures { OnOk result (out.new ≡ out.old ++ other_faults (lent_tree value.entry)) }
 {
@@ -126,7 +126,7 @@ fn push_other(alloc: Global, out: &mut Diags, value: Option<&Tree>) -> Result<()
     }
 }
 
-/// Adds that a file is none of a zone, where it is so.
+/// Adds that a file is none of a zone, if it is so.
 fn push_file(alloc: Global, out: &mut Diags, file: Option<&Blob>) -> Result<(), OutOfMemory>
     ensures { (bad : Bool) → Decides bad (AreBadBytes (option_copied file.entry)) → OnOk result (out.new ≡ out.old ++ bad_zone bad) }
 {

@@ -1,5 +1,5 @@
 //! The last part of a commit: what is wrong with all objects of a configuration together, phase by phase, and the typed site
-//! where nothing is (docs/OBJECTS.md, "The last phases").
+//! if nothing is (docs/OBJECTS.md, "The last phases").
 //!
 //! In reading order: the globals and the constants among them, dependencies on a cycle, and all phases.
 #![tactic(auto)]

@@ -15,16 +15,16 @@ use Rattle.site_posts.specs.declared.act.Act.{Act}
 abbrev pub asked_of : Act → Asked
 asked_of a = record { checkable = a.checkable; event = a.event }
 
--- the entry that an event makes of the checkable of index k where these entries stand
+-- the entry that an event makes of the checkable of index k if these are the entries so far
 abbrev pub entry_next : PlainSite → Option Tzif → ℕ → Histories → ℕ → Event → Entry
 entry_next s zone moment histories k v =
     next_entry (rules_in s zone) moment (λ c. of_index c histories) 0 k (check_at s k) v
 
--- the round that acts of one caller make behind these entries
+-- the round that acts of one caller make after these entries
 abbrev pub round_made : PlainSite → Option Tzif → ℕ → Histories → List Asked → Histories
 round_made s zone moment before acts = alone (rules_in s zone) moment before acts
 
--- the entries that stand behind a round of some of the acts, the first ones
+-- the entries after a round of some of the acts, the first ones
 pub record IsPartly (r : Rules) (moment : ℕ) (before : Histories) (acts : List Asked) (after : Histories) : Type 0 where
   pub done : List Asked
   pub rest : List Asked

@@ -18,7 +18,7 @@ use Rattle.site_posts.specs.declared.segment.Segment.{Segment}
 abbrev pub asked_in : Vec Act Global → List Asked
 asked_in list = map asked_of list.items
 
--- of the callers' events there is a round: these are its segments, and its entries stand in the books, behind those that stood there
+-- of the callers' events there is a round: these are its segments, and its entries stand in the books, after those that stood there
 pub record IsRoundOf (s : PlainSite) (zone : Option Tzif) (moment : ℕ) (old new : List Contents) (events : List (List Asked)) (segments : List Segment) : Type 0 where
   pub round : Histories
   pub is : IsRound (rules_in s zone) moment (histories_of old) events round

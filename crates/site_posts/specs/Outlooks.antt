@@ -22,7 +22,7 @@ use Rattle.site_posts.specs.declared.hall.Wanted.{Wanted}
 
 -- The checkables on which callers act.
 
--- each comes behind those that are less
+-- each comes after those that are less
 abbrev pub Ascends : List ℕ → Type 0
 Ascends ks = (i j : ℕ) → i < j → j < length ks → slice_index_or ks i 0 < slice_index_or ks j 0
 
@@ -62,7 +62,7 @@ abbrev pub Leads : PlainSite → Histories → List ℕ → List Ahead → List 
 Leads s before touched [] posts = posts ≡ []
 Leads s before touched (a ∷ ahead) posts = LeadsTo s before touched a.ancestor a.still (Leads s before touched ahead) posts
 
--- what one ancestor more shows all along, or its post behind those so far
+-- what one ancestor more shows all along, or its post after those so far
 abbrev pub LeadsOn : PlainSite → Histories → List ℕ → ℕ → Option View → List ℕ → List ℕ → Type 0
 LeadsOn s before touched p (Some view) old new = (view ≡ view_of (check_at s p) (of_index p before)) × IsNoneOf p touched × (new ≡ old)
 LeadsOn s before touched p None old new = (q : ℕ) × (slice_get touched q ≡ Some p) × (new ≡ old ++ q ∷ [])

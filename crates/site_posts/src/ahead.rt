@@ -12,7 +12,7 @@ use site_base::{OutOfMemory, Row};
 use site_model::View;
 use std::alloc::Global;
 
-/// An ancestor of a checkable in a round: what it shows all along, where nobody acts on it.
+/// An ancestor of a checkable in a round: what it shows all along, if nobody acts on it.
 #[derive(Drop)]
 pub(crate) struct Ahead {
     pub ancestor: u32,
@@ -56,7 +56,7 @@ pub(crate) fn outlook_of(
     })
 }
 
-/// What an ancestor shows all along, or else its post, which comes behind these.
+/// What an ancestor shows all along, or else its post, which comes after these.
 fn still_of(
     books: &[Checkable],
     touched: &[u32],
@@ -76,7 +76,7 @@ fn still_of(
     }
 }
 
-/// What all ancestors show, where the sights are those of the ones with posts, in their order.
+/// What all ancestors show, if the sights are those of the ones with posts, in their order.
 pub(crate) fn shown_with(
     alloc: Global,
     ahead: &[Ahead],

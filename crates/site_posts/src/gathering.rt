@@ -16,7 +16,7 @@ use std::collections::BTreeMap;
 /// The entries so far, by checkable.
 pub(crate) type Gathered = BTreeMap<u32, Row<Entry>>;
 
-/// Adds an entry behind those that its checkable got before it.
+/// Adds an entry after those that its checkable got before it.
 pub(crate) fn gather(
     alloc: Global,
     gathered: &mut Gathered,
@@ -35,7 +35,7 @@ pub(crate) fn gather(
     begin(alloc, gathered, checkable, entry)
 }
 
-/// Whether a checkable comes behind all that got entries. Most acts of a turn come by ascending index.
+/// Whether a checkable comes after all that got entries. Most acts of a turn come by ascending index.
 fn is_behind(gathered: &Gathered, checkable: u32) -> bool
     ensures { result ≡ true → lookup (is_at (nat_cmp checkable)) gathered.now.entries ≡ None }
 {

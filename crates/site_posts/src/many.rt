@@ -31,12 +31,13 @@ use time_range::Zone;
 /// made. The books are the checkables of the site, one each by index, and have no entry after the moment. A caller that acts on a
 /// checkable enters the gate at Inside and at Outside of its index.
 ///
-/// It takes a time that grows with the acts, with the ancestors of their checkables, with the callers for each of these checkables, and
-/// with the logarithm of how many there are. Where no more than one caller has acts no thread is made.
+/// It takes a time that grows with the acts, with the ancestors of their checkables and the downtimes of these checkables that aren't past,
+/// with the callers for each of these checkables, and with the logarithm of how many there are. If no more than one caller has acts no
+/// thread is made.
 ///
 /// # Errors
 ///
-/// `OutOfMemory` where there is none for the callers, an entry, its sights or the answer. The books are then spent.
+/// `OutOfMemory` if there is too little memory for the callers, an entry, its sights or the answer. The books are then spent.
 pub fn round_many<R: Wait + Threads + Sync, G: Gate + Sync>(
     rt: &R,
     alloc: Global,

@@ -26,13 +26,13 @@ use time_range::Zone;
 /// what the ancestors of its checkable show when it is made. The books are the checkables of the site, one each by index, and have
 /// no entry after the moment.
 ///
-/// It takes a time that grows with the acts, with the ancestors of their checkables, and with the logarithm of how many checkables get
-/// entries.
+/// It takes a time that grows with the acts, with the ancestors of their checkables and the downtimes of these checkables that aren't past,
+/// and with the logarithm of how many checkables get entries.
 ///
 /// # Errors
 ///
-/// `OutOfMemory` where there is none for an entry, its sights or the answer. The books then have the entries of the first of the acts,
-/// of which any number was taken.
+/// `OutOfMemory` if there is too little memory for an entry, its sights or the answer. The books then have the entries of the first of the
+/// acts, of which any number was taken.
 pub fn round_one(
     alloc: Global,
     site: &Site,

@@ -30,7 +30,7 @@ impl<'a> Setting<'a> {
     ///
     /// # Errors
     ///
-    /// `OutOfMemory` where there is none for the answer.
+    /// `OutOfMemory` if there is too little memory for the answer.
     pub fn sights(
         &self,
         books: &[Checkable],
@@ -71,7 +71,7 @@ impl<'a> Setting<'a> {
     ///
     /// # Errors
     ///
-    /// `OutOfMemory` where there is none for the entry; all books are then as before.
+    /// `OutOfMemory` if there is too little memory for the entry; all books are then as before.
     pub(crate) fn take(
         &self,
         books: &mut Vec<Checkable>,

@@ -32,7 +32,7 @@ use Rattle.site_words.specs.Tasks.{Task, audit, check, daemon, generate, keep, o
 
 -- Configurations.
 
--- what a root's configuration comes to, by the names of its files, where it is known whether the file of its zone is none
+-- what a root's configuration comes to, by the names of its files, given whether the file of its zone is none
 abbrev pub AnswersRoot : Files → List ℕ → (List (List ℕ) → Committed PlainSite → Type 0) → Type 0
 AnswersRoot files root Is =
     (bad : Bool) → Decides bad (IsBadZone (load_outcome files root)) → Is (names_of (load_outcome files root)) (config_outcome bad (load_outcome files root))
@@ -69,7 +69,7 @@ AnswersGenerated hosts w = AnswersSite (files_of hosts) root_name (IsCounted hos
 
 -- Tasks.
 
--- what answers to a task that so many workers do. Where it is over files and they aren't told, anything does. What is counted of a generated
+-- what answers to a task that so many workers do. If it is over files and they aren't told, anything does. What is counted of a generated
 -- site is the same for each number, for all its events are dealt to the first.
 abbrev pub Answers : ℕ → Task → Option Files → Option (List Turn) → Whole → Type 0
 Answers callers (check root) files turns w = IfSome files (λ all. AnswersShown all shown.Count root w)
@@ -125,7 +125,7 @@ Came end callers task files old new = Unit {0}
 
 -- Remarks.
 
--- what is remarked of what a root's configuration comes to, where downtimes recur or don't, was told
+-- what is remarked of what a root's configuration comes to, with downtimes that recur or don't, was told
 abbrev pub RemarksOn : Bool → Files → List ℕ → Option (List Remark) → Option (List Remark) → Type 0
 RemarksOn recur files root old new =
     AnswersRoot files root (λ names c. new ≡ with_remarks old (remarks_of recur c (idle_by (rules_of (load_outcome files root)) c)))

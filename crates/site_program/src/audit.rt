@@ -18,7 +18,7 @@ use site_run::{Status, Workers};
 use std::alloc::Global;
 
 /// Writes whether a log is one that a run with as many workers as these writes over the site that the files from the root on make, and else
-/// in which line it goes wrong, or why there is no site. The log is read only where there is one. The workers are 1 to 64.
+/// in which line it goes wrong, or why there is no site. The log is read only if there is one. The workers are 1 to 64.
 pub fn audit_log<F: Files, S: Sink, C: Workers, M: Committers<F>>(
     alloc: Global,
     workers: &C,

@@ -24,7 +24,7 @@ pub trait Committers<F: Files> {
     ///
     /// # Errors
     ///
-    /// `Failed` comes only where the files' count of faults rose.
+    /// `Failed` comes only if the files' count of faults rose.
     fn answer(&self, alloc: Global, files: &mut F, root: &str) -> Result<Answer, LoadFault>
         requires apt { apt self.now }
         ensures value { (all : Told) (bad : Bool) → F.told files.old ≡ Some all → Decides bad (IsBadZone (load_outcome all root.now))
@@ -37,7 +37,7 @@ pub trait Committers<F: Files> {
         ensures calm { F.calm files.old → F.calm files.new }
         ensures unfailing { F.calm files.old → result ≢ Err LoadFault.Failed };
 
-    /// The same, and where those apply rules stand of which no object was made, as [`config_made`] says.
+    /// The same, and the places of those apply rules of which no object was made, as [`config_made`] says.
     ///
     /// # Errors
     ///

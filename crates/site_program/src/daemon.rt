@@ -20,8 +20,8 @@ use site_run::{Status, Workers};
 use std::alloc::Global;
 
 /// Writes the log of the world's turns, whose events these workers take, over the site that the files from the root on make, or why there
-/// is none, behind the entries of a state file, if one is named, and tells what is remarked of that site before. Its downtimes recur or don't. No turn is
-/// taken and no check started where there is no site, or no such entries. The workers are 1 to 64.
+/// is none, after the entries of a state file, if one is named, and tells what is remarked of that site before. Its downtimes recur or
+/// don't. No turn is taken and no check started if there is no site, or no such entries. The workers are 1 to 64.
 pub fn watch<F: Files, W: World, S: Sink, N: Remarks, C: Workers, M: Committers<F>>(
     alloc: Global,
     workers: &C,

@@ -18,7 +18,7 @@ use site_run::{Status, Workers};
 use std::alloc::Global;
 
 /// Writes the state file of the entries that the turns of a script leave, whose events these workers take, over the site that the files from
-/// the root on make, or why there is none. The script is read only where there is a site. The workers are 1 to 64.
+/// the root on make, or why there is none. The script is read only if there is a site. The workers are 1 to 64.
 pub fn keep<F: Files, S: Sink, C: Workers, M: Committers<F>>(
     alloc: Global,
     workers: &C,

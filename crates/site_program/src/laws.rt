@@ -14,7 +14,7 @@ pub fn answers_are_one()
 {}
 
 /// So a run that no fault of files, world or output ended wrote the whole answer and ended with its status, or there was
-/// no memory for it. Where diagnostics answer, these were written.
+/// no memory for it. If the answer is diagnostics, these were written.
 pub fn calm_runs_write_their_answer()
     ensures { (s : Status) (t : Task) (files : Files) (turns : List Turn) (old new : Option (List ℕ)) (w : Whole) → EndsRun s (Answers 1 t (Some files) (Some turns)) old new
         → (s ≡ status.ReadFault → ⊥) → (s ≡ status.WriteFault → ⊥) → (s ≡ status.WorldFault → ⊥)

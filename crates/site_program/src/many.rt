@@ -42,7 +42,7 @@ use std::thread::Threads;
 use turn_engine::{Engine, TurnOut};
 
 /// Does what the words of a command line ask for, with as many workers as they ask for. Those make the objects of a wave at the same time, and
-/// then take the events of a turn, and enter the gate before and after each. Where it is one, [`run_one`] does it, and no thread is made.
+/// then take the events of a turn, and enter the gate before and after each. If that is one, [`run_one`] does it, and no thread is made.
 ///
 /// `world` is touched by `daemon` alone, `files` by all words but `gen`, `remarks` by `check` and `daemon`, and after `Usage` nothing is.
 pub fn run<F: Files, W: World, S: Sink, N: Remarks, R: Wait + Threads + Sync, G: Gate + Sync>(
@@ -66,10 +66,10 @@ pub fn run<F: Files, W: World, S: Sink, N: Remarks, R: Wait + Threads + Sync, G:
     ensures remarked { IfSome (command_in words.now) (λ c.
         Remarked result c.task (F.told files.old) (N.remarked remarks.old) (N.remarked remarks.new)) }
 
-    // Where it ends well, and where the world failed, nothing of that is kept back.
+    // If it ends well, and also if the world failed, nothing of that is kept back.
     ensures through { HandsOn result (S.kept_back out.new) }
 
-    // Of a daemon also which turns were taken, and by which calls their checks were started: none where it has no site.
+    // Of a daemon also which turns were taken, and by which calls their checks were started: none if it has no site.
     ensures came { IfSome (command_in words.now) (λ c.
         Came result c.workers c.task (F.told files.old) (outside (W.turns world.old) (W.started world.old) (W.calls world.old) (S.written out.old) (S.kept_back out.old)) (outside (W.turns world.new) (W.started world.new) (W.calls world.new) (S.written out.new) (S.kept_back out.new))) }
 

@@ -18,8 +18,8 @@ use site_run::{Status, Workers};
 use std::alloc::Global;
 
 /// Writes what a query is answered once the turns of a script are over, whose events these workers take, over the site that the files from the
-/// root on make, or why there is none. The script is read only where there is a site, and the query only where that has turns. The workers are 1 to
-/// 64.
+/// root on make, or why there is none. The script is read only if there is a site, and the query only if that has turns. The workers are
+/// 1 to 64.
 pub fn answer_query<F: Files, S: Sink, C: Workers, M: Committers<F>>(
     alloc: Global,
     workers: &C,

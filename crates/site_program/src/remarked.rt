@@ -17,7 +17,7 @@ use site_phases::Answer;
 use site_replies::{Remarks, remarks_of, tell_all};
 use std::alloc::Global;
 
-/// What the files of a site come to, once it is told what is remarked of the site, where there is one, whose downtimes recur or don't, and
+/// What the files of a site come to, once it is told what is remarked of the site, if there is one, whose downtimes recur or don't, and
 /// how many of its checks may be outstanding.
 pub(crate) fn answer_remarked<F: Files, N: Remarks, M: Committers<F>>(
     alloc: Global,

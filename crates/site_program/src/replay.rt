@@ -19,8 +19,8 @@ use site_run::{Status, Workers};
 use std::alloc::Global;
 
 /// Writes the log of a script's turns, whose events these workers take, over the site that the files from the root on make, or why there
-/// is none, behind the entries of a state file, if one is named. Its downtimes recur or don't. The state file is read only where there is a site, and
-/// the script only where there are such entries. The workers are 1 to 64.
+/// is none, after the entries of a state file, if one is named. Its downtimes recur or don't. The state file is read only if there is a
+/// site, and the script only if there are such entries. The workers are 1 to 64.
 pub fn replay<F: Files, S: Sink, C: Workers, M: Committers<F>>(
     alloc: Global,
     workers: &C,

@@ -48,10 +48,10 @@ pub fn run_one<F: Files, W: World, S: Sink, N: Remarks>(
     ensures remarked { IfSome (command_in words.now) (λ c. IfSome result (λ status.
         Remarked status c.task (F.told files.old) (N.remarked remarks.old) (N.remarked remarks.new))) }
 
-    // Where it ends well, and where the world failed, nothing of that is kept back.
+    // If it ends well, and also if the world failed, nothing of that is kept back.
     ensures through { IfSome result (λ status. HandsOn status (S.kept_back out.new)) }
 
-    // Of a daemon also which turns were taken, and by which calls their checks were started: none where it has no site.
+    // Of a daemon also which turns were taken, and by which calls their checks were started: none if it has no site.
     ensures came { IfSome (command_in words.now) (λ c. IfSome result (λ status.
         Came status c.workers c.task (F.told files.old) (outside (W.turns world.old) (W.started world.old) (W.calls world.old) (S.written out.old) (S.kept_back out.old)) (outside (W.turns world.new) (W.started world.new) (W.calls world.new) (S.written out.new) (S.kept_back out.new)))) }
 

@@ -49,7 +49,7 @@ is_listed_of t o = not o.builtin && is_of t o
 
 -- Remarks.
 
--- of a number of things, where there are some
+-- of a number of things, if there are some
 abbrev pub of_some : ℕ → Remark → List Remark
 of_some n r = if nat_eq n 0 then [] else r ∷ []
 
@@ -57,7 +57,7 @@ of_some n r = if nat_eq n 0 then [] else r ∷ []
 abbrev pub lacks : List Lack
 lacks = lack.Environment ∷ lack.Timeout ∷ lack.CheckTimeout ∷ lack.CommandEndpoint ∷ lack.EventCommand ∷ lack.NotificationCommand ∷ []
 
--- and what it does where downtimes recur
+-- and what it does if downtimes recur
 abbrev pub without_recur : Bool → List Lack
 without_recur true = []
 without_recur false = lack.ScheduledDowntime ∷ []
@@ -93,7 +93,7 @@ remarks_of recur (refused list) idle = []
 
 -- Telling.
 
--- what was told, with more behind it, where it is known
+-- what was told, with more after it, if it is known
 abbrev pub with_remarks : Option (List Remark) → List Remark → Option (List Remark)
 with_remarks None new = None
 with_remarks (Some old) new = Some (old ++ new)

@@ -32,7 +32,7 @@ pub enum Lack {
     EventCommand,
     /// A `NotificationCommand`.
     NotificationCommand,
-    /// A `ScheduledDowntime`, where downtimes don't recur.
+    /// A `ScheduledDowntime`, if downtimes don't recur.
     ScheduledDowntime,
 }
 
@@ -46,7 +46,7 @@ const LACKS: [Lack; 6] = [
     Lack::NotificationCommand,
 ];
 
-/// What it does where downtimes recur.
+/// What it does if downtimes recur.
 const WITHOUT_RECUR: [Lack; 1] = [Lack::ScheduledDowntime];
 
 /// What is remarked of a site.
@@ -60,10 +60,10 @@ pub enum Remark {
     IdleRule { file: Text, line: u32, col: u32 },
 }
 
-/// What is remarked of what a configuration comes to, whose apply rules at these places make no object; nothing where there is no site.
+/// What is remarked of what a configuration comes to, whose apply rules at these places make no object; nothing if there is no site.
 ///
-/// For each lack of the program how many objects ask for it, where some do, with `ScheduledDowntime` only where downtimes don't recur; how many time periods there are, where there are some and no
-/// zone; and each of those rules. Objects of the built-in library aren't counted.
+/// For each lack of the program how many objects ask for it, if some do, with `ScheduledDowntime` only if downtimes don't recur; how many
+/// time periods there are, if there are some and no zone; and each of those rules. Objects of the built-in library aren't counted.
 pub fn remarks_of(
     alloc: Global,
     recur: bool,
@@ -185,7 +185,7 @@ fn is_set(kind: ObjectType, attribute: Attribute, object: &Object) -> bool
     Attributes { kind, tree }.set(attribute).is_some()
 }
 
-/// Adds how many time periods there are, where the site names no zone.
+/// Adds how many time periods there are, if the site names no zone.
 fn push_zone(remarks: &mut Vec<Remark>, site: &Site) -> Result<(), OutOfMemory>
     ensures { OnOk result (remarks.new.items ≡ remarks.old.items ++ zone_remarks (site_view site.now)) }
 {
@@ -227,7 +227,7 @@ fn push_idle(
     Ok(())
 }
 
-/// The name of a file is empty where there is none.
+/// The name of a file is empty if there is none.
 fn idle_rule(alloc: Global, files: &[Text], place: Place) -> Result<Remark, OutOfMemory>
     ensures { IfOk result (λ remark. remark ≡ idle_remark files.now place) }
 {
@@ -260,7 +260,7 @@ impl Display for Remark {
     }
 }
 
-/// What stands behind the number of the objects.
+/// What follows the number of the objects.
 fn words_of(lack: Lack) -> &'static str {
     match lack {
         Lack::Environment => "commands set env, which no check is given",

@@ -8,14 +8,14 @@ use site_base::OutOfMemory;
 
 /// Where a run tells what is remarked of its site. Whether anybody hears it doesn't change the run.
 pub trait Remarks {
-    /// What was told, where that is known.
+    /// What was told, if that is known.
     ghost remarked: { Self → Option (List PlainRemark) };
 
     /// Tells a remark.
     ///
     /// # Errors
     ///
-    /// `OutOfMemory` where there is none to keep it. Nothing is said then of what was told.
+    /// `OutOfMemory` if there is too little memory to keep it. Nothing is said then of what was told.
     fn tell(&mut self, remark: &Remark) -> Result<(), OutOfMemory>
         ensures { OnOk result (remarked self.new ≡ with_remarks (remarked self.old) (remark.now ∷ [])) };
 

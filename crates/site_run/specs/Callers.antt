@@ -11,7 +11,7 @@ use Rattle.site_run.specs.Starts.{started_of}
 abbrev pub AreCallers : ℕ → Type 0
 AreCallers callers = (1 ≤ callers) × (callers ≤ 64)
 
--- the next turn of a run with so many callers, by its lines, the orders that are started of it, and the stage behind it
+-- the next turn of a run with so many callers, by its lines, the orders that are started of it, and the stage after it
 pub record IsTaken (callers : ℕ) (c : Course) (t : Turn) (lines : List (List ℕ)) (orders : List Order) (next : Stage) : Type 0 where
   pub log : TurnLog
   pub is : IsNextLog callers c [] [] t log

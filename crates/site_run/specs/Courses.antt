@@ -1,4 +1,4 @@
--- Turns of a run, one after another: their logs, what is written and started of them, and what stands behind them.
+-- Turns of a run, one after another: their logs, what is written and started of them, and how the run stands after them.
 use Rattle.std.specs.Prelude.{ℕ, List, [], map}
 use Rattle.std.specs.List.{concat, flat_map}
 use Rattle.run_meaning.specs.Alone.{run_alone, turn_alone}
@@ -20,7 +20,7 @@ pub record Course : Type 0 where
   pub stage : Stage
   pub style : Style
 
--- that of an engine with a feed, where this is what stood when each turn so far began, and which the feed was at first
+-- that of an engine with a feed: with what stood when each turn so far began, and the feed as it was at first
 abbrev pub course_of : {F : Type 0} → Running → List Begun → Style → Giving F → Changing F → F → Course
 course_of r begun style gives after first =
     record { basis = basis_fed (site_view r.site) r.zone gives after first; stage = stage_of r begun; style = style }
@@ -50,11 +50,11 @@ orders_over ls = flat_map (λ l. started_of l.orders) ls
 abbrev pub calls_over : List TurnLog → List (List Order)
 calls_over ls = flat_map (λ l. calls_with (started_of l.orders)) ls
 
--- the run behind them
+-- the run after them
 abbrev pub behind_over : Course → List Turn → List TurnLog → Course
 behind_over c ts ls = record c { stage = stage_by c.basis c.stage (reads c ts) ls }
 
--- this is a log of one turn more, behind those
+-- this is a log of one turn more, after those
 abbrev pub IsNextLog : ℕ → Course → List Turn → List TurnLog → Turn → TurnLog → Type 0
 IsNextLog callers c ts ls t l = IsTurn c.basis callers (behind_over c ts ls).stage (turn_read c.basis.rules.site t) l
 
@@ -80,6 +80,6 @@ orders c ts = orders_over (logs c ts)
 abbrev pub calls : Course → List Turn → List (List Order)
 calls c ts = calls_over (logs c ts)
 
--- the run behind them
+-- the run after them
 abbrev pub behind : Course → List Turn → Course
 behind c ts = behind_over c ts (logs c ts)

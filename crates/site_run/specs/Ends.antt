@@ -58,7 +58,7 @@ pub record IsPartStarted (taken : List Turn) (written : List ℕ) (started order
   pub at : IsAt taken written (started ++ part) (by_calls ++ tried) old new
   pub through : new.kept_back ≡ 0
 
--- nothing is kept back, where nothing was at first
+-- nothing is kept back, if nothing was at first
 abbrev pub StaysThrough : Outside → Outside → Type 0
 StaysThrough old new = old.kept_back ≡ 0 → new.kept_back ≡ 0
 
@@ -78,12 +78,12 @@ pub record IsGone (callers : ℕ) (c : Course) (t : Turn) (next : Stage) (old ne
   pub through : new.kept_back ≡ 0
   pub after : next ≡ (behind_over c (t ∷ []) (log ∷ [])).stage
 
--- or the run stops in it: before anything happened, where there was no memory, or in the text or the orders of such a turn
+-- or the run stops in it: before anything happened, if there was no memory, or in the text or the orders of such a turn
 abbrev pub StopsTurn : ℕ → Course → Turn → Stop → Outside → Outside → Type 0
 StopsTurn callers c t why old new =
     ((why ≡ stop.OutOfMemory) × (new ≡ old)) ⊎ ((l : TurnLog) × IsNextLog callers c [] [] t l × StopsIn why (text_of c l) (started_of l.orders) old new)
 
--- Within a run, behind turns with these logs.
+-- Within a run, after turns with these logs.
 
 -- between two turns: of those that were taken all is written, handed on and started
 abbrev pub IsBetween : Course → List Turn → List TurnLog → Outside → Outside → Type 0
@@ -102,17 +102,17 @@ abbrev pub IsInOrders : Course → List Turn → List TurnLog → Turn → TurnL
 IsInOrders c done ls t l old new =
     IsPartStarted (done ++ t ∷ []) (text_over c ls ++ text_of c l) (orders_over ls) (started_of l.orders) (calls_over ls) old new
 
--- no turn is left, where they are told
+-- no turn is left, if they are told
 abbrev pub NoneLeft : Option (List Turn) → Type 0
 NoneLeft turns = MatchOption turns (Unit {0}) (λ left. left ≡ [])
 
--- the engine and its feed stand behind these turns
+-- the engine and its feed are as these turns leave them
 pub record Stands {F : Type 0} (c : Course) (after : Changing F) (first : F) (done : List Turn) (ls : List TurnLog) (engine : Held) (now : F) : Type 0 where
   pub fresh : engine.spent ≡ false
   pub stage : stage_of engine.run (behind_over c done ls).stage.begun ≡ (behind_over c done ls).stage
   pub feed : now ≡ feed_after after first (behind_over c done ls).stage.begun
 
--- a turn was taken that is one of so many, behind these, and the run is in it so
+-- a turn was taken that is one of so many, after these, and the run is in it so
 abbrev pub InTurn : ℕ → List Turn → (Turn → Type 0) → Type 0
 InTurn limit done Is = (length done < limit) × ((t : Turn) × Is t)
 
@@ -120,7 +120,7 @@ InTurn limit done Is = (length done < limit) × ((t : Turn) × Is t)
 abbrev pub InLog : ℕ → Course → List Turn → List TurnLog → Turn → (TurnLog → Type 0) → Type 0
 InLog callers c done ls t Is = (l : TurnLog) × IsNextLog callers c done ls t l × Is l
 
--- By the status, where a run of at most so many turns is behind these: after the last turn, where engine and feed stand so; before a turn
+-- By the status, how far a run of at most so many turns is after these: after the last turn, with engine and feed so; before a turn
 -- more than may be taken; in the lines of a turn; before the next turn is taken, or in the orders of a turn.
 abbrev pub EndsBehind : Status → ℕ → Course → ℕ → (List Turn → List TurnLog → Type 0) → List Turn → List TurnLog → Outside → Outside → Type 0
 EndsBehind status.Done callers c limit stands done ls old new = stands done ls × IsBetween c done ls old new × NoneLeft new.turns
@@ -148,7 +148,7 @@ pub record Ends (s : Status) (callers : ℕ) (c : Course) (limit : ℕ) (stands 
 abbrev pub Came : Option (List Turn) → List Turn → Type 0
 Came told came = IfSome told (λ ts. came ≡ ts)
 
--- what was written, by the status, where this is the text of as many of the turns that came as may be taken: all of it, or after a fault a
+-- what was written, by the status, if this is the text of as many of the turns that came as may be taken: all of it, or after a fault a
 -- prefix
 abbrev pub WritesText : Status → ℕ → List Turn → List ℕ → Option (List ℕ) → Option (List ℕ) → Type 0
 WritesText status.Done limit came text old new = (length came ≤ limit) × Adds text old new
@@ -157,7 +157,7 @@ WritesText s limit came text old new = AddsPart text old new
 
 -- Of one caller.
 
--- so, where that is its text
+-- so, if that is its text
 abbrev pub WritesOf : Status → Course → ℕ → List Turn → Option (List ℕ) → Option (List ℕ) → Type 0
 WritesOf s c limit came old new = WritesText s limit came (text c (take limit came)) old new
 
@@ -168,8 +168,8 @@ pub record TellsOf (s : Status) (c : Course) (limit : ℕ) (old new : Outside) :
   pub written : WritesOf s c limit came old.written new.written
   pub started : AddsPart (orders c (take limit came)) old.started new.started
 
--- what is kept back when a run ends, by the status: nothing, but where the words or files were refused, where the output could not be
--- written, and where there was no memory
+-- what is kept back when a run ends, by the status: nothing, unless the words or files were refused, the output could not be
+-- written, or there was no memory
 abbrev pub HandsOn : Status → ℕ → Type 0
 HandsOn status.Done kept = kept ≡ 0
 HandsOn status.Diagnosed kept = kept ≡ 0

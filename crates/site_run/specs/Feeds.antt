@@ -17,7 +17,7 @@ pub record AreBooksFor (made_for : PlainSite → Type 0) (moment : ℕ) (books :
   pub made : made_for site
   pub are : AreBooks site moment books
 
--- which lines a feed gives where these entries stand at a moment
+-- which lines a feed gives at a moment at which these are the entries
 abbrev pub Giving : Type 0 → Type 0
 Giving F = F → Histories → ℕ → List (List ℕ)
 

@@ -58,7 +58,7 @@ pub record AnswersWorld (callers : ℕ) (style : Style) (limit : ℕ) (given : G
   pub told : Came turns came
   pub log : IsLog callers style limit s given came w
 
--- what was written, by the status: all of it where the run ends so where nothing fails, and a prefix after a fault
+-- what was written, by the status: all of it if the run ends as it does when nothing fails, and a prefix after a fault
 abbrev pub EndsWhole : Status → Whole → Option (List ℕ) → Option (List ℕ) → Type 0
 EndsWhole status.Done w old new = (w.ends ≡ status.Done) × Adds w.text old new
 EndsWhole status.Diagnosed w old new = (w.ends ≡ status.Diagnosed) × Adds w.text old new
@@ -74,7 +74,7 @@ EndsWhole status.OutOfMemory w old new = AddsPart w.text old new
 abbrev pub EndsOne : Status → (Whole → Type 0) → Option (List ℕ) → Option (List ℕ) → Type 0
 EndsOne s Is old new = (w : Whole) × Is w × EndsWhole s w old new
 
--- the same. Where the files could not be read, or there was no memory for what they come to, nothing was written.
+-- the same. If the files could not be read, or there was no memory for what they come to, nothing was written.
 abbrev pub EndsRun : Status → (Whole → Type 0) → Option (List ℕ) → Option (List ℕ) → Type 0
 EndsRun status.ReadFault Is old new = new ≡ old
 EndsRun status.OutOfMemory Is old new = (new ≡ old) ⊎ EndsOne status.OutOfMemory Is old new
@@ -91,7 +91,7 @@ pub record IsAtFirst (s : Status) (style : Style) (old new : Outside) : Type 0 w
 abbrev pub course_from_start : PlainSite → Option Tzif → Given → Style → Course
 course_from_start s zone given style = record { basis = basis_with s zone given.fed; stage = start s given.histories; style = style }
 
--- behind that, which is handed on, over turns
+-- after that, which is handed on, over turns
 pub record IsOverTurns (s : Status) (callers : ℕ) (style : Style) (limit : ℕ) (site : PlainSite) (given : Given) (old new : Outside) : Type 0 where
   pub zone : Option Tzif
   pub is_zone : IsZoneOf site.zone zone

@@ -12,7 +12,7 @@ abbrev pub started_of : List Ordered → List Order
 started_of [] = []
 started_of (o ∷ os) = start_with o.number o.command (started_of os)
 
--- by which calls a turn's orders are started: by one with all of them, and by none where there are none
+-- by which calls a turn's orders are started: by one with all of them, and by none if there are none
 abbrev pub calls_with : List Order → List (List Order)
 calls_with [] = []
 calls_with (o ∷ os) = (o ∷ os) ∷ []

@@ -55,8 +55,8 @@ pub fn drive_part_one<W: World, S: Sink, F: Feed>(
 /// The workers are 1 to 64. The engine isn't spent, its turns and the limit are together at most 2^40, its site is sound, and the feed is
 /// made for it.
 ///
-/// It ends with `Done` after the last turn, and then the engine and the feed stand behind all of them; with `TurnsSpent` where one more
-/// came than the limit; with `WriteFault` where a line could not be written or handed on; with `WorldFault` where the world could give no
+/// It ends with `Done` after the last turn, and then the engine and the feed are as all of them leave them; with `TurnsSpent` if one more
+/// came than the limit; with `WriteFault` if a line could not be written or handed on; with `WorldFault` if the world could give no
 /// turn or take no orders; and with `OutOfMemory`. After another status than `Done` the engine may be spent, and nothing is said of the feed.
 pub fn drive_part<W: World, S: Sink, F: Feed, C: Workers>(
     alloc: Global,

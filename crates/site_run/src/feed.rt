@@ -16,7 +16,7 @@ pub trait Feed {
     /// The sites that it was made for.
     ghost made_for: { Self → PlainSite → Type 0 };
 
-    /// The lines that it gives where these entries stand, at a moment.
+    /// The lines that it gives at a moment at which these are the entries.
     ghost gives: { Self → Histories → ℕ → List (List ℕ) };
 
     /// What it is once it gave them.
@@ -27,7 +27,7 @@ pub trait Feed {
     ///
     /// # Errors
     ///
-    /// `OutOfMemory` where there is none for the lines. Nothing is said of the feed then.
+    /// `OutOfMemory` if there is too little memory for the lines. Nothing is said of the feed then.
     fn lines(&mut self, books: &[Checkable], moment: Moment) -> Result<Vec<Blob>, OutOfMemory>
         requires { AreBooksFor (made_for self.old) moment books.now }
         ensures lines { IfOk result (λ lines. lines.items ≡ gives self.old (histories_of books.now) moment) }

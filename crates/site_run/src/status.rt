@@ -3,7 +3,7 @@ use std::fmt;
 use std::fmt::{Display, Formatter, Write};
 
 /// With what a run ends. Its number is the exit status of the process, and its name is told on
-/// standard error where it is none of the first two.
+/// standard error if it is none of the first two.
 #[derive(Clone, Copy, PartialEq, Eq)]
 pub enum Status {
     /// The input was read to its end, and all of the output was written.
@@ -22,7 +22,7 @@ pub enum Status {
     OutOfMemory,
     /// As many turns were taken as may be, and one more came.
     TurnsSpent,
-    /// A log was read that no run writes, and it was written where it goes wrong.
+    /// A log was read that no run writes, and the line in which it goes wrong was written.
     NotLegal,
 }
 

@@ -34,7 +34,7 @@ pub trait Workers {
     ///
     /// # Errors
     ///
-    /// `OutOfMemory` where there is none for what the turn gives. The engine may be spent then.
+    /// `OutOfMemory` if there is too little memory for what the turn gives. The engine may be spent then.
     fn turn(&self, engine: &mut Engine, turn: &Turn) -> Result<TurnOut, OutOfMemory>
         requires callers { AreCallers (callers self.now) }
         requires apt { apt self.now }
@@ -50,7 +50,7 @@ pub trait Workers {
     ///
     /// # Errors
     ///
-    /// `OutOfMemory` where there is none for a line.
+    /// `OutOfMemory` if there is too little memory for a line.
     fn tell(
         &self,
         alloc: Global,

@@ -20,6 +20,6 @@ taken_of r = record { order = r.order; asked = asked_of r.act }
 abbrev pub tick_of : ℕ → Asked
 tick_of k = record { checkable = k; event = event.Tick }
 
--- where these orders have no report
+-- with these as the orders that have no report
 abbrev pub with_outstanding : List Outstanding → Plan → Plan
 with_outstanding os p = record p { orders = record { given = p.orders.given; outstanding = os } }

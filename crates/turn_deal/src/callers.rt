@@ -19,7 +19,7 @@ impl Acts {
     ///
     /// # Errors
     ///
-    /// `OutOfMemory` where there is none for the lists.
+    /// `OutOfMemory` if there is too little memory for the lists.
     pub fn for_many(self, alloc: Global, workers: u32) -> Result<Vec<Vec<Act>>, OutOfMemory>
         requires { 1 ≤ workers }
         ensures { IfOk result (λ lists. map asked_in lists.items ≡ dealt workers (map asked_of self.lines.items) (map taken_of self.reports.items) (map asked_of self.ticks.items)) }

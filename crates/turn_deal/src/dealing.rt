@@ -28,7 +28,7 @@ use std::thread::Threads;
 ///
 /// # Errors
 ///
-/// `OutOfMemory` where there is none for an act or a refusal. Any number of the reports was taken then.
+/// `OutOfMemory` if there is too little memory for an act or a refusal. Any number of the reports was taken then.
 pub fn deal(
     alloc: Global,
     site: &Site,
@@ -49,7 +49,7 @@ pub fn deal(
     deal_rest(alloc, plan, problems, not_started, turn, moment, lines)
 }
 
-/// What [`deal`] gives. So many threads at most read the lines, each a part of them; where there are few lines no thread is made.
+/// What [`deal`] gives. So many threads at most read the lines, each a part of them; if there are few lines no thread is made.
 ///
 /// # Errors
 ///

@@ -34,7 +34,7 @@ impl Acts {
     ///
     /// # Errors
     ///
-    /// `OutOfMemory` where there is none for the list.
+    /// `OutOfMemory` if there is too little memory for the list.
     pub fn for_one(self) -> Result<Vec<Act>, OutOfMemory>
         ensures { IfOk result (λ acts. map asked_of acts.items ≡ map asked_of self.lines.items ++ (map (λ t. t.asked) (map taken_of self.reports.items) ++ map asked_of self.ticks.items)) }
     {

@@ -51,7 +51,7 @@ fn parts_of<R: Threads + Sync>(
     Ok(parts)
 }
 
-/// What all parts give, one behind another.
+/// What all parts give, one after another.
 fn joined(
     alloc: Global,
     _site: &Site,

@@ -21,7 +21,7 @@ use Rattle.turn_engine.specs.Ready.{IsReady, running}
 use Rattle.turn_engine.specs.Stages.{basis_of_site, stage_of}
 use Rattle.turn_engine.specs.declared.works.Works.{Works}
 
--- In the words of runs: what a run stands on, how far it has come, where it doesn't count what stood when its turns began, and a turn
+-- In the words of runs: what a run stands on, how far it has come, not counting what stood when its turns began, and a turn
 -- as it is read.
 
 abbrev pub basis_at : Works → Basis

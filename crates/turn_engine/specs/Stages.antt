@@ -27,7 +27,7 @@ pub record Running : Type 0 where
 abbrev pub basis_of_site : PlainSite → Option Tzif → Basis
 basis_of_site s zone = basis_of s (holds_in s zone) (command_of s) nothing_fed
 
--- where this is what stood when each turn so far began
+-- with this as what stood when each turn so far began
 abbrev pub stage_of : Running → List Begun → Stage
 stage_of r begun =
     record { turns = r.turns; moment = r.moment; histories = r.histories; plans = r.plans; due = r.due; begun = begun }
@@ -40,7 +40,7 @@ pub record Tells (out : TurnOut) (l : TurnLog) : Type 0 where
   pub entries : out.segments ≡ segments_of l.round
   pub ordered : map order_as out.orders.items ≡ l.orders
 
--- a turn of so many callers as it is told, and the stage behind it
+-- a turn of so many callers as it is told, and the stage after it
 pub record TellsTurn (b : Basis) (callers : ℕ) (st : Stage) (t : ReadTurn) (out : TurnOut) (next : Stage) : Type 0 where
   pub log : TurnLog
   pub tells : Tells out log

@@ -14,7 +14,7 @@ use std::alloc::Global;
 ///
 /// # Errors
 ///
-/// `OutOfMemory` where there is none for them.
+/// `OutOfMemory` if there is too little memory for them.
 pub fn books_of(alloc: Global, site: &Site) -> Result<Vec<Checkable>, OutOfMemory>
     requires sound { IsSound (site_view site.now) }
     requires few { length site.now.checkables < 2 ^ 32 }

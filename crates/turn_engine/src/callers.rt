@@ -20,7 +20,7 @@ use std::sync::Wait;
 use std::thread::Threads;
 use time_range::Zone;
 
-/// The round of these lists, one for each caller. Where the first caller alone has acts, it is made as one caller makes it, and no thread
+/// The round of these lists, one for each caller. If the first caller alone has acts, it is made as one caller makes it, and no thread
 /// is made; the gate isn't entered then.
 pub(crate) fn round_of<R: Wait + Threads + Sync, G: Gate + Sync>(
     rt: &R,
@@ -66,7 +66,7 @@ fn is_sole(lists: &[Vec<Act>]) -> bool
     are_empty(others(lists))
 }
 
-/// The lists behind the first.
+/// The lists after the first.
 fn others(lists: &[Vec<Act>]) -> &[Vec<Act>]
     requires { 0 < length lists.now }
     ensures { result.now ≡ drop 1 lists.now }

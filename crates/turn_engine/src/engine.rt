@@ -64,7 +64,7 @@ impl Engine {
     ///
     /// # Errors
     ///
-    /// `OutOfMemory` where there is none for what is kept of the site.
+    /// `OutOfMemory` if there is too little memory for what is kept of the site.
     pub fn new(alloc: Global, site: Site) -> Result<Engine, OutOfMemory>
         requires sound { IsSound (site_view site) }
         requires few { length (site_view site).checkables < 2 ^ 32 - 1 }
@@ -86,7 +86,7 @@ impl Engine {
     ///
     /// # Errors
     ///
-    /// `OutOfMemory` where there is none for what is kept of the site.
+    /// `OutOfMemory` if there is too little memory for what is kept of the site.
     pub fn resume(alloc: Global, site: Site, books: Vec<Checkable>) -> Result<Engine, OutOfMemory>
         requires sound { IsSound (site_view site) }
         requires few { length (site_view site).checkables < 2 ^ 32 - 1 }
@@ -135,12 +135,12 @@ impl Engine {
     /// Takes a turn, and gives what is refused of it, the entries that checkables get, and the checks that are to be started. Reports of orders
     /// whose macros are missing come first in the next turn.
     ///
-    /// It takes a time that grows with the turn's lines, reports and entries, with the checkables that are due and with the problems that last, each
-    /// times a logarithm.
+    /// It takes a time that grows with the turn's lines, reports and entries, with the checkables that are due and with the problems that last,
+    /// each times a logarithm; and for each entry with the ancestors of its checkable, and with the downtimes of it that aren't past.
     ///
     /// # Errors
     ///
-    /// `OutOfMemory` where there is none for what the turn gives. The engine is spent then.
+    /// `OutOfMemory` if there is too little memory for what the turn gives. The engine is spent then.
     pub fn turn_one(&mut self, turn: &Turn) -> Result<TurnOut, OutOfMemory>
         requires fresh { self.old.spent ≡ false }
         requires few { self.old.run.turns < 2 ^ 40 }
@@ -170,7 +170,7 @@ impl Engine {
     ///
     /// # Errors
     ///
-    /// `OutOfMemory` where there is none for what the turn gives. The engine is spent then.
+    /// `OutOfMemory` if there is too little memory for what the turn gives. The engine is spent then.
     pub fn turn<R: Wait + Threads + Sync, G: Gate + Sync>(
         &mut self,
         rt: &R,
@@ -199,14 +199,14 @@ impl Engine {
     }
 
     /// Takes a turn of so many callers by what is told of its round: which checkables got entries, by ascending index and each its own by
-    /// number, who made them, and how far their callers saw. Gives what the turn gives. `None` where such callers can't have made such a round;
-    /// the engine is spent then.
+    /// number, who made them, and how far their callers saw. Gives what the turn gives. `None` if such callers can't have made such a
+    /// round; the engine is spent then.
     ///
     /// It takes a time that grows as that of [`Engine::turn_one`] does, and with what the entries saw, times a logarithm.
     ///
     /// # Errors
     ///
-    /// `OutOfMemory` where there is none for what the turn gives. The engine is spent then.
+    /// `OutOfMemory` if there is too little memory for what the turn gives. The engine is spent then.
     pub fn turn_given(
         &mut self,
         turn: &Turn,
@@ -270,11 +270,11 @@ impl Engine {
     }
 }
 
-/// The zone of a site; UTC where it has none. Its file, if it has one, is one that the reader of `jiff` takes.
+/// The zone of a site; UTC if it has none. Its file, if it has one, is one that the reader of `jiff` takes.
 ///
 /// # Errors
 ///
-/// `OutOfMemory` where there is none for the table of its file.
+/// `OutOfMemory` if there is too little memory for the table of its file.
 pub fn zone_of(alloc: Global, site: &Site) -> Result<Zone, OutOfMemory>
     requires { MatchOption (site_view site.now).zone (Unit {0}) (λ bytes. IsBadFile bytes → ⊥) }
     ensures { IfOk result (IsZoneOf (site_view site.now).zone) }

@@ -15,7 +15,7 @@ use round_check::{Told, round_given};
 use site_base::OutOfMemory;
 use site_edge::Turn;
 
-/// Takes a turn of so many callers by what is told of its round. `None` where there is no such round.
+/// Takes a turn of so many callers by what is told of its round. `None` if there is no such round.
 pub(crate) fn take_given(
     works: &mut Works,
     turn: &Turn,

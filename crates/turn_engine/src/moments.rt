@@ -17,7 +17,7 @@ pub fn later_of(left: Moment, right: Moment) -> Moment
     }
 }
 
-/// The greatest moment of any entry of these checkables; 0 where there is none.
+/// The greatest moment of any entry of these checkables; 0 if there is none.
 pub(crate) fn greatest_moment_of(books: &[Checkable]) -> Moment
     ensures { result ≡ greatest_moment (histories_of books.now) }
 {

@@ -7,6 +7,6 @@ pub struct OrderOut {
     /// Which order it is, from 1 over all turns.
     pub number: u64,
     pub checkable: u32,
-    /// The words of its command; the name of the first macro that is missing where it has none, so that it isn't started.
+    /// The words of its command; or the name of the first macro that is missing, if one is, so that it isn't started.
     pub argv: Result<Texts, Text>,
 }

@@ -9,7 +9,7 @@ use turn_deal::Refusal;
 pub struct TurnOut {
     /// Which turn it is, from 1.
     pub number: u64,
-    /// Its moment: the given one, or that of the turn before where that is later.
+    /// Its moment: the given one, or that of the turn before if that is later.
     pub moment: Moment,
     /// Lines and then reports, each in their order.
     pub refusals: Vec<Refusal>,

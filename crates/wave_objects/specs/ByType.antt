@@ -10,7 +10,7 @@ use Rattle.wave_objects.specs.declared.by_type.RulesOfType.{RulesOfType}
 abbrev pub placed_rule : ℕ → Bor Rule → PlacedRule
 placed_rule place r = record { place = place; rule = r }
 
--- the rules that go to a type, each with its place, where the first of these rules has this place
+-- the rules that go to a type, each with its place, if the first of these rules has this place
 abbrev pub rules_going_to : List ℕ → ℕ → List Applied → List PlacedRule
 rules_going_to kind at [] = []
 rules_going_to kind at (x ∷ xs) =

@@ -4,6 +4,6 @@ use Rattle.std.specs.declared.alloc.Global.{Global}
 use Rattle.dsl_load.specs.declared.load_parts.LoadParts.{LoadParts}
 use Rattle.eval_work.specs.declared.item.Item.{Item}
 
--- what a load gives, where these are its items
+-- what a load gives, if these are its items
 abbrev pub with_items : Vec Item Global → LoadParts → LoadParts
 with_items is p = record p { items = is }

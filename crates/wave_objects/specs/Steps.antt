@@ -18,7 +18,7 @@ over os = record { objects = map object_view os; groups = [] }
 abbrev pub answers_at : View → List Object → PlainRule → List (Answer (List PlainItem))
 answers_at view os r = map (instances view r) (targets r.target (map object_view os))
 
--- an item, where it is one of a group that was made
+-- an item, if it is one of a group that was made
 abbrev pub groups_by : PlainItem → Answer PlainObject → List PlainItem
 groups_by i a = if is_group (type_named i.kind) && is_made a then i ∷ [] else []
 

@@ -91,7 +91,7 @@ pub(crate) fn take_answers<'a>(
 }
 
 impl<'a> Applied<'a> {
-    /// Adds an answer. Over a world nothing is blocked.
+    /// Adds an answer. Nothing is added for one that is blocked.
     fn take(&mut self, answer: RuleAnswer<'a>) -> Result<(), OutOfMemory>
         ensures rule { OnOk result (self.new.rule ≡ self.old.rule) }
         ensures made { OnOk result (map plain_instance self.new.made.items ≡ map plain_instance self.old.made.items ++ all_made (rule_answer answer.entry)) }

@@ -65,7 +65,7 @@ fn with_first<'a>(alloc: Global, placed: PlacedRule<'a>) -> Result<RulesOfType<'
     Ok(RulesOfType { kind, rules })
 }
 
-/// The place of a type among these, and their number where it isn't there.
+/// The place of a type among these, and their number if it isn't there.
 fn type_at(types: &[RulesOfType], target: &Text) -> usize
     ensures { result ≡ types_before target.now types.now }
 {

@@ -156,7 +156,7 @@ pub(crate) fn join_by(
     Ok(object)
 }
 
-/// Adds the groups of an answer to an object, or what is wrong. Over a world nothing is blocked.
+/// Adds the groups of an answer to an object, or what is wrong. Nothing is added for an answer that is blocked.
 fn take_answer(
     alloc: Global,
     object: &mut Object,

@@ -3,8 +3,8 @@
 //! In reading order: the targets of rules (`targets`), the rules by the types that they go to (`by_type`), what rules come to at one object
 //! (`at_targets`) and make of all of them (`applying`), the items of a wave (`gathering`), what they come to (`answering`), their objects
 //! (`making`), and the groups of these (`joining`). Many workers do the same in `applying_many`, `gathering_many`, `answering_many`,
-//! `making_many` and `joining_many`, where each task is lent what it is about (`lending`). What all of it has to come to is `wave_items`,
-//! `item_answer` and `group_members` (commit_meaning), in words in docs/OBJECTS.md.
+//! `making_many` and `joining_many`, in which each task is lent what it is about (`lending`). What all of it has to come to is
+//! `wave_items`, `item_answer` and `group_members` (commit_meaning), in words in docs/OBJECTS.md.
 #![tactic(auto)]
 
 mod answering;

@@ -78,7 +78,7 @@ fn make(
     add_answer(alloc, keys, pending, answer, out)
 }
 
-/// Adds what an item came to. Over a world nothing is blocked.
+/// Adds what an item came to. Nothing is added for an item that is blocked.
 pub(crate) fn add_answer(
     alloc: Global,
     keys: &PresetKeys,
@@ -104,7 +104,7 @@ pub(crate) fn add_answer(
     }
 }
 
-/// Adds diagnostics behind others.
+/// Adds diagnostics after others.
 pub fn add_diags(out: &mut Diags, more: Diags) -> Result<(), OutOfMemory>
     ensures { OnOk result (out.new ≡ out.old ++ more) }
 {

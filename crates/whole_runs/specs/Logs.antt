@@ -30,7 +30,7 @@ IsGiven false s histories given = given ≡ plain_given histories
 abbrev pub OnGiven : Bool → PlainSite → Histories → (Given → Type 0) → Type 0
 OnGiven recur s histories Is = (given : Given) × IsGiven recur s histories given × Is given
 
--- the log of the first so many of these turns, behind these entries
+-- the log of the first so many of these turns, after these entries
 abbrev pub IsSiteLog : ℕ → Style → Bool → ℕ → PlainSite → Histories → List Turn → Whole → Type 0
 IsSiteLog callers style recur limit s histories turns w = OnGiven recur s histories (λ given. IsLog callers style limit s given turns w)
 

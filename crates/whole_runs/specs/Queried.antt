@@ -19,7 +19,7 @@ pub record IsQueried (callers : ℕ) (s : PlainSite) (given : Given) (turns : Li
   pub is :
       text ≡ answer_text s (stage_left callers s given turns logs are).histories (stage_left callers s given turns logs are).moment query
 
--- so of at most so many turns; nothing is answered where there are more
+-- so of at most so many turns; nothing is answered if there are more
 abbrev pub AnswersQuery : ℕ → ℕ → PlainSite → List Turn → Query → Option (List ℕ) → Type 0
 AnswersQuery callers limit s turns query (Some text) = (length turns ≤ limit) × IsQueried callers s (nothing_given s) turns query text
 AnswersQuery callers limit s turns query None = limit < length turns

@@ -9,7 +9,7 @@ use Rattle.down_recur.specs.Recurrings.{recurrings}
 use Rattle.down_recur.specs.declared.recurring.Recurring.{Recurring}
 use Rattle.site_run.specs.Feeds.{Fed, lines_fed}
 
--- the lines of what recurs, in committed order, where these entries stand at a moment
+-- the lines of what recurs, in committed order, at a moment at which these are the entries
 abbrev pub lines_now : PlainSite → Option Tzif → List Recurring → Histories → ℕ → List (List ℕ)
 lines_now s zone recurring histories moment = flat_map (lines_at s zone histories moment) recurring
 

@@ -22,7 +22,7 @@ impl<'a> RecurFeed<'a> {
     ///
     /// # Errors
     ///
-    /// `OutOfMemory` where there is none for what recurs.
+    /// `OutOfMemory` if there is too little memory for what recurs.
     pub fn new(alloc: Global, site: &Site, zone: &'a Zone) -> Result<RecurFeed<'a>, OutOfMemory>
         ensures { IfOk result (λ f. f.recur ≡ begun site.now zone.now) }
     {

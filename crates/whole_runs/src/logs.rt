@@ -26,7 +26,7 @@ use std::alloc::Global;
 use turn_engine::{Engine, zone_of};
 
 /// Writes the log of the world's turns over a site, whose events these workers take, and lets the world start the checks that they
-/// order. The books are its checkables with the entries so far, one each by index. Where its downtimes recur, the lines of `ScheduledDowntime`
+/// order. The books are its checkables with the entries so far, one each by index. If its downtimes recur, the lines of `ScheduledDowntime`
 /// objects stand before a turn's own.
 ///
 /// The site is one that an engine can be made of, the workers are 1 to 64, and the limit is at most 2^40. What was kept back before is
@@ -112,7 +112,7 @@ fn write_from<W: World, S: Sink, C: Workers>(
     }
 }
 
-/// The same where no downtime recurs.
+/// The same if no downtime recurs.
 fn write_plain<W: World, S: Sink, C: Workers>(
     alloc: Global,
     workers: &C,
@@ -146,7 +146,7 @@ fn write_plain<W: World, S: Sink, C: Workers>(
     write_log(alloc, workers, style, engine, &mut feed, world, out, limit)
 }
 
-/// The same where they do.
+/// The same if they do.
 fn write_recurring<W: World, S: Sink, C: Workers>(
     alloc: Global,
     workers: &C,

@@ -18,13 +18,13 @@ use std::alloc::Global;
 use turn_engine::Engine;
 
 /// What a query is answered over the entries that the turns of a script leave, whose events these workers take, at the last turn's moment;
-/// `None` where there are more turns than the limit. No order of a check is started.
+/// `None` if there are more turns than the limit. No order of a check is started.
 ///
 /// The site is one that an engine can be made of, the workers are 1 to 64, and the limit is at most 2^40.
 ///
 /// # Errors
 ///
-/// `OutOfMemory` where there is none for the run or for the answer.
+/// `OutOfMemory` if there is too little memory for the run or for the answer.
 pub fn query_turns<C: Workers>(
     alloc: Global,
     workers: &C,
