@@ -1,5 +1,5 @@
 -- A text is cut at the first mark, both ways.
-use Rattle.std.proofs.Common.{◌≡◌, ℕ, suc, ◌+◌, ◌<◌, ◌≤◌, ◌==◌, not, Bool, true, false, cond, List, [], ◌∷◌, ◌++◌, length, take, drop, refl, sym, ap, ap₂, ◌∙◌, subst, arith, inl, inr, MatchOption, Option, Some, None}
+use Rattle.std.proofs.Common.{◌≡◌, ℕ, suc, ◌+◌, ◌<◌, ◌≤◌, ◌==◌, not, Bool, true, false, cond, List, [], ◌∷◌, ◌++◌, length, take, drop, refl, sym, ap, ap₂, ◌∙◌, subst, arith, inl, inr, MatchOption, Option, Some, None, lit<}
 use Rattle.std.proofs.Math.Seq.{take-append_seam, drop-append_seam}
 use Rattle.std.proofs.lemmas.Bool.{cases_lt}
 use Rattle.std.proofs.lemmas.Bool.Decides.{nat_tests}
@@ -11,6 +11,7 @@ use Rattle.std.specs.Str.{bytes_eq}
 use Rattle.std.specs.Str.Pattern.{FindsText}
 use denote.Ref.{Bor}
 use Rattle.event_text.specs.Cuts.{IsCut, IsUncut, Cut, cut, uncut, with_first, cut_at}
+use Rattle.event_text.specs.Lines.{bracket}
 
 -- the mark stands at the front
 front_is : (mark text : List ℕ) → bytes_eq mark (take (length mark) text) ≡ true → text ≡ mark ++ drop (length mark) text
@@ -163,3 +164,13 @@ pub byte_split : (c : ℕ) (text : List ℕ) (r : Option (Bor (List ℕ) × Bor 
     → MatchOption r (cut_at (c ∷ []) text ≡ uncut) (λ x. cut_at (c ∷ []) text ≡ cut x.0.now x.1.now)
 byte_split c text None h = byte_uncut c text h
 byte_split c text (Some x) h = byte_cut c text h.2 ∙ ap₂ cut (sym h.0) (sym h.1)
+
+-- if a blank comes after the first closing bracket, the text is cut there
+pub bracket_cut : (text front behind rest : List ℕ) → cut_at (93 ∷ []) text ≡ cut front behind → behind ≡ 32 ∷ rest → cut_at bracket text ≡ cut front rest
+bracket_cut text front behind rest e blank =
+    let h = cut_sound (93 ∷ []) text front behind e in
+    cut_complete bracket text front rest (lit< tt) (record { whole = h.whole ∙ ap (λ b. front ++ 93 ∷ b) blank; first = λ f b i. h.first f (32 ∷ b) i })
+
+-- if there is no closing bracket, none has a blank after it
+pub bracket_uncut : (text : List ℕ) → cut_at (93 ∷ []) text ≡ uncut → cut_at bracket text ≡ uncut
+bracket_uncut text e = uncut_complete bracket text (λ f b i. uncut_sound (93 ∷ []) text (lit< tt) e f (32 ∷ b) i)

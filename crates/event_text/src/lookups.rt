@@ -1,5 +1,5 @@
 // Which checkables lines name.
-ghost use Rattle.std.specs.Prelude.{◌≡◌, IfOk, string_bytes};
+ghost use Rattle.std.specs.Prelude.{◌≡◌, IfOk, IfSome, string_bytes};
 ghost use Rattle.std.specs.List.{slice_get};
 ghost use Rattle.site_model.specs.PlainSite.{site_view};
 ghost use Rattle.site_model.specs.Names.{place_of};
@@ -7,9 +7,13 @@ ghost use Rattle.event_text.specs.Lent.{text_view};
 ghost use Rattle.event_text.specs.Reading.{looked_up};
 ghost use Rattle.event_text.specs.Checkables.{full_name, service_at, host_named, service_named, is_host as host_test, is_service_of as service_test, takes_passive as passive_test};
 
+use arrayvec::ArrayString;
 use site_base::OutOfMemory;
 use site_model::Site;
 use std::alloc::Global;
+
+/// Most full names have so many bytes at most.
+const ROOM: usize = 64;
 
 /// The place of the host of this name, or of the service of this name on it.
 pub(crate) fn find_named(
@@ -50,8 +54,13 @@ fn find_service(
     let Some(host_place) = find_host(site, host) else {
         return Ok(None);
     };
-    let name = service_name(alloc, host, service)?;
-    Ok(find_service_of(site, host_place, name.as_str()))
+    match short_name(host, service) {
+        Some(name) => Ok(find_service_of(site, host_place, name.as_str())),
+        None => {
+            let name = service_name(alloc, host, service)?;
+            Ok(find_service_of(site, host_place, name.as_str()))
+        }
+    }
 }
 
 /// The place of the service of this full name on this host.
@@ -64,7 +73,18 @@ fn find_service_of(site: &Site, host: u32, name: &str) -> Option<u32>
     }
 }
 
-/// The full name of a service.
+/// The full name of a service, which takes no memory of the heap; `None` for a long one.
+fn short_name(host: &str, service: &str) -> Option<ArrayString<ROOM>>
+    ensures { IfSome result (λ name. name.bytes ≡ full_name host.now service.now) }
+{
+    let mut name = ArrayString::new();
+    name.try_push_str(host).ok()?;
+    name.try_push('!').ok()?;
+    name.try_push_str(service).ok()?;
+    Some(name)
+}
+
+/// The full name of a service, however long it is.
 fn service_name(alloc: Global, host: &str, service: &str) -> Result<String, OutOfMemory>
     ensures { IfOk result (λ name. string_bytes name ≡ full_name host.now service.now) }
 {

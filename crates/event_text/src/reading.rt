@@ -9,7 +9,7 @@ ghost use Rattle.event_text.specs.Lines.{Answer, Has};
 ghost use Rattle.event_text.specs.Numbers.{AreWithin};
 ghost use Rattle.event_text.specs.Reading.{Gives, IsError, Tells, line_read, text_read, command_read, named_read, bare_read, fields_read, place_read, judged_read};
 
-use crate::cutting::{cut, cut_field};
+use crate::cutting::{cut_bracket, cut_field};
 use crate::events::{event_of, has_span, is_open_to};
 use crate::fields::{field, service_in, split};
 use crate::kind::Kind;
@@ -67,7 +67,7 @@ fn read_text(alloc: Global, line: &str, site: &Site) -> Result<(u32, Event), Lin
     let Some(rest) = line.strip_prefix('[') else {
         return Err(LineError::Fault(LineFault::NoBracket));
     };
-    let Some((moment, command)) = cut(rest, "] ") else {
+    let Some((moment, command)) = cut_bracket(rest) else {
         return Err(LineError::Fault(LineFault::NoBracket));
     };
     if !is_number(moment, MOMENT_DIGITS) {
