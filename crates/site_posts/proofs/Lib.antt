@@ -14,6 +14,7 @@ pub mod Crossing
 pub mod Readying
 pub mod Returning
 pub mod Rising
+pub mod Keeping
 pub mod Booked
 pub mod Touching
 pub mod TakenOut

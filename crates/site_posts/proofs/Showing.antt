@@ -61,8 +61,8 @@ module _ (s : PlainSite) (histories : Histories) where
       ∙ sym (ap (λ o. cons_option o (all_seen s now (map sight_at ps))) (seen_whole p (All-head (IsIndex (length s.checkables)) p ps h)))
 
   -- the entry that is made by what the ancestors show
-  pub made_next : (zone : Option Tzif) (moment k : ℕ) (v : Event) → entry_made s zone k (now k) 0 moment v (shown s histories k) ≡ entry_next s zone moment histories k v
-  made_next zone moment k v =
+  pub made_next : (zone : Option Tzif) (moment caller k : ℕ) (v : Event) → entry_made s zone k (now k) caller moment v (shown s histories k) ≡ entry_next s zone moment histories caller k v
+  made_next zone moment caller k v =
       let b = rules_in s zone in
-      ap (λ xs. entry_of b k (check_at s k) (now k) xs (record { caller = 0; moment = moment; event = v; sights = map sight_of (shown s histories k) })) (seen (ancestors s k) (ancestors_own s k))
-      ∙ ap (λ ss. entry_of b k (check_at s k) (now k) (all_seen s now (sights_now b k now)) (record { caller = 0; moment = moment; event = v; sights = ss })) (counted (ancestors s k))
+      ap (λ xs. entry_of b k (check_at s k) (now k) xs (record { caller = caller; moment = moment; event = v; sights = map sight_of (shown s histories k) })) (seen (ancestors s k) (ancestors_own s k))
+      ∙ ap (λ ss. entry_of b k (check_at s k) (now k) (all_seen s now (sights_now b k now)) (record { caller = caller; moment = moment; event = v; sights = ss })) (counted (ancestors s k))

@@ -3,55 +3,66 @@ use Rattle.std.proofs.Common.{◌≡◌, ℕ, suc, ◌<◌, List, [], ◌∷◌,
 use Rattle.std.proofs.lemmas.List.{append-nil}
 use Rattle.std.specs.Prelude.{IfOk, OnErr, OnOk}
 use Rattle.jiff_tz.specs.declared.tzif.Tzif.{Tzif}
-use Rattle.run_meaning.specs.Alone.{AreOnSite, with_entry}
+use Rattle.run_meaning.proofs.Lists.{of_index_nothing}
+use Rattle.run_meaning.specs.Alone.{AreOnSite, Move, moves_of, round_of, with_entry}
 use Rattle.run_meaning.specs.Runs.{joined}
-use Rattle.run_meaning.specs.Turns.{Asked, Histories}
+use Rattle.run_meaning.specs.Turns.{Asked, Histories, of_index}
 use Rattle.site_model.specs.PlainSite.{PlainSite}
 use Rattle.site_model.specs.declared.entry.Entry.{Entry}
-use Rattle.site_posts.specs.Made.{IsPartly, entry_next, round_made}
+use Rattle.site_posts.specs.Made.{IsPartly, entry_next}
+use Rattle.site_posts.specs.Progress.{AreKept, HasCome, HasStopped}
 use Rattle.checkable_core.specs.Entries.{rules_in}
-use Rattle.site_posts.specs.Segments.{segment_of, segments_of}
 use Rattle.site_posts.proofs.Behind.{joined_nothing}
-use Rattle.site_posts.proofs.OneByOne.{joined_round_more, round_more, round_whole}
-use Rattle.site_posts.proofs.Segmenting.{none_from}
-
--- these acts are done: what they made stands, and is gathered
-pub record IsGathered (s : PlainSite) (zone : Option Tzif) (moment : ℕ) (before : Histories) (done : List Asked) (now : Histories) (kept : List (ℕ × List Entry)) : Type 0 where
-  pub stand : now ≡ joined before (round_made s zone moment before done)
-  pub gathered : map segment_of kept ≡ segments_of (round_made s zone moment before done)
+use Rattle.site_posts.proofs.OneByOne.{joined_round_more, move, moves_more, round_more, round_whole}
 
 module _ (s : PlainSite) (zone : Option Tzif) (moment : ℕ) (before : Histories) where
-  pub none_done : (gathered : List (ℕ × List Entry)) → length before ≡ length s.checkables → gathered ≡ [] → IsGathered s zone moment before [] before gathered
-  none_done gathered whole none = record {
+  pub none_come : (touched : List ℕ) (rows : Histories) → length before ≡ length s.checkables → length rows ≡ length touched → ((p : ℕ) → of_index p rows ≡ []) → HasCome s zone moment before touched [] before rows
+  none_come touched rows whole few none = record {
     stand = sym (joined_nothing before s.checkables whole);
-    gathered = ap (map segment_of) none ∙ sym (none_from 0 s.checkables);
+    kept = record { whole = few; each = λ p k at. none p ∙ sym (of_index_nothing s.checkables k); others = λ k no. of_index_nothing s.checkables k };
   }
 
-  pub one_done : (done : List Asked) (a : Asked) (e : Entry) (now later : Histories) (old new : List (ℕ × List Entry)) → a.checkable < length s.checkables → IsGathered s zone moment before done now old
-      → e ≡ entry_next s zone moment now a.checkable a.event → later ≡ with_entry a.checkable e now
-      → ((round : Histories) → a.checkable < length round → map segment_of old ≡ segments_of round → map segment_of new ≡ segments_of (with_entry a.checkable e round))
-      → IsGathered s zone moment before (done ++ a ∷ []) later new
-  one_done done a e now later old new within so_far made kept gather = record {
-    stand = kept ∙ joined_round_more s zone moment before done a e now within so_far.stand made;
-    gathered =
-        gather (round_made s zone moment before done) (subst (λ n. a.checkable < n) (sym (round_whole s zone moment before done)) within) so_far.gathered
-        ∙ ap segments_of (sym (round_more s zone moment before done a e now within so_far.stand made));
-  }
+  -- one act more of a caller
+  pub one_come : (touched : List ℕ) (done : List Move) (caller : ℕ) (acts : List Asked) (a : Asked) (e : Entry) (now later old new : Histories) → a.checkable < length s.checkables
+      → e ≡ entry_next s zone moment now caller a.checkable a.event → later ≡ with_entry a.checkable e now
+      → ((round : Histories) → a.checkable < length round → AreKept touched old round → AreKept touched new (with_entry a.checkable e round))
+      → HasCome s zone moment before touched (done ++ moves_of caller acts) now old → HasCome s zone moment before touched (done ++ moves_of caller (acts ++ a ∷ [])) later new
+  one_come touched done caller acts a e now later old new within made grown add so_far =
+      let moves = done ++ moves_of caller acts in
+      let m = move caller a in
+      subst (λ ms. HasCome s zone moment before touched ms later new) (moves_more done caller acts a) (record {
+        stand = grown ∙ joined_round_more s zone moment before moves m e now within so_far.stand made;
+        kept = subst (AreKept touched new) (sym (round_more s zone moment before moves m e now within so_far.stand made))
+            (add (round_of (rules_in s zone) moment before moves) (subst (λ n. a.checkable < n) (sym (round_whole s zone moment before moves)) within) so_far.kept);
+      })
 
-  -- where it stops here, some of the acts are done
-  pub stopped : (acts done rest : List Asked) (now : Histories) → done ++ rest ≡ acts → now ≡ joined before (round_made s zone moment before done) → IsPartly (rules_in s zone) moment before acts now
-  stopped acts done rest now all stand = record { done = done; rest = rest; first = all; are = stand }
+  -- where it stops here, some of a caller's acts are taken
+  pub stopped : (touched : List ℕ) (done : List Move) (caller : ℕ) (all acts rest : List Asked) (now rows : Histories) → acts ++ rest ≡ all → HasCome s zone moment before touched (done ++ moves_of caller acts) now rows → HasStopped (rules_in s zone) moment before done caller all now
+  stopped touched done caller all acts rest now rows first so_far = record { taken = acts; rest = rest; first = first; are = so_far.stand }
 
   -- and where it stops behind one more
-  pub stopped_behind : (acts done rest : List Asked) (a : Asked) (e : Entry) (now later : Histories) → done ++ a ∷ rest ≡ acts → a.checkable < length s.checkables
-      → now ≡ joined before (round_made s zone moment before done) → e ≡ entry_next s zone moment now a.checkable a.event → later ≡ with_entry a.checkable e now
-      → IsPartly (rules_in s zone) moment before acts later
-  stopped_behind acts done rest a e now later all within stand made kept = record {
-    done = done ++ a ∷ [];
+  pub stopped_behind : (touched : List ℕ) (done : List Move) (caller : ℕ) (all acts rest : List Asked) (a : Asked) (e : Entry) (now later rows : Histories) → acts ++ a ∷ rest ≡ all → a.checkable < length s.checkables
+      → e ≡ entry_next s zone moment now caller a.checkable a.event → later ≡ with_entry a.checkable e now
+      → HasCome s zone moment before touched (done ++ moves_of caller acts) now rows → HasStopped (rules_in s zone) moment before done caller all later
+  stopped_behind touched done caller all acts rest a e now later rows first within made grown so_far = record {
+    taken = acts ++ a ∷ [];
     rest = rest;
-    first = append_assoc done (a ∷ []) rest ∙ all;
-    are = kept ∙ joined_round_more s zone moment before done a e now within stand made;
+    first = append_assoc acts (a ∷ []) rest ∙ first;
+    are = grown ∙ joined_round_more s zone moment before (done ++ moves_of caller acts) (move caller a) e now within so_far.stand made
+        ∙ ap (λ ms. joined before (round_of (rules_in s zone) moment before ms)) (moves_more done caller acts a);
   }
+
+-- The acts of one caller.
+
+module _ (s : PlainSite) (zone : Option Tzif) (moment : ℕ) (before : Histories) where
+  pub none_partly : (acts : List Asked) → length before ≡ length s.checkables → IsPartly (rules_in s zone) moment before acts before
+  none_partly acts whole = record { done = []; rest = acts; first = refl; are = sym (joined_nothing before s.checkables whole) }
+
+  pub whole_partly : (acts : List Asked) (after : Histories) → after ≡ joined before (round_of (rules_in s zone) moment before (moves_of 0 acts)) → IsPartly (rules_in s zone) moment before acts after
+  whole_partly acts after are = record { done = acts; rest = []; first = append-nil acts; are = are }
+
+  pub some_partly : (acts : List Asked) (after : Histories) → HasStopped (rules_in s zone) moment before [] 0 acts after → IsPartly (rules_in s zone) moment before acts after
+  some_partly acts after stopped = record { done = stopped.taken; rest = stopped.rest; first = stopped.first; are = stopped.are }
 
 -- The acts that are left.
 

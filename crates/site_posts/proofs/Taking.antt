@@ -71,21 +71,21 @@ module _ (s : PlainSite) (now : ℕ) (books : List Contents) (are : AreBooks s n
   -- One act.
 
   module _ (zone : Option Tzif) (k : ℕ) (book later : Contents) (sights : List (ℕ × View)) (e : Entry) (v : Event) (at : slice_get books k ≡ Some book) where
-    pub made_is : sights ≡ shown s (histories_of books) k → e ≡ entry_made s zone book.index book.entries 0 now v sights
-        → e ≡ entry_next s zone now (histories_of books) k v
-    made_is seen made =
+    pub made_is : (caller : ℕ) → sights ≡ shown s (histories_of books) k → e ≡ entry_made s zone book.index book.entries caller now v sights
+        → e ≡ entry_next s zone now (histories_of books) caller k v
+    made_is caller seen made =
         let mine = are.each k book at in
         made
-        ∙ ap (λ i. entry_made s zone i book.entries 0 now v sights) mine.index
-        ∙ ap (λ es. entry_made s zone k es 0 now v sights) (sym (entries_at books k book at))
-        ∙ ap (λ xs. entry_made s zone k (of_index k (histories_of books)) 0 now v xs) seen
-        ∙ made_next s (histories_of books) zone now k v
+        ∙ ap (λ i. entry_made s zone i book.entries caller now v sights) mine.index
+        ∙ ap (λ es. entry_made s zone k es caller now v sights) (sym (entries_at books k book at))
+        ∙ ap (λ xs. entry_made s zone k (of_index k (histories_of books)) caller now v xs) seen
+        ∙ made_next s (histories_of books) zone now caller k v
 
     pub kept_is : later ≡ contents.with_entry book e → (items : List Contents) → items ≡ set books k later → histories_of items ≡ with_entry k e (histories_of books)
     kept_is kept items is = ap histories_of (is ∙ ap (λ b. set books k b) kept) ∙ books_more books k book e at
 
-    pub books_are : later ≡ contents.with_entry book e → e ≡ entry_made s zone book.index book.entries 0 now v sights → (items : List Contents) → items ≡ set books k later → AreBooks s now items
-    books_are kept made items is =
+    pub books_are : (caller : ℕ) → later ≡ contents.with_entry book e → e ≡ entry_made s zone book.index book.entries caller now v sights → (items : List Contents) → items ≡ set books k later → AreBooks s now items
+    books_are caller kept made items is =
         let mine = are.each k book at in
         let when : e.moment ≡ now = ap (λ (x : Entry). x.moment) made in
         let last : last_moment (book.entries ++ e ∷ []) ≡ e.moment = last_more book.entries e in

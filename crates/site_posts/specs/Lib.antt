@@ -4,4 +4,5 @@ pub mod Segments
 pub mod Made
 pub mod Outlooks
 pub mod Lent
+pub mod Progress
 pub mod Many

@@ -15,10 +15,10 @@ use Rattle.site_posts.specs.declared.act.Act.{Act}
 abbrev pub asked_of : Act → Asked
 asked_of a = record { checkable = a.checkable; event = a.event }
 
--- the entry that an event makes of the checkable of index k if these are the entries so far
-abbrev pub entry_next : PlainSite → Option Tzif → ℕ → Histories → ℕ → Event → Entry
-entry_next s zone moment histories k v =
-    next_entry (rules_in s zone) moment (λ c. of_index c histories) 0 k (check_at s k) v
+-- the entry that a caller's event makes of the checkable of index k if these are the entries so far
+abbrev pub entry_next : PlainSite → Option Tzif → ℕ → Histories → ℕ → ℕ → Event → Entry
+entry_next s zone moment histories caller k v =
+    next_entry (rules_in s zone) moment (λ c. of_index c histories) caller k (check_at s k) v
 
 -- the round that acts of one caller make after these entries
 abbrev pub round_made : PlainSite → Option Tzif → ℕ → Histories → List Asked → Histories

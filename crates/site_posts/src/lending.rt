@@ -93,7 +93,7 @@ pub(crate) fn put_back(
 }
 
 /// Adds what a checkable gets of a round, if it gets any entry.
-fn add_segment(
+pub(crate) fn add_segment(
     segments: &mut Vec<Segment>,
     checkable: u32,
     entries: Row<Entry>,

@@ -11,15 +11,17 @@ ghost use Rattle.checkable_core.specs.Entries.{rules_in};
 ghost use Rattle.site_posts.specs.Segments.{segments_of as segments_in};
 
 use crate::act::Act;
-use crate::gathering::{Gathered, gather, segments_of};
+use crate::gathering::Gathered;
+use crate::in_order::take_in_order;
 use crate::segment::Segments;
 use crate::setting::Setting;
+use crate::touched::touched_by;
 use checkable_core::Checkable;
 use depend_graph::Graph;
 use site_base::{Moment, OutOfMemory};
 use site_model::Site;
 use std::alloc::Global;
-use std::collections::BTreeMap;
+use std::slice;
 use time_range::Zone;
 
 /// Takes the acts of one caller at a moment, one after another, and gives the entries that checkables get of them. Each entry is made by
@@ -58,13 +60,8 @@ pub fn round_one(
         zone,
         moment,
     };
-    let mut gathered: Gathered = BTreeMap::new(alloc);
-    let mut sights = Vec::new(alloc);
-    for act in list {
-        let checkable = act.checkable;
-        setting.look(books, checkable, &mut sights)?;
-        let entry = setting.take(books, act, &sights)?;
-        gather(alloc, &mut gathered, checkable, entry)?;
-    }
-    segments_of(alloc, gathered)
+    let touched = touched_by(alloc, slice::from_ref(&list))?;
+    let mut gathered = Gathered::new(alloc, touched)?;
+    take_in_order(&setting, books, 0, list, &mut gathered)?;
+    gathered.segments()
 }

@@ -67,7 +67,7 @@ impl<'a> Setting<'a> {
         Ok(())
     }
 
-    /// Takes an act by these sights of the ancestors of its checkable, and gives the entry that it makes.
+    /// Takes an act of a caller by these sights of the ancestors of its checkable, and gives the entry that it makes.
     ///
     /// # Errors
     ///
@@ -75,6 +75,7 @@ impl<'a> Setting<'a> {
     pub(crate) fn take(
         &self,
         books: &mut Vec<Checkable>,
+        caller: u32,
         act: Act,
         sights: &[(u32, View)],
     ) -> Result<Entry, OutOfMemory>
@@ -82,7 +83,7 @@ impl<'a> Setting<'a> {
         requires books { AreBooks (site_view self.now.site.now) self.now.moment books.old.items }
         requires checkable { act.checkable < length (site_view self.now.site.now).checkables }
         requires sights { sights.now ≡ shown (site_view self.now.site.now) (histories_of books.old.items) act.checkable }
-        ensures entry { IfOk result (λ e. e ≡ entry_next (site_view self.now.site.now) self.now.zone.now self.now.moment (histories_of books.old.items) act.checkable act.event) }
+        ensures entry { IfOk result (λ e. e ≡ entry_next (site_view self.now.site.now) self.now.zone.now self.now.moment (histories_of books.old.items) caller act.checkable act.event) }
         ensures kept { IfOk result (λ e. histories_of books.new.items ≡ with_entry act.checkable e (histories_of books.old.items)) }
         ensures books { AreBooks (site_view self.now.site.now) self.now.moment books.new.items }
         ensures err { OnErr result (histories_of books.new.items ≡ histories_of books.old.items) }
@@ -92,7 +93,7 @@ impl<'a> Setting<'a> {
             self.site,
             self.graph,
             self.zone,
-            0,
+            caller,
             self.moment,
             act.event,
             sights,

@@ -1,121 +1,101 @@
 -- The acts are taken one after another, and what they make is the round.
-use Rattle.std.proofs.Common.{◌≡◌, ◌∷◌, ◌++◌, [], List, length, map, sym, ap, ◌∙◌, subst, rules, append_assoc}
-use Rattle.std.specs.Vec.Iter.{into_iter_items}
+use Rattle.std.proofs.Common.{[], ℕ, List, All, Contains, Vec, length, map, sym, ap, ◌∙◌, subst}
+use Rattle.std.proofs.lemmas.List.Elements.{All-head}
+use Rattle.std.specs.declared.alloc.Global.{Global}
 use Rattle.checkable_core.specs.Contents.{Contents}
 use Rattle.run_meaning.proofs.Lists.{length_map}
 use Rattle.run_meaning.proofs.OneCaller.{is_alone}
-use Rattle.run_meaning.specs.Alone.{AreOnSite}
-use Rattle.run_meaning.specs.Runs.{joined}
-use Rattle.run_meaning.specs.Turns.{Asked}
 use Rattle.site_model.specs.PlainSite.{site_view}
 use Rattle.site_posts.specs.Books.{histories_of}
 use Rattle.site_posts.specs.Made.{asked_of, round_made}
+use Rattle.site_posts.specs.Progress.{AreKept}
 use Rattle.checkable_core.specs.Entries.{rules_in}
-use Rattle.site_posts.specs.Segments.{segments_of}
 use Rattle.site_posts.specs.declared.act.Act.{Act}
-use Rattle.site_posts.proofs.SoFar.{all_done, if_ok, none_done, on_any, on_any_err, on_site_first, on_site_rest, one_done, stopped, stopped_behind}
+use Rattle.site_posts.proofs.SoFar.{none_come, none_partly, on_any, on_any_err, some_partly, whole_partly}
 use Rattle.site_posts.proofs.round.round_one.Goals as goal
 
-pub loop-act-init : goal.loop-act-init
-loop-act-init c =
-    let s = site_view c.args.site.now in
-    let items : into_iter_items c.into_iter-act-iterator.result ≡ c.args.list.items = search rules in
-    let none : c.new-gathered.result.entries ≡ [] = search rules in
-    record {
-      books = c.requires.books;
-      acts = subst (λ (xs : List Act). AreOnSite s (map asked_of xs)) (sym items) c.requires.acts;
-      so_far = (
-        [],
-        ap (map asked_of) items,
-        none_done s c.args.zone.now c.args.moment (histories_of c.args.books.now.items) c.new-gathered.result.entries
-            (length_map (λ (k : Contents). k.entries) c.args.books.now.items ∙ c.requires.books.whole) none,
-      );
-    }
+abbrev Acts : List ℕ → Vec Act Global → Type 0
+Acts ks list = All (λ (act : Act). Contains ks act.checkable) list.items
 
-pub loop-act-preserved : goal.loop-act-preserved
-loop-act-preserved c =
-    let s = site_view c.args.site.now in
-    let a = asked_of c.in-Some.act in
-    let before = c.loop-act.invariant in
-    let step = ap (map asked_of) c.in-Some.ensures.steps.0 in
-    let within = on_site_first s a _ _ step before.acts in
-    record {
-      books = c.take.ensures.books;
-      acts = on_site_rest s a _ _ step before.acts;
-      so_far = (
-        before.so_far.0 ++ a ∷ [],
-        append_assoc before.so_far.0 (a ∷ []) _ ∙ ap (λ (xs : List Asked). before.so_far.0 ++ xs) (sym step) ∙ before.so_far.1,
-        one_done s c.args.zone.now c.args.moment (histories_of c.args.books.now.items) before.so_far.0 a c.in_ok-entry.entry (histories_of c.loop-act.books.items) (histories_of c.take.new.books.items) c.loop-act.gathered.entries c.gather.new.gathered.entries
-            within before.so_far.2 c.in_ok-entry.ensures.entry c.in_ok-entry.ensures.kept c.in_ok-gather.ensures,
-      );
-    }
-
-pub look-requires-clause-checkable : goal.look-requires-clause-checkable
-look-requires-clause-checkable c = on_site_first (site_view c.args.site.now) (asked_of c.in-Some.act) _ _ (ap (map asked_of) c.in-Some.ensures.steps.0) c.loop-act.invariant.acts
-
-pub take-requires-clause-checkable : goal.take-requires-clause-checkable
-take-requires-clause-checkable c = on_site_first (site_view c.args.site.now) (asked_of c.in-Some.act) _ _ (ap (map asked_of) c.in-Some.ensures.steps.0) c.loop-act.invariant.acts
+pub take_in_order-requires-clause-touched : goal.take_in_order-requires-clause-touched
+take_in_order-requires-clause-touched c =
+    subst (λ (v : Vec ℕ Global). Acts v.items c.args.list) (sym c.in_ok-gathered.ensures.touched)
+    (All-head (Acts c.in_ok-touched.touched.items) c.args.list [] (subst (All (Acts c.in_ok-touched.touched.items)) c.from_ref.ensures.value c.in_ok-touched.ensures.all))
 
 -- Where it stops.
 
-pub returns-in_err-look-clause-partly : goal.returns-in_err-look-clause-partly
-returns-in_err-look-clause-partly c =
-    let so_far = c.loop-act.invariant.so_far in
-    let done = so_far.2 in
-    on_any_err _
-    (stopped (site_view c.args.site.now) c.args.zone.now c.args.moment (histories_of c.args.books.now.items) (map asked_of c.args.list.items) so_far.0 _ (histories_of c.loop-act.books.items) so_far.1 done.stand)
-    c.from_residual.result
+pub returns-in_err-touched-clause-partly : goal.returns-in_err-touched-clause-partly
+returns-in_err-touched-clause-partly c =
+    let books = c.args.books.now.items in
+    on_any_err _ (none_partly (site_view c.args.site.now) c.args.zone.now c.args.moment (histories_of books) (map asked_of c.args.list.items) (length_map (λ (k : Contents). k.entries) books ∙ c.requires.books.whole)) c.from_residual.result
 
-pub returns-in_err-entry-clause-partly : goal.returns-in_err-entry-clause-partly
-returns-in_err-entry-clause-partly c =
-    let so_far = c.loop-act.invariant.so_far in
-    let done = so_far.2 in
-    on_any_err _
-    (stopped (site_view c.args.site.now) c.args.zone.now c.args.moment (histories_of c.args.books.now.items) (map asked_of c.args.list.items) so_far.0 _ (histories_of c.take.new.books.items) so_far.1 (c.in_err-entry.ensures.err ∙ done.stand))
-    c.from_residual-in_err-entry.result
+pub returns-in_err-gathered-clause-partly : goal.returns-in_err-gathered-clause-partly
+returns-in_err-gathered-clause-partly c =
+    let books = c.args.books.now.items in
+    on_any_err _ (none_partly (site_view c.args.site.now) c.args.zone.now c.args.moment (histories_of books) (map asked_of c.args.list.items) (length_map (λ (k : Contents). k.entries) books ∙ c.requires.books.whole)) c.from_residual-in_err-gathered.result
 
-pub returns-in_err-gather-clause-partly : goal.returns-in_err-gather-clause-partly
-returns-in_err-gather-clause-partly c =
+pub returns-in_err-take_in_order-clause-partly : goal.returns-in_err-take_in_order-clause-partly
+returns-in_err-take_in_order-clause-partly c =
     let s = site_view c.args.site.now in
-    let a = asked_of c.in-Some.act in
-    let so_far = c.loop-act.invariant.so_far in
-    let done = so_far.2 in
-    let step = ap (map asked_of) c.in-Some.ensures.steps.0 in
-    on_any_err _
-    (stopped_behind s c.args.zone.now c.args.moment (histories_of c.args.books.now.items) (map asked_of c.args.list.items) so_far.0 _ a c.in_ok-entry.entry (histories_of c.loop-act.books.items) (histories_of c.take.new.books.items)
-    (ap (λ (xs : List Asked). so_far.0 ++ xs) (sym step) ∙ so_far.1) (on_site_first s a _ _ step c.loop-act.invariant.acts) done.stand c.in_ok-entry.ensures.entry c.in_ok-entry.ensures.kept)
-    c.from_residual-in_err-gather.result
+    let zone = c.args.zone.now in
+    let moment = c.args.moment in
+    let books = c.args.books.now.items in
+    let before = histories_of books in
+    let acts = map asked_of c.args.list.items in
+    let whole = length_map (λ (k : Contents). k.entries) books ∙ c.requires.books.whole in
+    let gathered = c.in_ok-gathered.gathered in
+    let few = c.in_ok-gathered.ensures.whole ∙ ap (λ (v : Vec ℕ Global). length v.items) (sym c.in_ok-gathered.ensures.touched) in
+    let begun = none_come s zone moment before gathered.touched.items gathered.rows.items whole few c.in_ok-gathered.ensures.none in
+    on_any_err _ (some_partly s zone moment before acts (histories_of c.take_in_order.new.books.items) (c.in_err-take_in_order.ensures.stopped before [] begun)) c.from_residual-in_err-take_in_order.result
 
 -- At the end.
 
 pub returns-clause-round : goal.returns-clause-round
 returns-clause-round c =
-    on_any _ (is_alone (rules_in (site_view c.args.site.now) c.args.zone.now) c.args.moment (histories_of c.args.books.now.items) (map asked_of c.args.list.items) c.requires.acts) c.segments_of.result
+    on_any _ (is_alone (rules_in (site_view c.args.site.now) c.args.zone.now) c.args.moment (histories_of c.args.books.now.items) (map asked_of c.args.list.items) c.requires.acts) c.segments.result
 
 pub returns-clause-segments : goal.returns-clause-segments
 returns-clause-segments c =
-    let so_far = c.loop-act.invariant.so_far in
-    let done = so_far.2 in
-    let empty : length (into_iter_items c.loop-act.act-iterator) ≡ 0 = search (rules, c.in-None.ensures.steps) in
-    let all = all_done asked_of so_far.0 (map asked_of c.args.list.items) (into_iter_items c.loop-act.act-iterator) so_far.1 empty in
-    if_ok _ _
-    (λ r is. is ∙ done.gathered ∙ ap (λ (xs : List Asked). segments_of (round_made (site_view c.args.site.now) c.args.zone.now c.args.moment (histories_of c.args.books.now.items) xs)) all)
-    c.segments_of.result c.segments_of.ensures
+    let s = site_view c.args.site.now in
+    let zone = c.args.zone.now in
+    let moment = c.args.moment in
+    let books = c.args.books.now.items in
+    let before = histories_of books in
+    let acts = map asked_of c.args.list.items in
+    let whole = length_map (λ (k : Contents). k.entries) books ∙ c.requires.books.whole in
+    let gathered = c.in_ok-gathered.gathered in
+    let few = c.in_ok-gathered.ensures.whole ∙ ap (λ (v : Vec ℕ Global). length v.items) (sym c.in_ok-gathered.ensures.touched) in
+    let begun = none_come s zone moment before gathered.touched.items gathered.rows.items whole few c.in_ok-gathered.ensures.none in
+    let come = c.in_ok-take_in_order.ensures.come before [] begun in
+    let round = round_made s zone moment before acts in
+    c.segments.ensures round (subst (λ (v : Vec ℕ Global). AreKept v.items c.take_in_order.new.gathered.rows.items round) (sym c.take_in_order.ensures.same) come.kept)
 
 pub returns-clause-behind : goal.returns-clause-behind
 returns-clause-behind c =
-    let so_far = c.loop-act.invariant.so_far in
-    let done = so_far.2 in
-    let empty : length (into_iter_items c.loop-act.act-iterator) ≡ 0 = search (rules, c.in-None.ensures.steps) in
-    let all = all_done asked_of so_far.0 (map asked_of c.args.list.items) (into_iter_items c.loop-act.act-iterator) so_far.1 empty in
-    on_any _
-    (done.stand ∙ ap (λ (xs : List Asked). joined (histories_of c.args.books.now.items) (round_made (site_view c.args.site.now) c.args.zone.now c.args.moment (histories_of c.args.books.now.items) xs)) all)
-    c.segments_of.result
+    let s = site_view c.args.site.now in
+    let zone = c.args.zone.now in
+    let moment = c.args.moment in
+    let books = c.args.books.now.items in
+    let before = histories_of books in
+    let acts = map asked_of c.args.list.items in
+    let whole = length_map (λ (k : Contents). k.entries) books ∙ c.requires.books.whole in
+    let gathered = c.in_ok-gathered.gathered in
+    let few = c.in_ok-gathered.ensures.whole ∙ ap (λ (v : Vec ℕ Global). length v.items) (sym c.in_ok-gathered.ensures.touched) in
+    let begun = none_come s zone moment before gathered.touched.items gathered.rows.items whole few c.in_ok-gathered.ensures.none in
+    let come = c.in_ok-take_in_order.ensures.come before [] begun in
+    on_any _ come.stand c.segments.result
 
 pub returns-clause-partly : goal.returns-clause-partly
 returns-clause-partly c =
-    let so_far = c.loop-act.invariant.so_far in
-    let done = so_far.2 in
-    on_any_err _
-    (stopped (site_view c.args.site.now) c.args.zone.now c.args.moment (histories_of c.args.books.now.items) (map asked_of c.args.list.items) so_far.0 _ (histories_of c.loop-act.books.items) so_far.1 done.stand)
-    c.segments_of.result
+    let s = site_view c.args.site.now in
+    let zone = c.args.zone.now in
+    let moment = c.args.moment in
+    let books = c.args.books.now.items in
+    let before = histories_of books in
+    let acts = map asked_of c.args.list.items in
+    let whole = length_map (λ (k : Contents). k.entries) books ∙ c.requires.books.whole in
+    let gathered = c.in_ok-gathered.gathered in
+    let few = c.in_ok-gathered.ensures.whole ∙ ap (λ (v : Vec ℕ Global). length v.items) (sym c.in_ok-gathered.ensures.touched) in
+    let begun = none_come s zone moment before gathered.touched.items gathered.rows.items whole few c.in_ok-gathered.ensures.none in
+    let come = c.in_ok-take_in_order.ensures.come before [] begun in
+    on_any_err _ (whole_partly s zone moment before acts (histories_of c.take_in_order.new.books.items) come.stand) c.segments.result

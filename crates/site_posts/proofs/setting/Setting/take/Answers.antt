@@ -32,7 +32,7 @@ returns-in-Ok-clause-entry c =
     let books = c.args.books.now.items in
     let book = c.index_mut-book.result.now in
     let at = book_at s now books c.requires.books k book c.requires.checkable c.index_mut-book.ensures.value in
-    made_is s now books c.requires.books c.args.self.now.zone.now k book c.apply.new.self c.args.sights.now c.in-Ok.entry c.args.act.event at c.requires.sights c.in-Ok.ensures.entry
+    made_is s now books c.requires.books c.args.self.now.zone.now k book c.apply.new.self c.args.sights.now c.in-Ok.entry c.args.act.event at c.args.caller c.requires.sights c.in-Ok.ensures.entry
 
 pub returns-in-Ok-clause-kept : goal.returns-in-Ok-clause-kept
 returns-in-Ok-clause-kept c =
@@ -52,4 +52,4 @@ returns-in-Ok-clause-books c =
     let books = c.args.books.now.items in
     let book = c.index_mut-book.result.now in
     let at = book_at s now books c.requires.books k book c.requires.checkable c.index_mut-book.ensures.value in
-    books_are s now books c.requires.books c.args.self.now.zone.now k book c.apply.new.self c.args.sights.now c.in-Ok.entry c.args.act.event at c.in-Ok.ensures.kept c.in-Ok.ensures.entry (set books k c.apply.new.self) refl
+    books_are s now books c.requires.books c.args.self.now.zone.now k book c.apply.new.self c.args.sights.now c.in-Ok.entry c.args.act.event at c.args.caller c.in-Ok.ensures.kept c.in-Ok.ensures.entry (set books k c.apply.new.self) refl
