@@ -194,7 +194,7 @@ def check_clauses(page, line, text, near):
 
 @functools.cache
 def counted():
-    """What else pages count, by the words behind the number."""
+    """What else pages count, by the words after the number."""
     return {
         "commands": len(variants("crates/event_text/src/command.rt", "Command")),
         "names, arguments": len(variants("crates/dsl_lib/src/plain.rt", "Plain")),
@@ -257,7 +257,7 @@ def check_snippets(page):
 
 
 def blocks_of(page):
-    """Of each fenced block the number of its first line, the words behind the fence, and its lines."""
+    """Of each fenced block the number of its first line, the words after the fence, and its lines."""
     block = None
     for number, line in enumerate(read(page).splitlines(), 1):
         if line.startswith("```"):

@@ -32,7 +32,7 @@ SECONDS = 60
 
 
 def blocks_of(path):
-    """Of each fenced block the number of its first line, the words behind the fence, and its lines."""
+    """Of each fenced block the number of its first line, the words after the fence, and its lines."""
     block = None
     with open(path, encoding="utf-8") as file:
         for number, line in enumerate(file, 1):

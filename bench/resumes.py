@@ -4,7 +4,7 @@
 usage: bench/resumes.py [--program FILE]
 
 The first part is replayed and kept, so that there are two state files of it: that which bin/state makes of the log, and that of `keep`.
-The second part goes on behind each: both logs together have to be the log of the whole script, but for the numbers of turns. Passed over are scripts that bin/rows doesn't run or that give no log, those
+The second part goes on after each: both logs together have to be the log of the whole script, but for the numbers of turns. Passed over are scripts that bin/rows doesn't run or that give no log, those
 of which a check is ordered, since a run that goes on orders all that is due, and those whose moments fall, since the moments of turns without
 entries aren't kept. Then each byte of a small state file is changed, which has to give BadState or a log. Outside the gate; it takes a
 few minutes. Ends with 1 if something differs.
@@ -63,7 +63,7 @@ def state_of(room, log):
 
 
 def gone_on(program, room, state):
-    """The log of the second part behind a state file."""
+    """The log of the second part after a state file."""
     put(f"{room}/state", state)
     return given(program, room, "resume", "r", "state", "second", "--log", "2")
 

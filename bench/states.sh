@@ -3,7 +3,7 @@
 # of 1,000 hosts, a turn a minute, and `resume` after what it wrote, over a script of one turn. The time of `keep` has in it that the script is
 # read and run. Prints for each the seconds of the processor, the least of three runs, and the greatest memory, in megabytes and by the size
 # of the state file. Then the same of `resume` for a state file in whose objects the members stand in another order, and what a daemon takes
-# after its first turn, with these entries behind it and with none.
+# after its first turn, with these entries before it and with none.
 #
 # Wanted: at 1,000,000 entries below 3 s each, twice as long for twice as many, and below 3 times the state file's size; and a daemon that takes
 # as much as one without entries. An argument is a built icinga_site to take.

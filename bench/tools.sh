@@ -181,7 +181,7 @@ same "state, of a state file in the middle of a log" "$(cat "$scratch/whole")" "
 same "state, of a state file alone" "$(cat "$scratch/whole")" "$(bin/state "$scratch/whole")"
 gzip -c "$scratch/first.log" >"$scratch/log.2.gz"
 same "state, of rotated and packed logs" "$(cat "$scratch/whole")" "$(bin/state "$scratch/log.2.gz" "$scratch/second.log")"
-# A log that a killed daemon left, at each of its bytes, and another one that began its log behind it: what is lost is of the turn that
+# A log that a killed daemon left, at each of its bytes, and another one that began its log after it: what is lost is of the turn that
 # was being written.
 lost=$(python3 - "$scratch" <<'PYTHON'
 import json, subprocess, sys
@@ -217,7 +217,7 @@ printf 'log 2\nturn 1 200\nentry "c" 1 by 0 at 200: result 0 -> Up HARD 1 | - | 
 same "state, of a host that is new" 'a: 1@100 2@110; ä "b: 1@100 2@110; a!s: 1@100; c: 1@200; ' "$(state "$scratch/first.log" "$scratch/new.log")"
 printf 'log 2\nturn 1 200\nentry "a" 2 by 0 at 200: unack void -> Up HARD 1 | - | - | -\n' >"$scratch/earlier.log"
 same "state, of a daemon that went on from earlier entries" 'a: 1@100 2@200; ä "b: 1@100 2@110; a!s: 1@100; ' "$(state "$scratch/both.log" "$scratch/earlier.log")"
-same "state, of entries that are missing" 'ä "b: 1@100 2@110; a!s: 1@100; state: entries are missing: of "a" comes number 3 behind 1 entries' \
+same "state, of entries that are missing" 'ä "b: 1@100 2@110; a!s: 1@100; state: entries are missing: of "a" comes number 3 after 1 entries' \
     "$(bin/state "$scratch/early.log" "$scratch/first.log" "$scratch/second.log" >/dev/null && sed '/"a" 2/d' "$scratch/both.log" >"$scratch/gap.log"; state "$scratch/gap.log" 2>"$scratch/errors" | tr -d '\n'; cat "$scratch/errors")"
 bin/state "$scratch/gap.log" >/dev/null 2>&1
 same "state's status, of entries that are missing" 1 $?
