@@ -1,5 +1,5 @@
 -- What groups make of a member depends on their names, what they captured and their conditions, and on the member's type and tree alone.
-use Rattle.std.proofs.Common.{◌≡◌, ℕ, List, [], ◌∷◌, ◌++◌, map, Bool, true, false, cond, Option, Some, None, refl, ap, ◌∙◌, subst}
+use Rattle.std.proofs.Common.{◌≡◌, ℕ, List, [], ◌∷◌, ◌++◌, map, Bool, true, false, cond, Option, Some, None, refl, sym, ap, ◌∙◌, subst}
 use Rattle.site_base.specs.declared.diag.Diag.{Diag}
 use Rattle.site_base.specs.declared.item_no.ItemNo.{ItemNo}
 use Rattle.site_model.specs.PlainSite.{PlainObject}
@@ -22,6 +22,7 @@ use Rattle.place_laws.specs.Alike.{nowhere}
 use Rattle.place_laws.specs.MovedStates.{moved_item}
 use Rattle.place_laws.specs.MovedSyntax.{moved_expression, moved_statements}
 use Rattle.kept_tasks.specs.Bare.{Taker, bare_group, conditions, no_number}
+use Rattle.kept_tasks.proofs.Carried.{read_in}
 
 -- ---- conditions
 
@@ -130,3 +131,21 @@ module _ (view : View) where
       (subst (λ k. Follows (member_names view (type_named o.kind) o.tree (fresh view.store rule []) >>= λ names s. groups_by view o.number gs names s) (member_names view (type_named k) o.tree (fresh view.store rule []) >>= λ names s. groups_by view p.number gs names s)) kinds
       (after (member_names view (type_named o.kind) o.tree (fresh view.store rule [])) _ _ (λ names s. by_passes o.number p.number gs names s))))
       h
+
+  unless_read : (t : Taken) (ds : List Diag) → read_in (unless_diags t ds) ≡ None
+  unless_read t [] = refl
+  unless_read t (d ∷ ds) = refl
+
+  reads_settled : (n m : ItemNo) (x y : Outcome Taken) → Follows x y → read_in (settled (answered m y)) ≡ read_in (settled (answered n x))
+  reads_settled n m (gives t s) y (u, is, same, right) = ap (λ z. read_in (settled (answered m z))) is ∙ unless_read u u.diags ∙ sym (unless_read t t.diags)
+  reads_settled n m (faults l k x rs) y h = ap (λ z. read_in (settled (answered m z))) h
+  reads_settled n m (blocked r rs) y h = ap (λ z. read_in (settled (answered m z))) h
+
+  -- the number of a member changes no read
+  pub members_read : (gs : List PlainItem) (o p : PlainObject) → o.kind ≡ p.kind → o.tree ≡ p.tree → read_in (group_members view gs p) ≡ read_in (group_members view gs o)
+  unfolding group_members member_run
+  members_read gs o p kinds trees =
+      reads_settled o.number p.number _ _
+      (subst (λ d. Follows (member_names view (type_named o.kind) o.tree (fresh view.store rule []) >>= λ names s. groups_by view o.number gs names s) (member_names view (type_named p.kind) d (fresh view.store rule []) >>= λ names s. groups_by view p.number gs names s)) trees
+      (subst (λ k. Follows (member_names view (type_named o.kind) o.tree (fresh view.store rule []) >>= λ names s. groups_by view o.number gs names s) (member_names view (type_named k) o.tree (fresh view.store rule []) >>= λ names s. groups_by view p.number gs names s)) kinds
+      (after (member_names view (type_named o.kind) o.tree (fresh view.store rule [])) _ _ (λ names s. by_passes o.number p.number gs names s))))

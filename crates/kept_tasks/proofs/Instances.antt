@@ -18,6 +18,7 @@ use Rattle.commit_meaning.specs.Conditions.{Verdict, no_verdict, judged, is_kept
 use Rattle.commit_meaning.specs.Rules.{Element, in_rule, elements_of, back_at, prefix, name_place, place_by, instance, named_instance, unless_dropped, element_judged, element_run, elements_run, first_number, rule_run, pair_number, instances}
 use Rattle.commit_order.proofs.Numbers.{given, next, then_given}
 use Rattle.kept_tasks.specs.Bare.{bare_target}
+use Rattle.kept_tasks.proofs.Carried.{read_in}
 
 -- ---- targets without their numbers and places
 
@@ -118,3 +119,13 @@ module _ (view : View) (r : PlainRule) (n : ItemNo) (t u : Target) (same : targe
   pub instances_changed : (js : List PlainItem) → instances view r t ≡ made js → instances view q u ≡ made (map f js)
   unfolding instances
   instances_changed js h = ap (answered (pair_number q u)) runs ∙ by_run js (rule_run view r t) h
+
+  read_by_run : (x : Outcome (List PlainItem)) → read_in (answered (pair_number q u) (given (map f) x)) ≡ read_in (answered (pair_number r t) x)
+  read_by_run (gives a s) = refl
+  read_by_run (faults l k x rs) = refl
+  read_by_run (blocked p rs) = refl
+
+  -- both are blocked on the same read
+  pub instances_read : read_in (instances view q u) ≡ read_in (instances view r t)
+  unfolding instances
+  instances_read = ap (λ x. read_in (answered (pair_number q u) x)) runs ∙ read_by_run (rule_run view r t)

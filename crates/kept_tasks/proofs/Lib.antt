@@ -1,5 +1,6 @@
 pub mod Seen
 pub mod Reading
+pub mod Carried
 pub mod Told
 pub mod Numbers
 pub mod Items

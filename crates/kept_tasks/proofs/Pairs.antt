@@ -20,10 +20,11 @@ use Rattle.commit_places.specs.Alike.{AlikeInstances, AlikeRules}
 use Rattle.commit_places.proofs.Commits.{rules_alike}
 use Rattle.place_laws.specs.Alike.{nowhere}
 use Rattle.place_laws.specs.MovedStates.{moved_item}
-use Rattle.kept_tasks.specs.Bare.{bare_rule, bare_target}
+use Rattle.kept_tasks.specs.Bare.{Agree, bare_rule, bare_target}
 use Rattle.kept_tasks.specs.Kept.{IsKeptPair, renewed_instance, standing, standing_view}
-use Rattle.kept_tasks.specs.Reads.{IsAnswered, view_of_reads}
-use Rattle.kept_tasks.proofs.Instances.{instances_changed, names_same, presets_same, rule_numbered}
+use Rattle.kept_tasks.specs.Reads.{AreReadsOf, IsAnswered, SeenAlike, view_of_reads}
+use Rattle.kept_tasks.proofs.Carried.{carried, moved_read, read_in}
+use Rattle.kept_tasks.proofs.Instances.{instances_changed, instances_read, names_same, presets_same, rule_numbered}
 use Rattle.kept_tasks.proofs.Items.{made_of}
 use Rattle.kept_tasks.proofs.Numbers.{Speaks, answered_speaks}
 use Rattle.kept_tasks.proofs.Reading.{answered_by_reads, made_before, made_behind, unblocked}
@@ -103,6 +104,36 @@ made_renewed view other r q t u same alike is h =
     let m = matched (map (renumbered q u) is) (instances view (rule_numbered q.number r) u) (instances other q u) (pairs_renumbered view r q t u same is h) alike in
     m.1 ∙ ap made (instances_placed other q u m.0 m.1 ∙ sym (placed_alike q (map (renumbered q u) is) m.0 m.2) ∙ map_twice (placed q) (renumbered q u) is)
 
+module _ (old new : Loaded) (os ps : List PlainObject) (agree : Agree old new) (r q : PlainRule) (t u : Target) (same_rule : bare_rule r ≡ bare_rule q) (same_target : bare_target t ≡ bare_target u) where
+  abbrev world : View
+  world = world_view old os
+
+  abbrev other : View
+  other = world_view new ps
+
+  alike : (rs : List Read) → SeenAlike world other rs → AlikeInstances (instances (view_of_reads old world rs) (rule_numbered q.number r) u) (instances (view_of_reads new other rs) q u)
+  alike rs seen =
+      rules_alike (view_of_reads old world rs) (view_of_reads new other rs) (views_alike old new world other rs agree seen) (rule_numbered q.number r) q (alike_numbered r q same_rule) u u refl
+
+  same_read : (rs : List Read) → SeenAlike world other rs → read_in (instances (view_of_reads old world rs) r t) ≡ read_in (instances (view_of_reads new other rs) q u)
+  same_read rs seen =
+      sym (instances_read (view_of_reads old world rs) r q.number t u (names_same t u same_target) (renumbered q u) (instance_renumbered r q t u same_target))
+      ∙ sym (moved_read (map (moved_item nowhere)) (instances (view_of_reads old world rs) (rule_numbered q.number r) u)) ∙ ap read_in (alike rs seen)
+      ∙ moved_read (map (moved_item nowhere)) (instances (view_of_reads new other rs) q u)
+
+  -- pairs that are alike have the same reads, where these find the same
+  pub pair_reads : (rs : List Read) → AreReadsOf (λ view. instances view r t) old os rs → SeenAlike world other rs → AreReadsOf (λ view. instances view q u) new ps rs
+  pair_reads rs are seen = carried world other (λ qs. instances (view_of_reads old world qs) r t) (λ qs. instances (view_of_reads new other qs) q u) same_read rs seen are
+
+  -- and the one makes of the new load what the other made of the old one
+  pub pair_follows : (rs : List Read) (is : List PlainItem) → AreReadsOf (λ view. instances view r t) old os rs → SeenAlike world other rs → instances world r t ≡ made is → instances other q u ≡ made (map (renewed_instance q u) is)
+  pair_follows rs is are seen e =
+      let old_part = view_of_reads old world rs in
+      let new_part = view_of_reads new other rs in
+      let by_reads : IsAnswered (instances old_part r t) = answered_by_reads (λ view. instances view r t) old os rs are in
+      let before : instances old_part r t ≡ made is = made_before (instances old_part r t) (instances world r t) is by_reads (pair_stays old os rs r t) e in
+      made_behind (instances new_part q u) (instances other q u) (map (renewed_instance q u) is) (pair_stays new ps rs q u) (made_renewed old_part new_part r q t u same_target (alike rs seen) is before)
+
 module _ (phases : List PlainObject → List (List Diag)) (old new : Loaded) (w : ℕ) (q : PlainRule) (u : Target) (kept : IsKeptPair phases old new w q u) where
   abbrev reads : List Read
   reads = kept.reads.reads
@@ -110,30 +141,13 @@ module _ (phases : List PlainObject → List (List Diag)) (old new : Loaded) (w 
   abbrev old_part : View
   old_part = view_of_reads old (standing_view old w) reads
 
-  abbrev new_part : View
-  new_part = view_of_reads new (standing_view new w) reads
-
-  by_reads : IsAnswered (instances old_part kept.rule kept.target)
-  by_reads = answered_by_reads (λ view. instances view kept.rule kept.target) old (standing old w) reads kept.reads.are
-
-  stayed : Stays (instances old_part kept.rule kept.target) (instances (standing_view old w) kept.rule kept.target)
-  stayed = pair_stays old (standing old w) reads kept.rule kept.target
-
   made_old : (is : List PlainItem) × (instances (standing_view old w) kept.rule kept.target ≡ made is)
   made_old =
       made_of (instances (standing_view old w) kept.rule kept.target) (pair_speaks (standing_view old w) kept.rule kept.target)
-      (unblocked (instances old_part kept.rule kept.target) (instances (standing_view old w) kept.rule kept.target) by_reads stayed)
+      (unblocked (instances old_part kept.rule kept.target) (instances (standing_view old w) kept.rule kept.target) (answered_by_reads (λ view. instances view kept.rule kept.target) old (standing old w) reads kept.reads.are) (pair_stays old (standing old w) reads kept.rule kept.target))
       (pair_right phases old w kept.wave kept.gave kept.rule kept.target kept.had_rule kept.had_target)
-
-  alike : AlikeInstances (instances old_part (rule_numbered q.number kept.rule) u) (instances new_part q u)
-  alike =
-      rules_alike old_part new_part (views_alike old new (standing_view old w) (standing_view new w) reads kept.agree kept.reads.alike)
-      (rule_numbered q.number kept.rule) q (alike_numbered kept.rule q kept.same_rule) u u refl
 
   -- what the new load's rule makes is what the old one's made
   pub pair_kept : (is : List PlainItem) × (instances (standing_view old w) kept.rule kept.target ≡ made is) × (instances (standing_view new w) q u ≡ made (map (renewed_instance q u) is))
   pair_kept =
-      let is = made_old.0 in
-      let before : instances old_part kept.rule kept.target ≡ made is = made_before (instances old_part kept.rule kept.target) (instances (standing_view old w) kept.rule kept.target) is by_reads stayed made_old.1 in
-      let now : instances new_part q u ≡ made (map (renewed_instance q u) is) = made_renewed old_part new_part kept.rule q kept.target u kept.same_target alike is before in
-      (is, made_old.1, made_behind (instances new_part q u) (instances (standing_view new w) q u) (map (renewed_instance q u) is) (pair_stays new (standing new w) reads q u) now)
+      (made_old.0, made_old.1, pair_follows old new (standing old w) (standing new w) kept.agree kept.rule q kept.target u kept.same_rule kept.same_target reads made_old.0 kept.reads.are kept.reads.alike made_old.1)

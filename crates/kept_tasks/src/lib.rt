@@ -8,4 +8,4 @@
 
 mod laws;
 
-pub use laws::{kept_tasks_answer_as_before, reads_are_told_by_answers};
+pub use laws::{kept_tasks_answer_as_before, reads_are_told_by_answers, tasks_alike_answer_alike};
