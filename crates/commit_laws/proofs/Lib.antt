@@ -1,0 +1,11 @@
+pub mod Among
+pub mod Open
+pub mod Told
+pub mod Waves
+pub mod Types
+pub mod Commits
+pub mod Apart
+pub mod Instances
+pub mod Targets
+pub mod Numbers
+pub mod Standing

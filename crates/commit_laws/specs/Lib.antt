@@ -1,0 +1,4 @@
+pub mod Registered
+pub mod Accounts
+pub mod Fates
+pub mod Numbering
