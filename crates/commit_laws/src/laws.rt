@@ -1,10 +1,12 @@
 // Laws of whole commits.
-ghost use Rattle.std.specs.Prelude.{◌≡◌, ℕ, List, [], All};
+ghost use Rattle.std.specs.Prelude.{◌≡◌, ℕ, List, [], All, map};
 ghost use Rattle.site_base.specs.declared.diag.Diag.{Diag};
 ghost use Rattle.site_model.specs.PlainSite.{PlainObject, PlainSite};
 ghost use Rattle.eval_meaning.specs.Load.{Loaded};
+ghost use Rattle.eval_meaning.specs.Registration.{types};
 ghost use Rattle.eval_meaning.specs.Views.{View, IsWorld};
 ghost use Rattle.site_model.specs.Sound.{AreDistinct};
+ghost use Rattle.object_types.specs.Names.{all_types, type_name};
 ghost use Rattle.object_types.specs.declared.object_type.ObjectType.{ObjectType};
 ghost use Rattle.conf_check.specs.Duplicates.{duplicate_faults};
 ghost use Rattle.conf_check.specs.Keys.{has_object, names_of};
@@ -15,6 +17,11 @@ ghost use Rattle.commit_laws.specs.Registered.{IsRegistered};
 ghost use Rattle.commit_laws.specs.Accounts.{AnswersAll, LosesNothing};
 ghost use Rattle.commit_laws.specs.Fates.{CommitLosesNothing};
 ghost use Rattle.commit_laws.specs.Numbering.{RisesThroughout};
+
+/// A load takes objects and rules of exactly the types that have a schema and a wave, in one order.
+pub fn a_load_takes_all_types()
+    ensures { types ≡ map type_name all_types }
+{}
 
 /// Over a world no item, no rule and no group is blocked: something is made of each, or something is told under its number.
 pub fn a_world_answers_every_task()

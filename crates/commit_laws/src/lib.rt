@@ -1,4 +1,5 @@
-//! Laws of whole commits: nothing that a load registered is lost, no two items of a wave have one number, and objects that are as they should be have no faults.
+//! Laws of whole commits: nothing that a load registered is lost, no two items of a wave have one number, and objects that are as they
+//! should be have no faults.
 //!
 //! There is no code here that runs: the functions have no parameters, and their contracts are laws of the definitions in commit_meaning.
 //! The words of these laws stand in `specs/`: what is true of all that a load registers (`Registered`), what a wave makes and tells
@@ -8,6 +9,6 @@
 mod laws;
 
 pub use laws::{
-    a_commit_loses_nothing, a_wave_loses_nothing, a_world_answers_every_task, numbers_rise,
-    objects_that_stand_have_no_faults,
+    a_commit_loses_nothing, a_load_takes_all_types, a_wave_loses_nothing,
+    a_world_answers_every_task, numbers_rise, objects_that_stand_have_no_faults,
 };
