@@ -1,0 +1,4 @@
+pub mod KeptItems
+pub mod KeptValues
+pub mod KeptNodes
+pub mod KeptLoads
