@@ -47,7 +47,7 @@ pub flat_mapped : {X Y Z : Type 0} (g : Y → List Z) (f : X → Y) (xs : List X
 flat_mapped g f [] = refl
 flat_mapped g f (x ∷ xs) = ap (λ zs. g (f x) ++ zs) (flat_mapped g f xs)
 
-by_test : {X : Type 0} (b : Bool) (x : X) (xs : List X) → (if b then x ∷ [] else []) ++ xs ≡ cond b (x ∷ xs) xs
+pub by_test : {X : Type 0} (b : Bool) (x : X) (xs : List X) → (if b then x ∷ [] else []) ++ xs ≡ cond b (x ∷ xs) xs
 by_test true x xs = refl
 by_test false x xs = refl
 
