@@ -22,6 +22,7 @@ use Rattle.eval_meaning.specs.Registration.{is_good_name}
 use Rattle.eval_meaning.specs.Load.{Loaded}
 use Rattle.eval_meaning.specs.States.{State, Outcome, gives, faults, blocked, ◌>>=◌, rule}
 use Rattle.eval_meaning.specs.Views.{View}
+use Rattle.load_laws.specs.GoodNames.{AreGood, IsGood}
 use Rattle.commit_meaning.specs.Answers as answer
 use Rattle.commit_meaning.specs.Answers.{Answer, made_in, all_made, answered}
 use Rattle.commit_meaning.specs.Commits.{committed}
@@ -38,12 +39,6 @@ use Rattle.commit_meaning.proofs.Lists.{all_of_each, all_append, all_kept, all_m
 use Rattle.commit_meaning.proofs.Sorting.{all_by_number}
 
 -- ---- items
-
-abbrev pub IsGood : PlainItem → Type 0
-IsGood i = is_good_name i.name ≡ true
-
-abbrev pub AreGood : List PlainItem → Type 0
-AreGood = AllByRecursion IsGood
 
 gives_bind : {A B : Type 0} (P : A → Type 0) (Q : B → Type 0) (x : Outcome A) (f : A → State → Outcome B) → Gives P x → ((a : A) (s : State) → P a → Gives Q (f a s)) → Gives Q (x >>= f)
 gives_bind P Q (gives a s) f h k = k a s h

@@ -53,3 +53,5 @@ pub mod SmallSite
 pub mod SmallRun
 pub mod CommitNames
 pub mod SiteNames
+pub mod Attempts
+pub mod CommitRuns

@@ -36,7 +36,8 @@ use Rattle.run_meaning.proofs.Lists.{get_front, get_map, within}
 use Rattle.event_text.specs.Cuts.{IsUncut}
 use Rattle.site_audit.specs.Commands.{mark}
 use Rattle.audit_laws.specs.Names.{IsHostName, IsWellNamed}
-use Rattle.audit_laws.proofs.CommitNames.{committed_named, AreGood, IsObjectNamed}
+use Rattle.load_laws.specs.GoodNames.{AreGood}
+use Rattle.audit_laws.proofs.CommitNames.{committed_named, IsObjectNamed}
 
 -- ---- good names
 

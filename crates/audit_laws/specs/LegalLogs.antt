@@ -31,6 +31,12 @@ pub record CanBeRun (s : PlainSite) : Type 0 where
   pub attempts : AllByRecursion (λ c. c.max < 2 ^ 32) s.checkables
   pub commands : (k : ℕ) → IsOfTexts (command_of s k)
 
+-- what a run prints of a site is UTF-8, as all texts are that stand in memory: its names, and the words of its commands or the names of the macros
+-- that they lack
+pub record HasTexts (s : PlainSite) : Type 0 where
+  pub names : AreTexts (names_of s)
+  pub commands : (k : ℕ) → IsOfTexts (command_of s k)
+
 -- the logs of a run of so many callers over these turns, without given histories and with nothing fed, all of which can stand in memory
 pub record IsRunInMemory (callers : ℕ) (s : PlainSite) (zone : Option Tzif) (turns : List Turn) (logs : List TurnLog) : Type 0 where
   pub run : IsRun (basis_of_site s zone) callers (start s (no_entries s)) (map (turn_read s) turns) logs

@@ -3,7 +3,6 @@ pub mod Versions
 pub mod Reports
 pub mod Rereported
 pub mod Names
-pub mod Commits
 pub mod Askable
 pub mod Telling
 pub mod Refilled
@@ -14,6 +13,7 @@ pub mod Heard
 pub mod ToldTurns
 pub mod Fitting
 pub mod LegalLogs
+pub mod Commits
 pub mod Untold
 pub mod Alike
 pub mod Examples

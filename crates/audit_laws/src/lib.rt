@@ -29,7 +29,7 @@ pub use examples::{
 };
 pub use legal::{logs_of_runs_are_legal, logs_of_runs_fit};
 pub use lines::{lines_are_read_again, lines_are_refused_again, refusals_are_refused_again};
-pub use names::commits_name_well;
+pub use names::{commits_name_well, sites_of_commits_make_runs};
 pub use orders::{
     events_by_kinds_are_those_of_the_turn, tracks_are_taken_in_order, what_is_taken_is_in_order,
 };

@@ -1,0 +1,4 @@
+pub mod ScriptTurns
+pub mod FewEntries
+pub mod Sites
+pub mod WrittenLogs
