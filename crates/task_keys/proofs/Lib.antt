@@ -1,0 +1,9 @@
+pub mod Telling
+pub mod TellingKeys
+pub mod TellingSyntax
+pub mod TellingValues
+pub mod TellingTasks
+pub mod Unmoved
+pub mod Again
+pub mod Alike
+pub mod AlikeLoads

@@ -1,0 +1,7 @@
+pub mod Keys
+pub mod Operators
+pub mod TreeKeys
+pub mod SyntaxKeys
+pub mod ValueKeys
+pub mod LoadKeys
+pub mod TaskKeys
