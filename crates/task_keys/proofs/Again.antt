@@ -12,7 +12,7 @@ use Rattle.place_laws.specs.MovedStates.{moved_closure, moved_name, moved_templa
 use Rattle.place_laws.specs.MovedSyntax.{moved_loop}
 use Rattle.kept_tasks.specs.Bare.{Member, Taker, bare_group, bare_item, bare_member, bare_rule, bare_target, conditions}
 use Rattle.task_keys.specs.Keys.{boolean_key, text_key, maybe_text_key}
-use Rattle.task_keys.specs.SyntaxKeys.{statements_key, loop_key}
+use Rattle.task_keys.specs.SyntaxKeys.{statements_key}
 use Rattle.task_keys.specs.TreeKeys.{data_key}
 use Rattle.task_keys.proofs.Telling.{ap2}
 use Rattle.task_keys.specs.LoadKeys.{closure_key, template_key}

@@ -1,5 +1,5 @@
 -- Lists whose things have the same keys, one after another.
-use Rattle.std.proofs.Common.{◌≡◌, ℕ, zero, suc, ◌+◌, List, [], ◌∷◌, map, take, length, Option, Some, None, slice_get, refl, sym, ap, ◌∙◌, add-one}
+use Rattle.std.proofs.Common.{◌≡◌, ℕ, zero, suc, ◌+◌, List, [], ◌∷◌, map, take, Some, slice_get, refl, sym, ap, ◌∙◌, add-one}
 use Rattle.std.proofs.lemmas.Option.{none-some, same_Some}
 use Rattle.task_keys.proofs.Telling.{ap2}
 

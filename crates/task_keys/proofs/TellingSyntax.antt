@@ -1,6 +1,6 @@
 -- What the keys of syntax tell: all but the places.
 use Rattle.std.specs.Prelude.{◌==◌, if◌then◌else◌}
-use Rattle.std.proofs.Common.{◌≡◌, ℕ, List, [], ◌∷◌, ◌++◌, refl, sym, ap, ◌∙◌}
+use Rattle.std.proofs.Common.{◌≡◌, ℕ, [], ◌∷◌, refl, sym, ap, ◌∙◌}
 use Rattle.place_laws.specs.Alike.{nowhere}
 use Rattle.dsl_syntax.specs.Syntax.{Root, at_name, at_this, at_globals, Expression, expression, ExpressionKind, null, this, globals, boolean, number, string, name, array, dictionary, member, index, call, unary, binary, function_value, Expressions, no_expressions, more_expressions, Entries, no_entries, more_entries, MaybeExpression, no_expression, some_expression, Loop, loop, MaybeLoop, no_loop, some_loop, Function, function, Uses, no_uses, more_uses, Steps, no_steps, member_step, index_step, Arms, no_arms, more_arms, Statement, statement, Statements, no_statements, more_statements, StatementKind, object, template, apply, assign, ignore, import, throw, eval, include, include_library, include_all, const, var, set, choose, while, for, define, return, break, continue}
 use Rattle.dsl_syntax.specs.declared.bin_op.BinOp.{BinOp}
@@ -12,8 +12,8 @@ use Rattle.dsl_syntax.specs.declared.un_op.UnOp.TheVariants as un
 use Rattle.place_laws.specs.MovedSyntax.{moved_expression, moved_kind, moved_expressions, moved_entries, moved_maybe, moved_loop, moved_maybe_loop, moved_function, moved_uses, moved_steps, moved_arms, moved_statement, moved_statements, moved_statement_kind}
 use Rattle.task_keys.specs.Operators.{unary_number, binary_number, set_number}
 use Rattle.task_keys.specs.SyntaxKeys.{root_key, expression_key, kind_key, expressions_key, entries_key, maybe_key, loop_key, maybe_loop_key, function_key, uses_key, steps_key, arms_key, statement_key, statements_key, statement_kind_key}
-use Rattle.task_keys.proofs.Telling.{Tells, first_of, rest_of, ap2, kind, alone, byte, other, both, by, one, two, three, four, six}
-use Rattle.task_keys.proofs.TellingKeys.{same_number, same_whole, same_boolean, same_text, same_texts, same_maybe_text}
+use Rattle.task_keys.proofs.Telling.{Tells, kind, alone, byte, other, by, one, two, three, four, six}
+use Rattle.task_keys.proofs.TellingKeys.{same_whole, same_boolean, same_text, same_texts, same_maybe_text}
 
 -- ---- operators
 

@@ -1,5 +1,5 @@
 -- What the keys of tasks, and of what a load leaves, tell: all but numbers and places.
-use Rattle.std.proofs.Common.{◌≡◌, ℕ, List, [], ◌∷◌, ◌++◌, map, Bool, Option, Some, None, refl, sym, ap, ◌∙◌}
+use Rattle.std.proofs.Common.{◌≡◌, ℕ, List, [], ◌∷◌, map, Bool, Option, Some, None, refl}
 use Rattle.std.specs.Option.{option_map}
 use Rattle.site_base.specs.Data.{Data}
 use Rattle.site_base.specs.declared.place.Place.{Place}
@@ -10,16 +10,14 @@ use Rattle.dsl_value.specs.PlainStores.{Closure}
 use Rattle.eval_meaning.specs.Registered.{PlainItem, PlainRule, PlainTemplate, PlacedName}
 use Rattle.commit_meaning.specs.Names.{Target, host, service}
 use Rattle.place_laws.specs.Alike.{nowhere}
-use Rattle.place_laws.specs.MovedStates.{moved_closure, moved_item, moved_name, moved_rule, moved_template}
-use Rattle.place_laws.specs.MovedSyntax.{moved_function, moved_loop, moved_statements}
+use Rattle.place_laws.specs.MovedStates.{moved_closure, moved_name, moved_template}
+use Rattle.place_laws.specs.MovedSyntax.{moved_loop}
 use Rattle.kept_tasks.specs.Bare.{Member, Taker, bare_group, bare_item, bare_member, bare_rule, bare_target, conditions, no_number}
 use Rattle.task_keys.specs.Keys.{maybe_text_key}
-use Rattle.task_keys.specs.SyntaxKeys.{statements_key}
-use Rattle.task_keys.proofs.Telling.{Tells, ap2, kind, alone, before, other, both, by, one, two, three, four, six, seven}
-use Rattle.task_keys.proofs.TellingKeys.{same_boolean, same_text, same_maybe_text, same_data}
+use Rattle.task_keys.proofs.Telling.{Tells, kind, alone, before, other, one, two, three, four, six, seven}
+use Rattle.task_keys.proofs.TellingKeys.{same_boolean, same_text, same_data}
 use Rattle.task_keys.specs.LoadKeys.{closure_key, template_key}
 use Rattle.task_keys.specs.TaskKeys.{item_key, rule_key, text_of, maybe_loop_key, named_key, target_key, member_key, group_key, groups_key}
-use Rattle.task_keys.specs.ValueKeys.{trees_key}
 use Rattle.task_keys.proofs.TellingSyntax.{same_statements, same_loop, same_function}
 use Rattle.task_keys.proofs.TellingValues.{same_pairs, same_trees}
 

@@ -1,5 +1,5 @@
 -- What the keys of values tell.
-use Rattle.std.proofs.Common.{◌≡◌, ℕ, List, [], ◌∷◌, ◌++◌, refl}
+use Rattle.std.proofs.Common.{◌≡◌, ℕ, List, [], ◌∷◌, refl}
 use Rattle.site_base.specs.Data.{Data}
 use Rattle.dsl_value.specs.Contents.{PlainCell, array, dict}
 use Rattle.dsl_value.specs.Pairs.{Pairs}

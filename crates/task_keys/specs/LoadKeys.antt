@@ -1,5 +1,5 @@
 -- The keys of what a load leaves.
-use Rattle.std.specs.Prelude.{◌≡◌, ℕ, List, [], ◌∷◌, ◌++◌, map}
+use Rattle.std.specs.Prelude.{◌≡◌, ℕ, List, ◌∷◌, ◌++◌, map}
 use Rattle.dsl_value.specs.Contents.{PlainCell, array, dict}
 use Rattle.dsl_value.specs.PlainStores.{Closure}
 use Rattle.eval_meaning.specs.Load.{Loaded}

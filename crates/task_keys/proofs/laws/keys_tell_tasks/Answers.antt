@@ -1,6 +1,3 @@
-use Rattle.std.proofs.Common.{sym, ap, ◌∙◌}
-use Rattle.place_laws.specs.Alike.{nowhere}
-use Rattle.task_keys.specs.SyntaxKeys.{statements_key}
 use Rattle.task_keys.proofs.Again.{item_again, rule_again, target_again, member_again, groups_again, statements_again}
 use Rattle.task_keys.proofs.Telling.{told}
 use Rattle.task_keys.proofs.TellingSyntax.{same_statements}
