@@ -9,3 +9,4 @@ pub mod Instances
 pub mod Targets
 pub mod Numbers
 pub mod Standing
+pub mod Loads

@@ -4,7 +4,9 @@ use Rattle.std.specs.List.{AllByRecursion}
 use Rattle.site_base.specs.declared.item_no.ItemNo.{ItemNo}
 use Rattle.eval_meaning.specs.Registered.{PlainItem, PlainRule}
 use Rattle.eval_meaning.specs.Registration.{is_among, types, target_types}
-use Rattle.eval_meaning.specs.Load.{Loaded}
+use Rattle.dsl_value.specs.declared.value.Value.{Value}
+use Rattle.eval_meaning.specs.Load.{Loaded, loaded}
+use Rattle.eval_meaning.specs.States.{Outcome, gives, faults, blocked}
 
 -- the number of a statement, which has no target and is no element of a `for`
 abbrev pub statement_number : ℕ → ItemNo
@@ -27,3 +29,9 @@ pub record IsRegistered (load : Loaded) : Type 0 where
   pub items_rise : AllPairs (λ i j. i.number.item < j.number.item) load.items
   pub rules_rise : AllPairs (λ r q. r.number.item < q.number.item) load.rules
   pub apart : AllByRecursion (λ i. AllByRecursion (λ r. i.number.item ≢ r.number.item) load.rules) load.items
+
+-- so is what the run of a load's files gives
+abbrev pub GivesRegistered : Outcome Value → Type 0
+GivesRegistered (gives v s) = IsRegistered (loaded s)
+GivesRegistered (faults l k t rs) = Unit {0}
+GivesRegistered (blocked r rs) = Unit {0}

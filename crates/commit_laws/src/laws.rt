@@ -2,7 +2,8 @@
 ghost use Rattle.std.specs.Prelude.{◌≡◌, ℕ, List, [], All, map};
 ghost use Rattle.site_base.specs.declared.diag.Diag.{Diag};
 ghost use Rattle.site_model.specs.PlainSite.{PlainObject, PlainSite};
-ghost use Rattle.eval_meaning.specs.Load.{Loaded};
+ghost use Rattle.eval_meaning.specs.Registered.{PlainFile};
+ghost use Rattle.eval_meaning.specs.Load.{Loaded, load_run};
 ghost use Rattle.eval_meaning.specs.Registration.{types};
 ghost use Rattle.eval_meaning.specs.Views.{View, IsWorld};
 ghost use Rattle.site_model.specs.Sound.{AreDistinct};
@@ -13,7 +14,7 @@ ghost use Rattle.conf_check.specs.Keys.{has_object, names_of};
 ghost use Rattle.conf_check.specs.References.{reference_faults};
 ghost use Rattle.conf_check.specs.Standing.{NamesAreThere};
 ghost use Rattle.commit_meaning.specs.Commits.{commit};
-ghost use Rattle.commit_laws.specs.Registered.{IsRegistered};
+ghost use Rattle.commit_laws.specs.Registered.{GivesRegistered, IsRegistered};
 ghost use Rattle.commit_laws.specs.Accounts.{AnswersAll, LosesNothing};
 ghost use Rattle.commit_laws.specs.Fates.{CommitLosesNothing};
 ghost use Rattle.commit_laws.specs.Numbering.{RisesThroughout};
@@ -21,6 +22,12 @@ ghost use Rattle.commit_laws.specs.Numbering.{RisesThroughout};
 /// A load takes objects and rules of exactly the types that have a schema and a wave, in one order.
 pub fn a_load_takes_all_types()
     ensures { types ≡ map type_name all_types }
+{}
+
+/// Whatever files a load runs: its items and rules are of the types, its rules go to types to which rules of their own go, and both are numbered as they
+/// are registered, so that no two of them have one number.
+pub fn a_load_registers_by_types()
+    ensures { (files : List PlainFile) (order : List ℕ) → GivesRegistered (load_run files order) }
 {}
 
 /// Over a world no item, no rule and no group is blocked: something is made of each, or something is told under its number.

@@ -5,11 +5,11 @@ use Rattle.std.specs.Option.{IsSomeAnd}
 use Rattle.std.proofs.lemmas.Bool.{true≢false}
 use Rattle.std.proofs.lemmas.Bool.Decides.{nat_tests}
 use Rattle.std.proofs.lemmas.List.Elements.{All-nil, All-cons, All-weaker, filter-append}
-use Rattle.std.proofs.lemmas.List.{map-append}
 use Rattle.downtime_book.specs.declared.downtime.Downtime.{Downtime}
 use Rattle.downtime_book.specs.declared.rank.Rank.{Rank}
 use Rattle.downtime_book.specs.Downtime.{is_in_effect, is_triggered_by, triggered_at, after_result}
 use Rattle.downtime_book.specs.Contents.{together}
+use Rattle.downtime_book.specs.Firsts.{first_of}
 use Rattle.downtime_book.specs.Naming.{rank_of, goes_first, lesser, least, number_of, named, Precedes, Names}
 use Rattle.downtime_book.proofs.Lists.{along_permutation}
 
@@ -18,7 +18,7 @@ Rank-same : (a b : Rank) → a.start ≡ b.start → a.number ≡ b.number → a
 Rank-same a b e f = let make : ℕ → ℕ → Rank = λ s n. record { start = s; number = n } in ap₂ make e f
 
 -- a is before b, in numbers
-abbrev Before : Rank → Rank → Type 0
+abbrev pub Before : Rank → Rank → Type 0
 Before a b = (a.start < b.start) ⊎ ((a.start ≡ b.start) × (a.number ≤ b.number))
 
 Before-from : (a b : Rank) → goes_first a b ≡ true → Before a b
@@ -39,7 +39,7 @@ Before-trans a b c (inl p) (inr q) = inl (omega (arith, q.0))
 Before-trans a b c (inr p) (inl q) = inl (omega (arith, p.0))
 Before-trans a b c (inr p) (inr q) = inr (p.0 ∙ q.0, omega (arith, p.1, q.1))
 
-Before-total : (a b : Rank) → Before a b ⊎ Before b a
+pub Before-total : (a b : Rank) → Before a b ⊎ Before b a
 Before-total a b = elim (goes_first a b) as (λ t. goes_first a b ≡ t → Before a b ⊎ Before b a) [ true ↦ λ e. inl (Before-from a b e) | false ↦ λ e. inr (Before-other a b e) ] refl
 
 Before-both : (a b : Rank) → Before a b → Before b a → a ≡ b
@@ -48,10 +48,10 @@ Before-both a b (inl p) (inr q) = absurd (omega (arith, q.0))
 Before-both a b (inr p) (inl q) = absurd (omega (arith, p.0))
 Before-both a b (inr p) (inr q) = Rank-same a b p.0 (omega (arith, p.1, q.1))
 
-lesser-here : (a b : Rank) → Before a b → lesser a (Some b) ≡ a
+pub lesser-here : (a b : Rank) → Before a b → lesser a (Some b) ≡ a
 lesser-here a b h = ap (λ t. cond t a b) (goes_first-from a b h)
 
-lesser-there : (a b : Rank) → Before b a → lesser a (Some b) ≡ b
+pub lesser-there : (a b : Rank) → Before b a → lesser a (Some b) ≡ b
 lesser-there a b h =
     elim (goes_first a b) as (λ t. goes_first a b ≡ t → cond t a b ≡ b) [ true ↦ λ e. Before-both a b (Before-from a b e) h | false ↦ λ e. refl ] refl
 
@@ -125,36 +125,10 @@ module _ (m : ℕ) where
       ] in
       by (q x) refl
 
-rank_of-after_result : (m : ℕ) (p : Bool) (d : Downtime) → rank_of (after_result m p d) ≡ rank_of d
+pub rank_of-after_result : (m : ℕ) (p : Bool) (d : Downtime) → rank_of (after_result m p d) ≡ rank_of d
 rank_of-after_result m p d =
     let e : Downtime = record d { kind = triggered_at m d.kind } in
     elim (p && is_triggered_by m d) as (λ b. rank_of (cond b e d) ≡ rank_of d) [ true ↦ refl | false ↦ refl ]
-
--- ---- the first of those that are in effect, by a pick between two ranks
-module _ (pick : Rank → Rank → Rank) (picks : (a b : Rank) → pick a b ≡ lesser a (Some b)) (m : ℕ) (p : Bool) where
-  abbrev kept : List Downtime → List Rank
-  kept xs = map rank_of (filter (λ d. is_in_effect m (after_result m p d)) xs)
-
-  fold-kept : (r : Rank) (xs : List Downtime) → fold pick r (kept xs) ≡ lesser r (least m (map (after_result m p) xs))
-  fold-kept r [] = refl
-  fold-kept r (x ∷ xs) =
-      let rest = kept xs in
-      let o = least m (map (after_result m p) xs) in
-      let y = after_result m p x in
-      elim (is_in_effect m y) as (λ b. fold pick r (map rank_of (cond b (x ∷ filter (λ d. is_in_effect m (after_result m p d)) xs) (filter (λ d. is_in_effect m (after_result m p d)) xs))) ≡ lesser r (cond b (Some (lesser (rank_of y) o)) o)) [
-        | true ↦ ap (λ (z : Rank). fold pick z rest) (picks r (rank_of x)) ∙ fold-kept (lesser r (Some (rank_of x))) xs ∙ lesser_group r (rank_of x) o ∙ ap (λ (z : Rank). lesser r (Some (lesser z o))) (sym (rank_of-after_result m p x))
-        | false ↦ fold-kept r xs
-      ]
-
-  pub reduce-kept : (xs : List Downtime) → reduce pick (map rank_of (filter (λ d. is_in_effect m (after_result m p d)) xs)) ≡ least m (map (after_result m p) xs)
-  reduce-kept [] = refl
-  reduce-kept (x ∷ xs) =
-      let o = least m (map (after_result m p) xs) in
-      let y = after_result m p x in
-      elim (is_in_effect m y) as (λ b. reduce pick (map rank_of (cond b (x ∷ filter (λ d. is_in_effect m (after_result m p d)) xs) (filter (λ d. is_in_effect m (after_result m p d)) xs))) ≡ cond b (Some (lesser (rank_of y) o)) o) [
-        | true ↦ ap (λ (z : Rank). Some z) (fold-kept (rank_of x) xs ∙ ap (λ (z : Rank). lesser z o) (sym (rank_of-after_result m p x)))
-        | false ↦ reduce-kept xs
-      ]
 
 -- ---- the least rank of two lists, and of many
 -- the lesser of two ranks, where there are such
@@ -166,22 +140,22 @@ lesser_of_both : (r : Rank) (o q : Option Rank) → lesser r (lesser_of o q) ≡
 lesser_of_both r None q = refl
 lesser_of_both r (Some s) q = sym (lesser_group r s q)
 
-least-append : (m : ℕ) (xs ys : List Downtime) → least m (xs ++ ys) ≡ lesser_of (least m xs) (least m ys)
-least-append m [] ys = refl
-least-append m (x ∷ xs) ys =
+first_of-append : (t : Downtime → Bool) (xs ys : List Downtime) → first_of t (xs ++ ys) ≡ lesser_of (first_of t xs) (first_of t ys)
+first_of-append t [] ys = refl
+first_of-append t (x ∷ xs) ys =
     let r = rank_of x in
-    let o = least m xs in
-    let q = least m ys in
-    ap (λ (z : Option Rank). cond (is_in_effect m x) (Some (lesser r z)) z) (least-append m xs ys) ∙ elim (is_in_effect m x) as (λ b. cond b (Some (lesser r (lesser_of o q))) (lesser_of o q) ≡ lesser_of (cond b (Some (lesser r o)) o) q)
+    let o = first_of t xs in
+    let q = first_of t ys in
+    ap (λ (z : Option Rank). cond (t x) (Some (lesser r z)) z) (first_of-append t xs ys) ∙ elim (t x) as (λ b. cond b (Some (lesser r (lesser_of o q))) (lesser_of o q) ≡ lesser_of (cond b (Some (lesser r o)) o) q)
     [ true ↦ ap (λ (z : Rank). Some z) (lesser_of_both r o q) | false ↦ refl ]
 
-module _ (pick : Rank → Rank → Rank) (picks : (a b : Rank) → pick a b ≡ lesser a (Some b)) (m : ℕ) (f : Downtime → Downtime) (q : Downtime → Bool) where
+module _ (pick : Rank → Rank → Rank) (picks : (a b : Rank) → pick a b ≡ lesser a (Some b)) (t q : Downtime → Bool) where
   abbrev of_run : List Downtime → Option Rank
-  of_run run = least m (map f (filter q run))
+  of_run run = first_of t (filter q run)
 
   of_runs : (run : List Downtime) (runs : List (List Downtime)) → of_run (together (run ∷ runs)) ≡ lesser_of (of_run run) (of_run (together runs))
   of_runs run runs =
-      ap (λ (l : List Downtime). least m (map f l)) (filter-append q run (together runs)) ∙ ap (least m) (map-append f (filter q run) (filter q (together runs))) ∙ least-append m (map f (filter q run)) (map f (filter q (together runs)))
+      ap (first_of t) (filter-append q run (together runs)) ∙ first_of-append t (filter q run) (filter q (together runs))
 
   fold-found : (r : Rank) (runs : List (List Downtime)) → fold pick r (filter_map of_run runs) ≡ lesser r (of_run (together runs))
   fold-found r [] = refl

@@ -1,19 +1,21 @@
 -- What each call of a book leaves and answers, by the calls that the book stands for.
-use Rattle.std.proofs.Common.{◌+◌, ◌≡◌, ℕ, ◌≤◌, Bool, true, false, not, ◌&&◌, ◌==◌, nat_lt, nat_le, cond, Some, None, List, [], ◌∷◌, ◌++◌, map, filter, length, IsPermutation, refl, sym, ap, ◌∙◌, subst, arith, append-nil}
-use Rattle.std.specs.List.{list_any}
+use Rattle.std.proofs.Common.{◌+◌, ◌≡◌, ℕ, ◌≤◌, Bool, true, false, not, ◌&&◌, ◌==◌, nat_lt, nat_le, cond, Some, None, List, [], ◌∷◌, ◌++◌, map, filter, length, IsPermutation, refl, sym, ap, ap₂, ◌∙◌, subst, arith, append-nil}
+use Rattle.std.specs.List.{All, list_any}
 use Rattle.std.proofs.lemmas.Bool.{le-ltb, ltb-false, and_right}
-use Rattle.std.proofs.lemmas.List.Elements.{filter-append}
-use Rattle.std.proofs.lemmas.List.Sorted.{IsPermutation-cons, IsPermutation-trans, IsPermutation-append_comm, IsPermutation-map, list_any-IsPermutation, length_permutation}
+use Rattle.std.proofs.lemmas.List.Elements.{All-filter, All-head, All-tail, filter-append}
+use Rattle.std.proofs.lemmas.List.Sorted.{IsPermutation-cons, IsPermutation-trans, IsPermutation-append_comm, IsPermutation-map, list_any-IsPermutation, length_permutation, All-permutation}
 use Rattle.downtime_book.specs.declared.downtime.Downtime.{Downtime}
 use Rattle.downtime_book.specs.declared.kind.Kind.{Kind}
 use Rattle.downtime_book.specs.declared.kind.Kind.TheVariants.{Fixed, Flexible}
 use Rattle.downtime_book.specs.Downtime.{kind_until, kind_is_in_effect, until, is_live, is_in_effect, kind_is_waiting, is_triggered_by, triggered_at, after_result}
 use Rattle.downtime_book.specs.Calls.{Call, added, resulted, cancelled, downtime_of, downtimes, latest, is_live_in}
 use Rattle.downtime_book.specs.Contents.{Contents, StandsFor, live_downtimes}
+use Rattle.downtime_book.specs.Firsts.{first_of, starts}
 use Rattle.downtime_book.specs.Naming.{named, least, number_of}
 use Rattle.downtime_book.proofs.Lists.{filter_within, filter_twice, filter_map_within, list_any_within, list_any_filter, map_same, IsPermutation-filter}
 use Rattle.downtime_book.proofs.LookBack.{downtimes-added, latest-added, downtimes-resulted, latest-resulted, downtimes-cancelled, latest-cancelled}
 use Rattle.downtime_book.proofs.NamingLemmas.{least-permutation, least_within}
+use Rattle.downtime_book.proofs.Starts.{IsPrompt, all_prompt_later, downtimes_prompt, least_starts}
 
 -- ---- what is past stays past
 is_live-later : (l m : ℕ) (d : Downtime) → l ≤ m → is_live l d ≡ false → is_live m d ≡ false
@@ -104,6 +106,23 @@ StandsFor-resulted book h m p kept s l kept_is =
     let moved : IsPermutation (filter (is_live m) (map f (live_downtimes h))) kept = IsPermutation-trans _ _ _ (IsPermutation-filter (is_live m) _ _ (IsPermutation-map f _ _ s.downtimes)) kept_is in
     record { latest = sym (latest-resulted m p h u); downtimes = IsPermutation-same _ _ _ at moved }
 
+-- what a result leaves of those that are live, once what is past is gone
+pub met_live : (m : ℕ) (p : Bool) (ds : List Downtime) → filter (is_live m) (map (after_result m p) ds) ≡ filter (is_live m) (map (after_result m p) (filter (is_live m) ds))
+met_live m p ds = sym (filter_map_within (is_live m) (after_result m p) (is_live m) (past-after_result m p) ds)
+
+map_none : (m : ℕ) (p : Bool) (ds : List Downtime) → All (λ d. is_triggered_by m d ≡ false) ds → map (after_result m p) ds ≡ ds
+map_none m p [] h = refl
+map_none m p (d ∷ ds) h =
+    let T : Downtime → Type 0 = λ d. is_triggered_by m d ≡ false in
+    ap₂ (λ (x : Downtime) (l : List Downtime). x ∷ l) (after_result-no m p d (All-head T d ds h)) (map_none m p ds (All-tail T d ds h))
+
+pub met_none : (m : ℕ) (p : Bool) (ds : List Downtime) → All (λ d. is_triggered_by m d ≡ false) (filter (is_live m) ds) → filter (is_live m) (map (after_result m p) ds) ≡ filter (is_live m) ds
+met_none m p ds h =
+    met_live m p ds ∙ ap (filter (is_live m)) (map_none m p (filter (is_live m) ds) h) ∙ filter_within (is_live m) (is_live m) (λ d e. e) ds
+
+pub met_ok : (m : ℕ) (ds : List Downtime) → filter (is_live m) (map (after_result m false) ds) ≡ filter (is_live m) ds
+met_ok m ds = ap (filter (is_live m)) (map-after_ok m ds)
+
 -- ---- the answers
 module _ (book : Contents) (h : List Call) (m : ℕ) (s : StandsFor book h) (l : book.latest ≤ m) where
   up : latest h ≤ m
@@ -122,11 +141,15 @@ module _ (book : Contents) (h : List Call) (m : ℕ) (s : StandsFor book h) (l :
       let out_before : (d : Downtime) → is_live (latest h) d ≡ false → is_in_effect m (f d) ≡ false = λ d g. out d (is_live-later (latest h) m d up g) in
       least_within m f (is_live m) out book.downtimes ∙ sym (least-permutation m _ _ (IsPermutation-map f _ _ s.downtimes)) ∙ least_within m f (is_live (latest h)) out_before (downtimes h)
 
-  pub named-kept : named m (map (after_result m false) (filter (is_live m) book.downtimes)) ≡ named m (downtimes h)
-  named-kept = ap number_of (least-kept false ∙ ap (least m) (map-after_ok m (downtimes h)))
+  prompt : All (IsPrompt m) book.downtimes
+  prompt =
+      All-permutation (IsPrompt m) (live_downtimes h) book.downtimes s.downtimes (All-filter (is_live (latest h)) (IsPrompt m) (downtimes h) (all_prompt_later (latest h) m (downtimes h) up (downtimes_prompt h)))
 
-  pub named-after : (p : Bool) → named m (map (after_result m p) (filter (is_live m) book.downtimes)) ≡ named m (downtimes (h ++ resulted m p ∷ []))
-  named-after p = ap number_of (least-kept p ∙ ap (least m) (sym (downtimes-resulted m p h)))
+  pub named-after : (p : Bool) → number_of (first_of (starts m p) (filter (is_live m) book.downtimes)) ≡ named m (downtimes (h ++ resulted m p ∷ []))
+  named-after p = ap number_of (sym (least_starts m p book.downtimes prompt) ∙ least-kept p ∙ ap (least m) (sym (downtimes-resulted m p h)))
+
+  pub named-kept : number_of (first_of (starts m false) (filter (is_live m) book.downtimes)) ≡ named m (downtimes h)
+  named-kept = ap number_of (sym (least_starts m false book.downtimes prompt) ∙ least-kept false ∙ ap (least m) (map-after_ok m (downtimes h)))
 
 pub length-kept : (book : Contents) (h : List Call) → StandsFor book h → length book.downtimes ≡ length (live_downtimes h)
 length-kept book h s = length_permutation (live_downtimes h) book.downtimes s.downtimes

@@ -17,6 +17,11 @@ abbrev pub lesser : Rank → Option Rank → Rank
 lesser a None = a
 lesser a (Some b) = if goes_first a b then a else b
 
+-- the rank, if the downtime has started at the moment
+abbrev pub started : ℕ → Option Rank → Option Rank
+started moment None = None
+started moment (Some r) = if nat_le r.start moment then Some r else None
+
 -- the least rank of those that are in effect
 abbrev pub least : ℕ → List Downtime → Option Rank
 least moment [] = None

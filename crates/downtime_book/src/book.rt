@@ -14,10 +14,12 @@ use std::marker::Model;
 /// A book of downtimes, which answers by what was added, resulted and cancelled.
 ///
 /// Moments don't fall: none is below the latest one that a result or a cancel brought. So the book
-/// keeps only what wasn't past then, and a call walks what is live or still to come at most: past
-/// downtimes cost neither time nor memory. They lie in a few sorted runs, each about twice as long
-/// as the next, so that adding one moves few others, in whatever order they come. Only `add` takes
-/// memory.
+/// keeps only what wasn't past then: past downtimes cost neither time nor memory. The others lie in a
+/// few runs, each about twice as long as the next, in which each downtime knows what comes first of
+/// those that end no earlier. So what is in effect, also after a result, is found by halving each run,
+/// and a result that triggers none walks over none. One that triggers some walks over the runs in
+/// which they lie, `cancel` and `is_live` walk over all, and `add` moves each downtime as many times
+/// as there are runs. Only `add` takes memory.
 #[derive(Drop)]
 pub struct Book {
     latest: Moment,

@@ -15,8 +15,9 @@ pub struct Downtime {
 }
 
 impl Downtime {
-    ghost use Rattle.downtime_book.specs.Downtime.{until, is_live, is_in_effect};
+    ghost use Rattle.downtime_book.specs.Downtime.{until, is_live};
     ghost use Rattle.downtime_book.specs.Downtime.{is_triggered_by, after_result};
+    ghost use Rattle.downtime_book.specs.Firsts.{counts, is_waiting};
     ghost use Rattle.downtime_book.specs.Naming.{rank_of};
 
     /// What decides whether it is the one that is named.
@@ -50,21 +51,28 @@ impl Downtime {
         u128::from(moment.secs()) < self.until()
     }
 
-    fn is_in_effect(&self, moment: Moment) -> bool
-        ensures { result ≡ is_in_effect moment self.now }
+    /// Whether it is in effect from its start on as long as it is live, once a result came.
+    pub fn counts(&self, problem: bool) -> bool
+        ensures { result ≡ counts problem self.now }
     {
         match &self.kind {
-            Kind::Fixed => self.start <= moment && self.is_live(moment),
             Kind::Flexible {
-                trigger: Some(trigger),
-                ..
-            } => *trigger <= moment && self.is_live(moment),
-            Kind::Flexible { trigger: None, .. } => false,
+                duration,
+                trigger: None,
+            } => problem && *duration > 0,
+            _ => true,
         }
     }
 
+    /// Whether it waits for a problem.
+    pub fn is_waiting(&self) -> bool
+        ensures { result ≡ is_waiting self.now }
+    {
+        matches!(&self.kind, Kind::Flexible { trigger: None, .. })
+    }
+
     /// Whether a problem at this moment triggers it.
-    pub fn is_triggered_by(&self, moment: Moment) -> bool
+    fn is_triggered_by(&self, moment: Moment) -> bool
         ensures { result ≡ is_triggered_by moment self.now }
     {
         match &self.kind {
@@ -73,28 +81,15 @@ impl Downtime {
         }
     }
 
-    /// Whether it is in effect at this moment once a result came at it.
-    pub fn is_in_effect_after(&self, moment: Moment, problem: bool) -> bool
-        ensures { result ≡ is_in_effect moment (after_result moment problem self.now) }
-    {
-        let triggered = problem && self.is_triggered_by(moment);
-        match &self.kind {
-            Kind::Flexible { duration, .. } if triggered => *duration > 0,
-            _ => self.is_in_effect(moment),
-        }
-    }
-
-    /// Takes note of a problem, and says whether that triggered it.
-    pub fn meet_problem(&mut self, moment: Moment) -> bool
-        ensures after { self.new ≡ after_result moment true self.old }
-        ensures triggered { result ≡ is_triggered_by moment self.old }
+    /// Lets a problem trigger it, if it waits for one.
+    pub fn meet_problem(&mut self, moment: Moment)
+        ensures { self.new ≡ after_result moment true self.old }
     {
         if !self.is_triggered_by(moment) {
-            return false;
+            return;
         }
         if let Kind::Flexible { trigger, .. } = &mut self.kind {
             *trigger = Some(moment);
         }
-        true
     }
 }

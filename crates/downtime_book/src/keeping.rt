@@ -1,79 +1,112 @@
-// How a list of downtimes is kept in order of when they end, without what is past.
-ghost use Rattle.std.specs.Prelude.{◌≡◌, ◌==◌, true, false, not, filter, map, IsPermutation};
-ghost use Rattle.downtime_book.specs.Downtime.{is_live, after_result};
+// How a list of downtimes is kept in order of when they end, each with what comes first from it on.
+ghost use Rattle.std.specs.Prelude.{◌≡◌, ◌==◌, ◌≤◌, true, false, not, filter, map, drop, length, All, IsPermutation};
+ghost use Rattle.downtime_book.specs.Downtime.{is_live, is_triggered_by, after_result};
 ghost use Rattle.downtime_book.specs.Contents.{IsInOrder};
+ghost use Rattle.downtime_book.specs.Firsts.{AreTold, downtimes_of};
 
-use crate::downtime::Downtime;
+use crate::firsts::Firsts;
+use crate::placed::Placed;
+use crate::rank::started;
 use site_base::Moment;
 use std::collections::VecDeque;
 
 /// Gives room back where less than a quarter of it is used.
-fn trim(downtimes: &mut VecDeque<Downtime>)
-    ensures { downtimes.new.items ≡ downtimes.old.items }
+fn trim(placed: &mut VecDeque<Placed>)
+    ensures { placed.new.items ≡ placed.old.items }
 {
-    let held = downtimes.len();
-    if held < downtimes.capacity() / 4 {
-        downtimes.shrink_to(2 * held);
+    let held = placed.len();
+    if held < placed.capacity() / 4 {
+        placed.shrink_to(2 * held);
     }
+}
+
+/// The place from which on they aren't past at this moment.
+pub fn first_live(placed: &VecDeque<Placed>, moment: Moment) -> usize
+    requires { IsInOrder (downtimes_of placed.now.items) }
+    ensures bound { result ≤ length placed.now.items }
+    ensures live { downtimes_of (drop result placed.now.items) ≡ filter (is_live moment) (downtimes_of placed.now.items) }
+{
+    placed.partition_point(|one| !one.downtime.is_live(moment))
 }
 
 /// Takes away what has this number.
-pub fn remove(downtimes: &mut VecDeque<Downtime>, number: u64)
-    ensures { downtimes.new.items ≡ filter (λ d. not (d.number == number)) downtimes.old.items }
+pub fn remove(placed: &mut VecDeque<Placed>, number: u64)
+    ensures kept { downtimes_of placed.new.items ≡ filter (λ d. not (d.number == number)) (downtimes_of placed.old.items) }
+    ensures told { AreTold placed.new.items }
 {
-    downtimes.retain(|downtime| downtime.number != number);
+    placed.retain(|one| one.downtime.number != number);
+    tell(placed.make_contiguous());
 }
 
 /// Drops what is past at this moment, and most of its room where little is left.
-pub fn drop_past(downtimes: &mut VecDeque<Downtime>, moment: Moment)
-    requires { IsInOrder downtimes.old.items }
-    ensures { downtimes.new.items ≡ filter (is_live moment) downtimes.old.items }
+pub fn drop_past(placed: &mut VecDeque<Placed>, moment: Moment)
+    requires { IsInOrder (downtimes_of placed.old.items) }
+    ensures live { downtimes_of placed.new.items ≡ filter (is_live moment) (downtimes_of placed.old.items) }
+    ensures told { AreTold placed.old.items → AreTold placed.new.items }
 {
-    let past = downtimes.partition_point(|downtime| !downtime.is_live(moment));
-    downtimes.drain(..past);
-    trim(downtimes);
+    let past = first_live(placed, moment);
+    placed.drain(..past);
+    trim(placed);
+}
+
+/// Tells each what comes first from it on.
+pub fn tell(placed: &mut [Placed])
+    ensures same { downtimes_of placed.new ≡ downtimes_of placed.old }
+    ensures told { AreTold placed.new }
+{
+    let mut firsts = Firsts::none();
+    let mut place = placed.len();
+    while 0 < place {
+        place -= 1;
+        firsts = firsts.with(&placed[place].downtime);
+        placed[place].firsts = firsts;
+    }
 }
 
 /// Puts downtimes in order of when they end.
-pub fn sort(downtimes: &mut [Downtime])
-    ensures same { IsPermutation downtimes.old downtimes.new }
-    ensures ordered { IsInOrder downtimes.new }
+pub fn sort(placed: &mut [Placed])
+    ensures same { IsPermutation (downtimes_of placed.old) (downtimes_of placed.new) }
+    ensures ordered { IsInOrder (downtimes_of placed.new) }
+    ensures told { AreTold placed.new }
 {
-    downtimes.sort_unstable_by_key(|downtime| downtime.until());
+    placed.sort_unstable_by_key(|one| one.downtime.until());
+    tell(placed);
 }
 
-/// Lets each downtime meet the result, and puts them back in order.
-pub fn meet_result(downtimes: &mut VecDeque<Downtime>, moment: Moment, problem: bool)
-    ensures met { IsPermutation (map (after_result moment problem) downtimes.old.items)
-        downtimes.new.items }
-    ensures ordered { IsInOrder downtimes.old.items → IsInOrder downtimes.new.items }
+/// Whether a problem at this moment triggers one of those that are live at it.
+pub fn waits(placed: &VecDeque<Placed>, moment: Moment) -> bool
+    ensures { result ≡ false → AreTold placed.now.items → All (λ d. is_triggered_by moment d ≡ false) (downtimes_of placed.now.items) }
 {
-    if !problem {
-        return;
-    }
-    meet_problem(downtimes.make_contiguous(), moment);
-}
-
-// The same of a problem.
-fn meet_problem(downtimes: &mut [Downtime], moment: Moment)
-    ensures met { IsPermutation (map (after_result moment true) downtimes.old) downtimes.new }
-    ensures ordered { IsInOrder downtimes.old → IsInOrder downtimes.new }
-{
-    if trigger_all(downtimes, moment) {
-        sort(downtimes);
+    match placed.front() {
+        Some(first) => started(&first.firsts.waiting, moment).is_some(),
+        None => false,
     }
 }
 
-// Lets each downtime meet a problem, and says whether that triggered one.
-fn trigger_all(downtimes: &mut [Downtime], moment: Moment) -> bool
-    ensures after { downtimes.new ≡ map (after_result moment true) downtimes.old }
-    ensures none { result ≡ false → downtimes.new ≡ downtimes.old }
+/// Lets each downtime meet a problem.
+pub fn meet_problem(placed: &mut VecDeque<Placed>, moment: Moment)
+    ensures met { IsPermutation (map (after_result moment true) (downtimes_of placed.old.items)) (downtimes_of placed.new.items) }
+    ensures ordered { IsInOrder (downtimes_of placed.new.items) }
+    ensures told { AreTold placed.new.items }
 {
-    let mut triggered = false;
-    for downtime in downtimes.iter_mut() {
-        if downtime.meet_problem(moment) {
-            triggered = true;
-        }
+    meet_problem_each(placed.make_contiguous(), moment);
+}
+
+// The same of a slice.
+fn meet_problem_each(placed: &mut [Placed], moment: Moment)
+    ensures met { IsPermutation (map (after_result moment true) (downtimes_of placed.old)) (downtimes_of placed.new) }
+    ensures ordered { IsInOrder (downtimes_of placed.new) }
+    ensures told { AreTold placed.new }
+{
+    trigger_all(placed, moment);
+    sort(placed);
+}
+
+// Lets a problem trigger those that wait for one.
+fn trigger_all(placed: &mut [Placed], moment: Moment)
+    ensures { downtimes_of placed.new ≡ map (after_result moment true) (downtimes_of placed.old) }
+{
+    for one in placed.iter_mut() {
+        one.downtime.meet_problem(moment);
     }
-    triggered
 }

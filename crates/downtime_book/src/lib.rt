@@ -19,15 +19,17 @@
 //!
 //! Downtimes that another downtime triggers, and recurring ones, are none of this crate's.
 //!
-//! In reading order: what a downtime is, how a list of them is kept, a sorted run, several runs,
-//! and the book.
+//! In reading order: what a downtime is, what comes first of several, how a list of them is kept, a
+//! sorted run, several runs, and the book.
 #![tactic(auto)]
 
 mod book;
 mod downtime;
+mod firsts;
 mod keeping;
 mod kind;
 mod no_downtime;
+mod placed;
 mod rank;
 mod runs;
 mod sorted_run;

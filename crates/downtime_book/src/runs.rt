@@ -2,27 +2,26 @@
 ghost use Rattle.std.specs.Prelude.{◌≡◌, ◌==◌, ◌<◌, ◌≤◌, ◌∷◌, not, filter, map, length};
 ghost use Rattle.std.specs.Prelude.{OnOk, OnErr, IsPermutation};
 ghost use Rattle.downtime_book.specs.Contents.{together};
-ghost use Rattle.downtime_book.specs.Naming.{named};
+ghost use Rattle.downtime_book.specs.Firsts.{first_of, starts};
+ghost use Rattle.downtime_book.specs.Naming.{number_of};
 ghost use Rattle.downtime_book.specs.Downtime.{after_result, is_live, until};
 
 use crate::downtime::Downtime;
 use crate::sorted_run::SortedRun;
 use site_base::{Moment, OutOfMemory};
 
-/// How many others may move where one is put into a run that is there.
-const MOST_MOVED: usize = 64;
+/// How many downtimes the last run holds before another is begun.
+const MOST_LAST: usize = 32;
 
-/// Puts a downtime into the last run, or begins another where too many others would move there.
-/// Nothing has triggered it yet.
+/// Puts a downtime into the last run, or begins another if that holds enough. Nothing has triggered it yet.
 pub fn put(runs: &mut Vec<SortedRun>, downtime: Downtime) -> Result<(), OutOfMemory>
     requires { until downtime ≡ downtime.«end» }
     ensures ok { OnOk result (IsPermutation (downtime ∷ together runs.old.items)
         (together runs.new.items)) }
     ensures err { OnErr result (together runs.new.items ≡ together runs.old.items) }
 {
-    let end = downtime.end;
     if let Some(last) = runs.len().checked_sub(1)
-        && runs[last].moved_by(end) <= MOST_MOVED
+        && runs[last].len() < MOST_LAST
     {
         return runs[last].put(downtime);
     }
@@ -107,8 +106,7 @@ pub fn meet_result(runs: &mut [SortedRun], moment: Moment, problem: bool)
 /// The number of the first downtime that is in effect at this moment, once a result came at it: by
 /// start, then by number.
 pub fn first_in_effect(runs: &[SortedRun], moment: Moment, problem: bool) -> Option<u64>
-    ensures { result ≡ named moment
-        (map (after_result moment problem) (filter (is_live moment) (together runs.now))) }
+    ensures { result ≡ number_of (first_of (starts moment problem) (filter (is_live moment) (together runs.now))) }
 {
     runs.iter()
         .filter_map(|run| run.first_in_effect(moment, problem))

@@ -1,37 +1,42 @@
 // Downtimes in order of when they end.
-ghost use Rattle.std.specs.Prelude.{◌≡◌, ◌==◌, ◌∷◌, ◌++◌, ◌≤◌, ◌*◌, [], not};
+ghost use Rattle.std.specs.Prelude.{◌≡◌, ◌==◌, ◌∷◌, ◌++◌, [], not};
 ghost use Rattle.std.specs.Prelude.{OnOk, OnErr, length, filter, map, IsPermutation};
 ghost use Rattle.std.specs.List.{list_any};
-ghost use Rattle.std.specs.VecDeque.Iter.{deque_iter_rest};
 ghost use Rattle.downtime_book.specs.Downtime.{after_result, is_live, until};
-ghost use Rattle.downtime_book.specs.Naming.{least};
+ghost use Rattle.downtime_book.specs.Firsts.{first_of, starts};
 
 use crate::downtime::Downtime;
-use crate::keeping::{drop_past, meet_result, remove, sort};
+use crate::firsts::Firsts;
+use crate::keeping::{drop_past, first_live, meet_problem, remove, sort, tell, waits};
+use crate::placed::Placed;
 use crate::rank::Rank;
 use site_base::{Moment, OutOfMemory};
 use std::alloc::Global;
 use std::collections::VecDeque;
-use std::collections::vec_deque::Iter;
 use std::marker::Model;
 use std::mem;
 
-/// Some of a book's downtimes, in order of when they end. Clauses see it as the list of them.
+/// Some of a book's downtimes, in order of when they end. Each knows what comes first of those that end no earlier, so that what
+/// is in effect is found without a walk. Clauses see it as the list of them.
 #[derive(Drop)]
 pub struct SortedRun {
-    downtimes: VecDeque<Downtime>,
+    placed: VecDeque<Placed>,
 }
 
 impl Model for SortedRun {
     ghost use Rattle.std.specs.Prelude.{List};
     ghost use Rattle.downtime_book.specs.declared.downtime.Downtime.{Downtime};
     ghost use Rattle.downtime_book.specs.Contents.{IsInOrder};
+    ghost use Rattle.downtime_book.specs.Firsts.{AreTold, downtimes_of};
 
     ghost Value = { List Downtime };
 
-    ghost view = { λ r. r.downtimes.items };
+    ghost view = { λ r. downtimes_of r.placed.items };
 
-    ghost invariant = { λ r. IsInOrder r.downtimes.items };
+    ghost invariant = { λ r. record {
+      ordered : IsInOrder (downtimes_of r.placed.items);
+      told : AreTold r.placed.items;
+    } };
 }
 
 impl SortedRun {
@@ -39,31 +44,20 @@ impl SortedRun {
         ensures { result ≡ [] }
     {
         SortedRun {
-            downtimes: VecDeque::new(alloc),
+            placed: VecDeque::new(alloc),
         }
     }
 
     pub fn len(&self) -> usize
         ensures { result ≡ length self.now }
     {
-        self.downtimes.len()
+        self.placed.len()
     }
 
     pub fn is_empty(&self) -> bool
         ensures { result ≡ (length self.now == 0) }
     {
-        self.downtimes.is_empty()
-    }
-
-    /// How many others move where one with this end goes in.
-    pub fn moved_by(&self, end: Moment) -> usize
-        ensures { 2 * result ≤ length self.now }
-    {
-        let until = u128::from(end.secs());
-        let place = self
-            .downtimes
-            .partition_point(|other| other.until() <= until);
-        place.min(self.downtimes.len() - place)
+        self.placed.is_empty()
     }
 
     /// Puts a downtime in at its place. Nothing has triggered it yet.
@@ -72,26 +66,19 @@ impl SortedRun {
         ensures ok { OnOk result (IsPermutation (downtime ∷ self.old) self.new) }
         ensures err { OnErr result (self.new ≡ self.old) }
     {
-        let Downtime {
-            number,
-            start,
-            end,
-            kind,
-        } = downtime;
-        let until = u128::from(end.secs());
+        let until = downtime.until();
         let place = self
-            .downtimes
-            .partition_point(|other| other.until() <= until);
-        let downtime = Downtime {
-            number,
-            start,
-            end,
-            kind,
+            .placed
+            .partition_point(|one| one.downtime.until() <= until);
+        let one = Placed {
+            downtime,
+            firsts: Firsts::none(),
         };
-        self.downtimes
-            .insert(place, downtime)
-            .ok()
-            .ok_or(OutOfMemory)
+        if self.placed.insert(place, one).is_err() {
+            return Err(OutOfMemory);
+        }
+        tell(self.placed.make_contiguous());
+        Ok(())
     }
 
     /// Takes all of them out.
@@ -99,7 +86,7 @@ impl SortedRun {
         ensures taken { result ≡ self.old }
         ensures left { self.new ≡ [] }
     {
-        let alloc = *self.downtimes.allocator();
+        let alloc = *self.placed.allocator();
         mem::replace(self, SortedRun::new(alloc))
     }
 
@@ -108,20 +95,10 @@ impl SortedRun {
     pub fn join(&mut self, mut other: SortedRun) -> SortedRun
         ensures { IsPermutation (self.old ++ other) (self.new ++ result) }
     {
-        if self.downtimes.append(&mut other.downtimes).is_ok() {
-            sort(self.downtimes.make_contiguous());
+        if self.placed.append(&mut other.placed).is_ok() {
+            sort(self.placed.make_contiguous());
         }
         other
-    }
-
-    /// Those that aren't past at this moment.
-    pub fn live_at(&self, moment: Moment) -> Iter<'_, Downtime>
-        ensures { deque_iter_rest result ≡ filter (is_live moment) self.now }
-    {
-        let past = self
-            .downtimes
-            .partition_point(|downtime| !downtime.is_live(moment));
-        self.downtimes.range(past..)
     }
 
     /// Whether one of this number is live at this moment.
@@ -129,19 +106,20 @@ impl SortedRun {
         ensures { result ≡
             list_any (λ d. d.number == number) (filter (is_live moment) self.now) }
     {
-        self.live_at(moment)
-            .any(|downtime| downtime.number == number)
+        let first = first_live(&self.placed, moment);
+        self.placed
+            .range(first..)
+            .any(|one| one.downtime.number == number)
     }
 
     /// What decides on the first that is in effect at this moment, once a result came at it.
     pub fn first_in_effect(&self, moment: Moment, problem: bool) -> Option<Rank>
-        ensures { result ≡ least moment
-            (map (after_result moment problem) (filter (is_live moment) self.now)) }
+        ensures { result ≡ first_of (starts moment problem) (filter (is_live moment) self.now) }
     {
-        self.live_at(moment)
-            .filter(|downtime| downtime.is_in_effect_after(moment, problem))
-            .map(|downtime| downtime.rank())
-            .min()
+        match self.placed.get(first_live(&self.placed, moment)) {
+            Some(first) => first.firsts.in_effect(moment, problem),
+            None => None,
+        }
     }
 
     /// Takes away what has this number, and what is past at this moment.
@@ -149,8 +127,8 @@ impl SortedRun {
         ensures { self.new
             ≡ filter (is_live moment) (filter (λ d. not (d.number == number)) self.old) }
     {
-        remove(&mut self.downtimes, number);
-        drop_past(&mut self.downtimes, moment);
+        remove(&mut self.placed, number);
+        drop_past(&mut self.placed, moment);
     }
 
     /// Lets each downtime meet the result, and takes away what is past then.
@@ -158,7 +136,10 @@ impl SortedRun {
         ensures { IsPermutation
             (filter (is_live moment) (map (after_result moment problem) self.old)) self.new }
     {
-        meet_result(&mut self.downtimes, moment, problem);
-        drop_past(&mut self.downtimes, moment);
+        drop_past(&mut self.placed, moment);
+        if problem && waits(&self.placed, moment) {
+            meet_problem(&mut self.placed, moment);
+            drop_past(&mut self.placed, moment);
+        }
     }
 }

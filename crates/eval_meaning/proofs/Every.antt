@@ -1,10 +1,11 @@
 -- What is true of every evaluation where it is true of each step.
-use Rattle.std.proofs.Common.{◌≡◌, ◌≤◌, ◌<◌, ◌+◌, ◌-◌, ℕ, zero, suc, List, [], ◌∷◌, ◌++◌, length, take, Bool, true, false, cond, Option, Some, None, refl, arith}
+use Rattle.std.proofs.Common.{◌≡◌, ◌≤◌, ◌<◌, ◌+◌, ◌-◌, ℕ, zero, suc, List, [], ◌∷◌, ◌++◌, length, take, drop, ◌||◌, Bool, true, false, cond, Option, Some, None, refl, arith}
 use Rattle.std.specs.Prelude.{nat_lt, nat_eq, slice_get, not}
 use Rattle.std.proofs.lemmas.Bool.Decides.{nat_tests}
+use Rattle.site_base.specs.Quoted.{quoted}
 use Rattle.site_base.specs.declared.place.Place.{Place}
 use Rattle.site_base.specs.declared.diag_kind.DiagKind.{DiagKind}
-use Rattle.site_base.specs.declared.diag_kind.DiagKind.TheVariants.{NotHere, StepLimit, SpaceLimit}
+use Rattle.site_base.specs.declared.diag_kind.DiagKind.TheVariants.{NotHere, StepLimit, SpaceLimit, UnknownType, BadTarget, NoAssign}
 use Rattle.dsl_syntax.specs.Syntax as syntax
 use Rattle.dsl_syntax.specs.Syntax.{Root, Expression, expression, ExpressionKind, Expressions, no_expressions, more_expressions, Entries, no_entries, more_entries, MaybeExpression, no_expression, some_expression, Loop, loop, MaybeLoop, Function, function, Uses, no_uses, more_uses, Steps, no_steps, member_step, index_step, Arms, no_arms, more_arms, Statement, statement, StatementKind, Statements, no_statements, more_statements}
 use Rattle.dsl_syntax.specs.declared.set_op.SetOp.{SetOp}
@@ -30,7 +31,8 @@ use Rattle.eval_meaning.specs.Registered.{PlainTemplate, PlainFile, PlacedName}
 use Rattle.eval_meaning.specs.Views.{View, Shown, host, service, template_in}
 use Rattle.eval_meaning.specs.States as states
 use Rattle.eval_meaning.specs.States.{State, Outcome, gives, faults, blocked, ◌>>=◌, done, fault, step, charge, with_new, globals_cell, Task, Loading}
-use Rattle.eval_meaning.specs.Steps.{IsStep, framed, counted, charged, made, function_kept, written_to, loaded_to}
+use Rattle.eval_meaning.specs.Steps.{IsStep, framed, counted, charged, made, function_kept, written_to, loaded_to, Registers}
+use Rattle.eval_meaning.specs.Steps as registers
 use Rattle.eval_meaning.specs.Parts.{Parts, place_of, maybe_with}
 use Rattle.eval_meaning.specs.Literals.{string_value, new_cell, new_array, new_dict, values_with, pairs_with}
 use Rattle.eval_meaning.specs.Members.{or_wrong, part_value}
@@ -45,7 +47,7 @@ use Rattle.eval_meaning.specs.Objects.{read, read_host, read_service}
 use Rattle.eval_meaning.specs.Visits.{visited, mapped, filtered, found, map_with, filter_with, any_with, all_with, visits_by, elements}
 use Rattle.eval_meaning.specs.Calls.{function_called, name_called, part_called, method_called, member_called, value_called, callee_with, own_value, library_with, called_with, call_with}
 use Rattle.eval_meaning.specs.Templates.{run_template, is_item, in_item, imported_by, import_with}
-use Rattle.eval_meaning.specs.Registration.{loading, with_loading, is_load, at_load, is_fixed, with_constant, constant_set, name_by, name_with, prefix_by, prefix_with, condition_in, unless_condition, lawful, item_registered, object_with, template_by, template_registered, template_with, lawful_rule, rule_registered, apply_rule_with, is_among, types, groups, is_good_name, resolved_target, target_types}
+use Rattle.eval_meaning.specs.Registration.{loading, with_loading, is_load, at_load, is_fixed, with_constant, constant_set, name_by, name_with, prefix_by, prefix_with, condition_in, unless_condition, lawful, item_registered, object_with, template_by, template_registered, template_with, lawful_rule, rule_registered, apply_rule_with, is_among, types, groups, is_good_name, resolved_target, target_types, told_target, has_assign, has_loop, with_template, with_item, with_rule}
 use Rattle.eval_meaning.specs.Files.{with_order, run_file, file_with, files_with, include_by}
 use Rattle.eval_meaning.specs.Evaluation.{expression_with, statement_kind_with, too_deep, flow_too_deep, flow_with, one_more, evaluated, body_of}
 use Rattle.eval_meaning.specs.declared.callee.Callee.{Callee}
@@ -295,13 +297,13 @@ module _ (view : View) (objects : List Shown) (absent : List Read) (whole : List
 
   -- ---- what a load registers
 
-  load_step : {A : Type 0} (a : A) (f : Loading → Loading) (s : State) → P s (gives a (with_loading f s)) (gives a (with_loading f s))
-  load_step a f s = gives_after a s _ (loaded_to f)
+  load_step : {A : Type 0} (a : A) (f : Loading → Loading) → ((m : Loading) → Registers m (f m)) → (s : State) → P s (gives a (with_loading f s)) (gives a (with_loading f s))
+  load_step a f own s = gives_after a s _ (loaded_to f own)
 
   every_constant_set : (l : Place) (n : List ℕ) (v : Value) (s : State) → P s (constant_set l n v s) (constant_set l n v s)
   every_constant_set l n v s =
       choice (is_fixed (find n (loading s).constants)) s _ _ _ _ (stops _ l _ _ s)
-      (binds s (put_member l (value.Ref globals_cell) (value.Str n) v s) (put_member l (value.Ref globals_cell) (value.Str n) v s) _ _ (every_put_member l (value.Ref globals_cell) (value.Str n) v s) (λ u s1. load_step On (with_constant n) s1))
+      (binds s (put_member l (value.Ref globals_cell) (value.Str n) v s) (put_member l (value.Ref globals_cell) (value.Str n) v s) _ _ (every_put_member l (value.Ref globals_cell) (value.Str n) v s) (λ u s1. load_step On (with_constant n) (λ m. registers.constant n) s1))
 
   every_name_by : (l : Place) (v : Value) (s : State) → P s (name_by l v s) (name_by l v s)
   every_name_by l (value.Str n) s = choice (is_good_name n) s _ _ _ _ (here n s) (stops _ l _ _ s)
@@ -319,16 +321,9 @@ module _ (view : View) (objects : List Shown) (absent : List Read) (whole : List
   unfolding lawful
   every_lawful l kind b s = choice (not (is_among kind types)) s _ _ _ _ (stops _ l _ _ s) (choice (is_among kind groups) s _ _ _ _ (here tt s) (every_unless (condition_in b) s))
 
-  every_lawful_rule : (l : Place) (kind : List ℕ) (to : Option (List ℕ)) (each : MaybeLoop) (b : Statements) (s : State) → P s (lawful_rule l kind to each b s) (lawful_rule l kind to each b s)
-  unfolding lawful_rule
-  every_lawful_rule l kind to each b s =
-      choice (not (is_among kind types)) s _ _ _ _ (stops _ l _ _ s)
-      (choice (not (is_among (resolved_target kind to) (target_types kind))) s _ _ _ _ (stops _ l _ _ s)
-      (choice _ s _ _ _ _ (here tt s) (stops _ l _ _ s)))
-
   every_template_by : (l : Place) (kind n : List ℕ) (ps : Pairs) (b : Statements) (o : Option PlainTemplate) (s : State) → P s (template_by view l kind n ps b o s) (template_by world l kind n ps b o s)
   every_template_by l kind n ps b (Some t) s = stops _ l _ _ s
-  every_template_by l kind n ps b None s = load_step On _ s
+  every_template_by l kind n ps b None s = load_step On (with_template l kind n ps b) (λ m. registers.template l kind n ps b) s
 
   every_at_load : (l : Place) (f g : Unit {0} → State → Outcome Flow) (s : State) → ((s1 : State) → P s1 (f tt s1) (g tt s1)) → P s (at_load l s >>= f) (at_load l s >>= g)
   every_at_load l f g s h = by (is_load s.task)
@@ -572,7 +567,12 @@ module _ (view : View) (objects : List Shown) (absent : List Read) (whole : List
     every_prefix (some_expression e) s = next e s _ _ (λ v s1. every_prefix_by (place_of e) v s1)
 
     every_item : (l : Place) (kind n : List ℕ) (ps : Pairs) (b : Statements) (s : State) → P s (item_registered view l kind n ps b s) (item_registered world l kind n ps b s)
-    every_item l kind n ps b s = binds s (lawful l kind b s) (lawful l kind b s) _ _ (every_lawful l kind b s) (λ u s1. load_step On _ s1)
+    unfolding lawful
+    every_item l kind n ps b s = by (is_among kind types) refl
+      where
+        by : (c : Bool) → is_among kind types ≡ c → P s (cond (not c) (faults l UnknownType (quoted kind) s.reads) (cond (is_among kind groups) (gives tt s) (unless_condition (condition_in b) s)) >>= λ _ s1. gives On (with_loading (with_item view l kind n ps b) s1)) (cond (not c) (faults l UnknownType (quoted kind) s.reads) (cond (is_among kind groups) (gives tt s) (unless_condition (condition_in b) s)) >>= λ _ s1. gives On (with_loading (with_item world l kind n ps b) s1))
+        by true e = binds s (cond (is_among kind groups) (gives tt s) (unless_condition (condition_in b) s)) (cond (is_among kind groups) (gives tt s) (unless_condition (condition_in b) s)) _ _ (choice (is_among kind groups) s _ _ _ _ (here tt s) (every_unless (condition_in b) s)) (λ u s1. load_step On (with_item view l kind n ps b) (λ m. registers.object view l kind n ps b e) s1)
+        by false e = stops _ l UnknownType (quoted kind) s
 
     every_object : (l : Place) (kind : List ℕ) (e : Expression) (us : Uses) (b : Statements) (s : State) → P s (object_with view ev l kind e us b s) (object_with world ew l kind e us b s)
     every_object l kind e us b s =
@@ -590,7 +590,14 @@ module _ (view : View) (objects : List Shown) (absent : List Read) (whole : List
         (λ ps s3. every_template_registered l kind n ps b s3)))
 
     every_rule_registered : (l : Place) (kind : List ℕ) (n : Option PlacedName) (to : Option (List ℕ)) (each : MaybeLoop) (ps : Pairs) (b : Statements) (s : State) → P s (rule_registered l kind n to each ps b s) (rule_registered l kind n to each ps b s)
-    every_rule_registered l kind n to each ps b s = binds s (lawful_rule l kind to each b s) (lawful_rule l kind to each b s) _ _ (every_lawful_rule l kind to each b s) (λ u s1. load_step On _ s1)
+    unfolding lawful_rule
+    every_rule_registered l kind n to each ps b s = by (is_among kind types) refl (is_among (resolved_target kind to) (target_types kind)) refl
+      where
+        by : (c : Bool) → is_among kind types ≡ c → (d : Bool) → is_among (resolved_target kind to) (target_types kind) ≡ d
+            → P s (cond (not c) (faults l UnknownType (quoted kind) s.reads) (cond (not d) (faults l BadTarget (quoted (told_target kind to)) s.reads) (cond (has_assign b || has_loop each) (done s) (fault l NoAssign s))) >>= λ _ s1. gives On (with_loading (with_rule l kind n to each ps b) s1)) (cond (not c) (faults l UnknownType (quoted kind) s.reads) (cond (not d) (faults l BadTarget (quoted (told_target kind to)) s.reads) (cond (has_assign b || has_loop each) (done s) (fault l NoAssign s))) >>= λ _ s1. gives On (with_loading (with_rule l kind n to each ps b) s1))
+        by true e true g = binds s (cond (has_assign b || has_loop each) (done s) (fault l NoAssign s)) (cond (has_assign b || has_loop each) (done s) (fault l NoAssign s)) _ _ (choice (has_assign b || has_loop each) s _ _ _ _ (here tt s) (stops _ l NoAssign [] s)) (λ u s1. load_step On (with_rule l kind n to each ps b) (λ m. registers.rule l kind n to each ps b e g) s1)
+        by true e false g = stops _ l BadTarget (quoted (told_target kind to)) s
+        by false e d g = stops _ l UnknownType (quoted kind) s
 
     every_rule : (l : Place) (kind : List ℕ) (e : MaybeExpression) (to : Option (List ℕ)) (each : MaybeLoop) (us : Uses) (b : Statements) (s : State) → P s (apply_rule_with ev l kind e to each us b s) (apply_rule_with ew l kind e to each us b s)
     every_rule l kind e to each us b s =
@@ -609,7 +616,7 @@ module _ (view : View) (objects : List Shown) (absent : List Read) (whole : List
     every_file (k ∷ []) s = here value.Null s
     every_file (k ∷ n ∷ order) s =
         let s0 : State = with_order (take n order) s in
-        steps s s0 _ _ (loaded_to _) (binds s0 (run_file ev (slice_get view.files k) s0) (run_file ew (slice_get view.files k) s0) _ _ (every_run_file (slice_get view.files k) s0) (λ v s1. load_step v _ s1))
+        steps s s0 _ _ (loaded_to (λ m. record m { order = take n order }) (λ m. registers.ordered (take n order))) (binds s0 (run_file ev (slice_get view.files k) s0) (run_file ew (slice_get view.files k) s0) _ _ (every_run_file (slice_get view.files k) s0) (λ v s1. load_step v (λ m. record m { order = drop n order }) (λ m. registers.ordered (drop n order)) s1))
 
     every_files : (n : ℕ) (s : State) → P s (files_with view ev n s) (files_with world ew n s)
     every_files zero s = here On s
@@ -617,7 +624,7 @@ module _ (view : View) (objects : List Shown) (absent : List Read) (whole : List
 
     every_include_by : (order : List ℕ) (s : State) → P s (include_by view ev order s) (include_by world ew order s)
     every_include_by [] s = here On s
-    every_include_by (n ∷ order) s = steps s (with_order order s) _ _ (loaded_to _) (every_files n (with_order order s))
+    every_include_by (n ∷ order) s = steps s (with_order order s) _ _ (loaded_to (λ m. record m { order = order }) (λ m. registers.ordered order)) (every_files n (with_order order s))
 
     -- ---- all of it
 
@@ -699,3 +706,7 @@ module _ (view : View) (objects : List Shown) (absent : List Read) (whole : List
 
   pub every_result : (depth : ℕ) (b : Statements) (s : State) → P s (body_of view depth b s) (body_of world depth b s)
   every_result depth b s = binds s (block_with (evaluated view depth) b s) (block_with (evaluated world depth) b s) ended ended (every_body depth b s) every_ended
+
+  -- the files of a load, by the order of its walk
+  pub every_load : (depth : ℕ) (order : List ℕ) (s : State) → P s (file_with view (evaluated view depth) order s) (file_with world (evaluated world depth) order s)
+  every_load depth order s = every_file (evaluated view depth) (evaluated world depth) (every depth) order s

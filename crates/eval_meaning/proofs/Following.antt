@@ -72,7 +72,7 @@ step_reads : (s t : State) → IsStep s t → t.reads ≡ s.reads
 step_reads s t (framed this locals in_file) = refl
 step_reads s t (counted some) = refl
 step_reads s t (charged n le) = refl
-step_reads s t (loaded_to f) = refl
+step_reads s t (loaded_to f own) = refl
 step_reads s t (made n c some le) = refl
 step_reads s t (function_kept f) = refl
 step_reads s t (written_to n k c le base kind) = refl

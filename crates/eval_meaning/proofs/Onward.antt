@@ -108,7 +108,7 @@ step_onward : (s t : State) → IsStep s t → IsOnward s t
 step_onward s t (framed this locals in_file) = same_store s _ refl refl refl (no_more s.reads) (omega arith) (omega arith)
 step_onward s t (counted some) = same_store s _ refl refl refl (no_more s.reads) (omega arith) (omega arith)
 step_onward s t (charged n le) = same_store s _ refl refl refl (no_more s.reads) (omega arith) (omega arith)
-step_onward s t (loaded_to f) = same_store s _ refl refl refl (no_more s.reads) (omega arith) (omega arith)
+step_onward s t (loaded_to f own) = same_store s _ refl refl refl (no_more s.reads) (omega arith) (omega arith)
 step_onward s t (made n c pos le) = added_cells s _ (c ∷ []) refl refl refl (no_more s.reads) refl (omega arith) (omega (arith, pos, le))
 step_onward s t (function_kept f) = record {
   steps = omega arith;

@@ -45,7 +45,7 @@ step_stays s t (charged n le) e = e
 step_stays s t (made n c paid le) e = e
 step_stays s t (function_kept f) e = e
 step_stays s t (written_to n k c le above kind) e = e
-step_stays s t (loaded_to f) e = ap (changed f) e
+step_stays s t (loaded_to f own) e = ap (changed f) e
 
 steps : {A : Type 0} (s t : State) (x : Outcome A) → IsStep s t → StaysRule t x → StaysRule s x
 steps s t (gives a u) m h = λ e. h (step_stays s t m e)

@@ -1,10 +1,11 @@
 -- The walk over what is live names what the whole look back names.
-use Rattle.std.proofs.Common.{◌∙◌, false, ◌≡◌, List, map, filter, ap, rules, sym, subst}
+use Rattle.std.proofs.Common.{◌∙◌, false, ◌≡◌, List, filter, ap, rules, sym, subst}
 use Rattle.downtime_book.specs.declared.downtime.Downtime.{Downtime}
 use Rattle.downtime_book.specs.Contents.{together}
-use Rattle.downtime_book.specs.Downtime.{is_live, after_result}
+use Rattle.downtime_book.specs.Downtime.{is_live}
 use Rattle.downtime_book.specs.Calls.{downtimes}
-use Rattle.downtime_book.specs.Naming.{named, Names}
+use Rattle.downtime_book.specs.Firsts.{first_of, starts}
+use Rattle.downtime_book.specs.Naming.{Names, number_of}
 use Rattle.downtime_book.proofs.NamingLemmas.{Names-named}
 use Rattle.downtime_book.proofs.Steps.{named-kept}
 use Rattle.downtime_book.proofs.book.Book.in_effect.Goals as goal
@@ -12,8 +13,8 @@ use Rattle.downtime_book.proofs.book.Book.in_effect.Goals as goal
 pub returns-clause-value : goal.returns-clause-value
 returns-clause-value c = λ calls s.
     let was : together c.deref.result.now ≡ c.args.self.now.downtimes = search (rules, c.self.view_is) in
-    let given : c.first_in_effect.result ≡ named c.args.moment (map (after_result c.args.moment false) (filter (is_live c.args.moment) (together c.deref.result.now))) = search (rules, c.first_in_effect.ensures) in
-    given ∙ ap (λ (l : List Downtime). named c.args.moment (map (after_result c.args.moment false) (filter (is_live c.args.moment) l))) was ∙ named-kept c.args.self.now calls c.args.moment s c.requires
+    let given : c.first_in_effect.result ≡ number_of (first_of (starts c.args.moment false) (filter (is_live c.args.moment) (together c.deref.result.now))) = search (rules, c.first_in_effect.ensures) in
+    given ∙ ap (λ (l : List Downtime). number_of (first_of (starts c.args.moment false) (filter (is_live c.args.moment) l))) was ∙ named-kept c.args.self.now calls c.args.moment s c.requires
 
 pub returns-clause-first : goal.returns-clause-first
 returns-clause-first c = λ calls s.
