@@ -112,7 +112,7 @@ pub(crate) fn named_instance<'a>(
     }
 }
 
-/// The rule's name, where it has one, and then the key.
+/// The rule's name, if it has one, and then the key.
 fn instance_name(alloc: Global, rule: &Rule, key: &Text) -> Result<Text, OutOfMemory>
     ensures { IfOk result (λ n. n ≡ prefix (plain_rule rule.now).name ++ key.now) }
 {

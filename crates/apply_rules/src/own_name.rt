@@ -15,7 +15,7 @@ pub(crate) fn own_text(alloc: Global, full: &Text) -> Result<Text, OutOfMemory>
     }
 }
 
-/// What stands behind the last `!` of a full name, all of it where there is none. A name in a statement holds no `!`, so this is
+/// What stands behind the last `!` of a full name, all of it if there is none. A name in a statement holds no `!`, so this is
 /// the name in the object's statement.
 fn own_name(full: &str) -> &str
     ensures { result.now ≡ behind_last [] full.now }

@@ -9,7 +9,7 @@ pub fn is_row(line: &str) -> bool {
     !line.is_empty() && !line.starts_with('#')
 }
 
-/// The word that a row begins with, and its text behind the blanks; none where the line isn't a row.
+/// The word that a row begins with, and its text behind the blanks; none if the line isn't a row.
 pub fn row_of(line: &str) -> Option<(&str, &str)> {
     if !is_row(line) {
         return None;

@@ -24,7 +24,7 @@ struct Reading {
 }
 
 /// The tree that a row writes as the configuration language writes values: `null`, `true`, `-1.5`, `"text"`,
-/// `[1, 2]`, `{ a = 1, "b c" = 2 }`. A dictionary's keys keep the order in which they stand. `None` where the
+/// `[1, 2]`, `{ a = 1, "b c" = 2 }`. A dictionary's keys keep the order in which they stand. `None` if the
 /// text isn't written so.
 pub fn tree_of(alloc: Global, text: &str) -> Result<Option<Tree>, OutOfMemory> {
     if text.len() >= 1_000_000 {

@@ -20,7 +20,7 @@ use time_range::{Zone, inside};
 ///
 /// # Errors
 ///
-/// `OutOfMemory` where there is none to look through its ancestors.
+/// `OutOfMemory` if there is none to look through its ancestors.
 pub(crate) fn gets_order(
     setting: &Setting<'_>,
     books: &[Checkable],
@@ -46,7 +46,7 @@ pub(crate) fn gets_order(
 ///
 /// # Errors
 ///
-/// `OutOfMemory` where there is none to look through its ancestors.
+/// `OutOfMemory` if there is none to look through its ancestors.
 fn is_held(setting: &Setting<'_>, books: &[Checkable], checkable: u32) -> Result<bool, OutOfMemory>
     requires graph { IsGraphOf (site_view setting.now.site.now) setting.now.graph.now }
     requires books { AreBooks (site_view setting.now.site.now) setting.now.moment books.now }

@@ -43,7 +43,7 @@ impl CheckPlan {
     ///
     /// # Errors
     ///
-    /// `OutOfMemory` where there is none for the watches.
+    /// `OutOfMemory` if there is none for the watches.
     pub fn new(alloc: Global, count: u32) -> Result<CheckPlan, OutOfMemory>
         requires { count < 2 ^ 32 - 1 }
         ensures { IfOk result (λ p. p ≡ first_plan count) }
@@ -73,7 +73,7 @@ impl CheckPlan {
     ///
     /// # Errors
     ///
-    /// `OutOfMemory` where there is none for an order, or to look for what holds a checkable back. Any number of the orders was
+    /// `OutOfMemory` if there is none for an order, or to look for what holds a checkable back. Any number of the orders was
     /// given then.
     pub fn after_round(
         &mut self,

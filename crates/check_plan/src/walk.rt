@@ -33,7 +33,7 @@ pub(crate) struct Walk {
 ///
 /// # Errors
 ///
-/// `OutOfMemory` where there is none for an order, or to look for what holds a checkable back. Any number of the orders was
+/// `OutOfMemory` if there is none for an order, or to look for what holds a checkable back. Any number of the orders was
 /// given then.
 pub(crate) fn order_due(
     watches: &mut Watches,
@@ -67,7 +67,7 @@ pub(crate) fn order_due(
     Ok(walk.orders)
 }
 
-/// The one that the walk takes next; `None` where none is due, or as many orders are outstanding as may be.
+/// The one that the walk takes next; `None` if none is due, or as many orders are outstanding as may be.
 fn next_due(watches: &Watches, setting: &Setting<'_>, outstanding: usize) -> Option<u32>
     ensures none { IfNone result ((command : ℕ → Command) (o : Outlook) (w : MeantWalk) → o.site ≡ site_view setting.now.site.now → o.moment ≡ setting.now.moment → w.outstanding ≡ outstanding →
         walk_over command o (due_from setting.now.moment 0 watches.now) w ≡ w) }

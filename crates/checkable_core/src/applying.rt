@@ -96,7 +96,7 @@ impl Checkable {
     ///
     /// # Errors
     ///
-    /// `OutOfMemory` where there is none for its downtime; the checkable is then as before.
+    /// `OutOfMemory` if there is none for its downtime; the checkable is then as before.
     fn keep(&mut self, status: Status, entry: &Entry) -> Result<(), OutOfMemory>
         requires moment { last_moment self.old.entries ≤ entry.now.moment }
         requires shown { StandsFor status (check_at (site_view self.old.site) self.old.index) (self.old.entries ++ entry.now ∷ []) }

@@ -50,7 +50,7 @@ impl Checkable {
     ///
     /// # Errors
     ///
-    /// `OutOfMemory` where there is none for what is kept of its notifications.
+    /// `OutOfMemory` if there is none for what is kept of its notifications.
     pub fn new(
         alloc: Global,
         site: &Site,

@@ -22,11 +22,11 @@ use std::alloc::Global;
 use time_range::Zone;
 
 /// What is decided on the notifications of a checkable at the entry of this event, of which this is the draft. What holds
-/// them back is looked for only where there is something to decide.
+/// them back is looked for only if there is something to decide.
 ///
 /// # Errors
 ///
-/// `OutOfMemory` where there is none for the decisions, or to look through the ancestors.
+/// `OutOfMemory` if there is none for the decisions, or to look through the ancestors.
 pub(crate) fn decisions(
     alloc: Global,
     site: &Site,

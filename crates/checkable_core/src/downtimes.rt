@@ -16,7 +16,7 @@ use site_model::Event;
 ///
 /// # Errors
 ///
-/// `OutOfMemory` where there is none for a new downtime; the book is then as before.
+/// `OutOfMemory` if there is none for a new downtime; the book is then as before.
 pub(crate) fn enter(
     book: &mut Book,
     number: u64,

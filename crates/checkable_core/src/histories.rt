@@ -24,7 +24,7 @@ pub fn is_history(site: &Site, entries: &[Entry]) -> bool
     true
 }
 
-/// Whether an entry of the site may come behind so many, of which the last has this moment.
+/// Whether an entry of the site may come after so many, of which the last has this moment.
 fn is_next(site: &Site, entry: &Entry, index: usize, last: Moment) -> bool
     requires { index < 2 ^ 64 - 1 }
     ensures { result ≡ ((entry.now.number == index + 1) && (nat_le last entry.now.moment && is_entry_of (site_view site.now) entry.now)) }
@@ -63,7 +63,7 @@ fn is_lawful(event: &Event) -> bool
     }
 }
 
-/// Whether a downtime has a duration exactly where it isn't fixed.
+/// Whether a downtime has a duration exactly if it isn't fixed.
 fn is_duration(fixed: bool, duration: u64) -> bool
     ensures { result ≡ is_duration fixed duration }
 {

@@ -19,7 +19,7 @@ impl Checkable {
     ///
     /// # Errors
     ///
-    /// `BadHistory` where a checkable of the site can't have these entries, before any memory is asked for. `OutOfMemory` where
+    /// `BadHistory` if a checkable of the site can't have these entries, before any memory is asked for. `OutOfMemory` if
     /// there is none for what is kept of its notifications and downtimes.
     pub fn restored(
         alloc: Global,

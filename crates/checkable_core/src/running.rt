@@ -33,7 +33,7 @@ impl Running {
     ///
     /// # Errors
     ///
-    /// `OutOfMemory` where there is none for the users of its notifications.
+    /// `OutOfMemory` if there is none for the users of its notifications.
     pub(crate) fn new(
         alloc: Global,
         site: &Site,
@@ -58,7 +58,7 @@ impl Running {
     ///
     /// # Errors
     ///
-    /// `OutOfMemory` where there is none for a new downtime; all is then as before.
+    /// `OutOfMemory` if there is none for a new downtime; all is then as before.
     pub(crate) fn keep(&mut self, status: Status, entry: &Entry) -> Result<(), OutOfMemory>
         requires { self.old.book.latest ≤ entry.now.moment }
         ensures ok { OnOk result ((s : PlainSite) (k : ℕ) (check : PlainCheck) (h : List Entry) → Keeps self.old s k check h → last_moment h ≤ entry.now.moment → StandsFor status check (h ++ entry.now ∷ []) →
@@ -102,7 +102,7 @@ impl Running {
     ///
     /// # Errors
     ///
-    /// `OutOfMemory` where there is none for the users of its notifications or for downtimes.
+    /// `OutOfMemory` if there is none for the users of its notifications or for downtimes.
     pub(crate) fn after(
         alloc: Global,
         site: &Site,

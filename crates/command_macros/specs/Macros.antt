@@ -10,7 +10,7 @@ use Rattle.command_macros.specs.Values.{value_made}
 abbrev pub deepest : ℕ
 deepest = 15
 
--- of a text, where this is what is made of macros
+-- of a text, if this is what is made of macros
 abbrev pub text_with : (List ℕ → Made) → List ℕ → Made
 text_with look text = filled look (pieces text)
 

@@ -16,7 +16,7 @@ abbrev pub followed : Made → Made → Made
 followed (made text) next = behind text next
 followed (missing name) next = missing name
 
--- a piece, where this is what is made of macros
+-- a piece, if this is what is made of macros
 abbrev pub piece_made : (List ℕ → Made) → Piece → Made
 piece_made look (plain text) = made text
 piece_made look (macro name) = look name

@@ -31,7 +31,7 @@ use std::alloc::Global;
 ///   its attributes, and last in the global `Vars`. `$service.a.b$`, `$host.a.b$` and `$command.a.b$` follow a
 ///   path from the attributes on. `$$` is a dollar sign, and a `$` without a second one stands for itself.
 /// - The texts in the value of a macro are resolved in the same way, down to depth 15. An array is joined by `;`.
-/// - A macro is missing below that depth, where nothing has its name, and where its value is null or a dictionary.
+/// - A macro is missing below that depth if nothing has its name, or if its value is null or a dictionary.
 /// - A `command` that is a text is told to `/bin/sh -c`, and its `arguments` aren't looked at. Else the words of `command` come
 ///   first, and then those of each argument, by `order` and then by the bytes of their keys.
 /// - An argument gives its key, or what `key` sets, and its value: the key before each element of an array, or once
@@ -39,7 +39,7 @@ use std::alloc::Global;
 ///   gives the key alone. A `set_if` that doesn't become true or a number other than 0 drops the argument. So does a
 ///   missing macro in its value, unless `required` is true.
 ///
-/// `MissingMacro` with the first macro that is missing and drops no argument, and `OutOfMemory` where there is no memory
+/// `MissingMacro` with the first macro that is missing and drops no argument, and `OutOfMemory` if there is no memory
 /// for the words.
 pub fn resolve(alloc: Global, site: &Site, checkable: u32) -> Result<Texts, MacroError>
     ensures { Gives result (resolved (site_view site.now) checkable) }

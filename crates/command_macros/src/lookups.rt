@@ -9,7 +9,7 @@ use crate::cutting::cut;
 use crate::scope::{Scope, Source};
 use site_base::{Text, Tree};
 
-/// The value of a macro of this name; `None` where nothing has it.
+/// The value of a macro of this name; `None` if nothing has it.
 pub(crate) fn value_of<'a>(scope: &Scope<'a>, name: &str) -> Option<&'a Tree>
     ensures { tree_found result ≡ value_of_macro (scope_view scope.now) name.now }
 {

@@ -198,7 +198,7 @@ pub(crate) fn boolean_text(value: bool) -> &'static str
     if value { "true" } else { "false" }
 }
 
-/// The first of some items and the rest; `None` where there is none.
+/// The first of some items and the rest; `None` if there is none.
 fn next_of(items: &[Tree]) -> Option<(&Tree, &[Tree])>
     ensures { MatchOption result (items.now ≡ []) (λ x. items.now ≡ x.0.now ∷ x.1.now) }
 {

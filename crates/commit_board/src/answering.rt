@@ -25,7 +25,7 @@ const STACK: usize = 8 << 20;
 ///
 /// # Errors
 ///
-/// `OutOfMemory` where there is none for the board, or for an answer.
+/// `OutOfMemory` if there is none for the board, or for an answer.
 pub fn answer_all<T: Send + Drop, A: Send + Drop, E: Evaluate<T, A>, R: Threads + Wait + Sync>(
     rt: &R,
     alloc: Global,

@@ -76,7 +76,7 @@ impl<T: Drop, A: Drop, L: Course<T, A>> Board<T, A, L> {
     ///
     /// # Errors
     ///
-    /// `OutOfMemory` where there is none for the tasks. The board is as before.
+    /// `OutOfMemory` if there is none for the tasks. The board is as before.
     pub fn start(&mut self, alloc: Global, wave: u32, tasks: Vec<T>) -> Result<bool, OutOfMemory>
         requires size { length tasks.items ≡ L.size wave }
         requires asked { (k : ℕ) (t : T) → slice_get tasks.items k ≡ Some t → L.asks wave k t }
@@ -152,7 +152,7 @@ impl<T: Drop, A: Drop, L: Course<T, A>> Board<T, A, L> {
         self.left -= 1;
     }
 
-    /// Opens a task at its place again, where it is claimed.
+    /// Opens a task at its place again, if it is claimed.
     fn put_task(&mut self, place: usize, task: T)
         requires claimed { slice_get self.old.slots place ≡ Some Claimed }
         requires asked { L.asks self.old.wave place task }
@@ -167,7 +167,7 @@ impl<T: Drop, A: Drop, L: Course<T, A>> Board<T, A, L> {
     ///
     /// # Errors
     ///
-    /// `OutOfMemory` where there is none for the list. The board is as before.
+    /// `OutOfMemory` if there is none for the list. The board is as before.
     pub fn answers(&mut self, alloc: Global) -> Result<Option<Answers<A>>, OutOfMemory>
         ensures taken { IfOk result (λ r. IfSome r (λ x. (self.old.slots ≡ map Answered x.list.items) × (x.wave ≡ self.old.wave) × (self.new ≡ closed self.old))) }
         ensures right { IfOk result (λ r. IfSome r (λ x. AreAnswers (L.size x.wave) (L.gives x.wave) x.list.items)) }

@@ -27,7 +27,7 @@ pub fn hosts_of_services()
     ensures undecided { group_members unknown (all ∷ []) (service_named 3 (codes "a") (codes "s")) ≡ blocked (host (codes "a")) }
 {}
 
-/// Names are added at the end of `groups`, where they aren't there yet.
+/// Names are added at the end of `groups`, if they aren't there yet.
 pub fn added_names()
     ensures first { tree_grown (codes "all" ∷ codes "all" ∷ []) (attributes (codes "a") tree.no_pairs) ≡ tree.dict (in_groups (codes "all" ∷ [])) }
     ensures more { tree_grown (codes "x" ∷ codes "y" ∷ []) (tree.dict (in_groups (codes "y" ∷ codes "z" ∷ []))) ≡ tree.dict (in_groups (codes "y" ∷ codes "z" ∷ codes "x" ∷ [])) }

@@ -127,7 +127,7 @@ abbrev pub with_last : List ℕ → Items → Items
 with_last n no_items = tree.item (tree.string n) no_items
 with_last n (tree.item d ds) = tree.item d (with_last n ds)
 
--- a name is added at the end of `groups`, where it isn't there yet
+-- a name is added at the end of `groups`, if it isn't there yet
 abbrev pub with_group : List ℕ → Pairs → Pairs
 with_group n ps =
     if has_string n (items_under (attribute_name attribute.Groups) ps) then ps

@@ -24,7 +24,7 @@ owners object.ScheduledDowntime = attribute.HostName ∷ attribute.ServiceName �
 owners object.Dependency = attribute.ChildHostName ∷ attribute.ChildServiceName ∷ []
 owners t = []
 
--- the string of an attribute; empty where it isn't set
+-- the string of an attribute; empty if it isn't set
 abbrev pub text_of : Data → Attribute → List ℕ
 text_of (tree.dict ps) a = text_under (attribute_name a) ps
 text_of d a = []

@@ -75,7 +75,7 @@ text_of (number n) = []
 text_of (list items) = []
 text_of (dict pairs) = []
 
--- the string under a key; empty where there is none
+-- the string under a key; empty if there is none
 abbrev pub text_under : List ℕ → Pairs → List ℕ
 text_under key no_pairs = []
 text_under key (pair k d more) = if bytes_eq k key then text_of d else text_under key more

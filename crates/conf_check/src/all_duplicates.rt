@@ -83,7 +83,7 @@ fn push_object(
     }
 }
 
-/// Adds the fault of an object where there is an earlier one, which stands at this place.
+/// Adds the fault of an object if there is an earlier one, which stands at this place.
 fn push_found(
     alloc: Global,
     out: &mut Diags,

@@ -30,7 +30,7 @@ impl Firsts {
         })
     }
 
-    /// The place of the first object of this type and full name. Where there was none it is the one at this place, and the
+    /// The place of the first object of this type and full name. If there was none it is the one at this place, and the
     /// answer is `None`.
     pub(crate) fn first(
         &mut self,

@@ -52,7 +52,7 @@ pub(crate) fn push_pairs(
     Ok(())
 }
 
-/// The string of the attribute of this name; empty where there is none.
+/// The string of the attribute of this name; empty if there is none.
 fn text_under<'a>(name: &str, pairs: &'a [(Text, Tree)]) -> &'a str
     ensures { result.now ≡ text_under name.now (pairs_view pairs.now) }
 {

@@ -34,7 +34,7 @@ impl Known {
         }
     }
 
-    /// What is known of a name; `None` where nothing is.
+    /// What is known of a name; `None` if nothing is.
     pub(crate) fn of(&self, name: &str) -> Option<&Texts>
         ensures { (what : List ℕ → List (List ℕ)) → AreKnown what self.now → IfSome result (λ names. names.now ≡ what name.now) }
     {

@@ -6,7 +6,7 @@ ghost use Rattle.conf_sources.specs.Names.{folder_len as folder_len_of, folder_o
 use site_base::{OutOfMemory, Text};
 use std::alloc::Global;
 
-/// The folder of a name with its `/`, nothing where it has none, and the part behind it.
+/// The folder of a name with its `/`, nothing if it has none, and the part behind it.
 pub(crate) fn split_name(name: &str) -> (&str, &str)
     ensures folder { result.0.now ≡ folder_in name.now }
     ensures last { result.1.now ≡ part_in name.now }

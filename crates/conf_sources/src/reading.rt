@@ -60,7 +60,7 @@ pub fn in_file(file: u32, place: Place) -> Place
     }
 }
 
-/// The bytes of a file, or the text of a part of the library; `None` where there is none.
+/// The bytes of a file, or the text of a part of the library; `None` if there is none.
 pub fn content<F: Files>(
     alloc: Global,
     files: &mut F,

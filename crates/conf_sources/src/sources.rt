@@ -38,7 +38,7 @@ impl Sources {
         }
     }
 
-    /// The place of a file; `None` where it isn't there.
+    /// The place of a file; `None` if it isn't there.
     pub fn find(&self, source: &Source) -> Result<Option<usize>, OutOfMemory>
         ensures { IfOk result (λ k. k ≡ source_at source.now self.now) }
     {

@@ -42,7 +42,7 @@ flagged [] flags n = false
 flagged (m ∷ ms) [] n = false
 flagged (m ∷ ms) (f ∷ fs) n = if nat_eq m n then f else flagged ms fs n
 
--- what holds one back, where these are blocked
+-- what holds one back, if these are blocked
 abbrev pub step_of : Meant.Outlook → (ℕ → Bool) → ℕ → Meant.Reach
 step_of o blocked c =
     depend_or (first_back o blocked c 0 o.site.depends) (host_back o blocked o.purpose (host_in (slice_get o.site.checkables c)))

@@ -40,7 +40,7 @@ impl Lists {
         self.rows.len()
     }
 
-    /// How long one of the lists is; 0 where there is none.
+    /// How long one of the lists is; 0 if there is none.
     #[tactic(auto, using(crate::proofs::Rows::row_at, crate::proofs::Rows::row_beyond))]
     pub(crate) fn len_of(&self, index: usize) -> usize
         ensures { result ≡ length (of_index index self.now) }

@@ -16,7 +16,7 @@ use site_model::{DependSpec, Site};
 use std::alloc::Global;
 
 /// The dependencies of a site whose child is reached from its parent, by steps from child to parent, where a service's host is
-/// a parent too; ascending (Icinga 2 documentation, Monitoring Basics, "Dependencies"). Where there is no cycle, it takes a time
+/// a parent too; ascending (Icinga 2 documentation, Monitoring Basics, "Dependencies"). If there is no cycle, it takes a time
 /// that grows with the checkables and their parents. Else the ancestors of the parent of each dependency whose child is on a
 /// cycle or below one are looked at and dropped.
 pub fn depends_on_cycles(alloc: Global, site: &Site) -> Result<Row<u32>, OutOfMemory>

@@ -118,7 +118,7 @@ impl<'a> Outlook<'a> {
         is_for && self.holds(depend.period)
     }
 
-    /// Whether a period holds at the moment; it does where there is none.
+    /// Whether a period holds at the moment; it does if there is none.
     fn holds(&self, period: Option<u32>) -> bool
         ensures { result ≡ period_holds (meant_by self.now).holds period self.now.moment }
     {

@@ -20,7 +20,7 @@ impl Graph {
     ///
     /// # Errors
     ///
-    /// `OutOfMemory` where there is none for the number and the place of each ancestor and a flag for it.
+    /// `OutOfMemory` if there is none for the number and the place of each ancestor and a flag for it.
     pub fn reach(
         &self,
         site: &Site,

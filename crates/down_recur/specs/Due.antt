@@ -38,7 +38,7 @@ IsQuiet zone spans from moment next = AllByRecursion (IsQuietOf zone from moment
 abbrev pub horizon_of : ℕ → ℕ
 horizon_of moment = (moment / 86_400 + 5) * 86_400 - 93_599
 
--- the least start after a second, where it is below another
+-- the least start after a second, if it is below another
 abbrev pub lesser_start : ℕ → ℕ → Segment → ℕ
 lesser_start after most s = if nat_lt after s.start && nat_lt s.start most then s.start else most
 

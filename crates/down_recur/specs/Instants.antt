@@ -51,7 +51,7 @@ abbrev pub offsets_at : Option Tzif → ℤ → AmbiguousOffset
 offsets_at None second = Unambiguous utc_offset
 offsets_at (Some z) second = offsets_in_table z (civil_count_at z second) second
 
--- the moment so many seconds after 1970, where it is one
+-- the moment so many seconds after 1970, if it is one
 abbrev pub moment_of : ℤ → Option ℕ
 moment_of (pos n) = if nat_le n 99_999_999_999 then Some n else None
 moment_of (negsuc n) = None

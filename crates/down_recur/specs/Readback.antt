@@ -16,7 +16,7 @@ use Rattle.down_recur.specs.declared.booking.Booking.{Booking}
 use Rattle.down_recur.specs.declared.recurring.Recurring.{Recurring}
 use Rattle.down_recur.specs.declared.segment.Segment.{Segment}
 
--- a downtime that starts before it ends, and whose duration counts only where it is flexible
+-- a downtime that starts before it ends, and whose duration counts only if it is flexible
 pub record IsBooking (b : Booking) : Type 0 where
   pub starts : b.start < b.«end»
   pub ends : b.«end» ≤ 99_999_999_999

@@ -12,7 +12,7 @@ use Rattle.object_values.specs.Attributes.{value_under}
 use Rattle.object_values.specs.Values.{seconds_at, spans_at, string_of, text_at}
 use Rattle.down_recur.specs.declared.recurring.Recurring.{Recurring}
 
--- the value under a key, where there is a dictionary
+-- the value under a key, if there is a dictionary
 abbrev pub value_in : List ℕ → Data → Option Data
 value_in key null = None
 value_in key (boolean b) = None
@@ -66,12 +66,12 @@ made tree trigger = record {
   done = 0;
 }
 
--- nothing where no checkable has the name of the trigger
+-- nothing if no checkable has the name of the trigger
 abbrev pub made_by : List (List ℕ) → Data → Option (List ℕ) → Option Recurring
 made_by names tree None = Some (made tree None)
 made_by names tree (Some name) = option_map (λ k. made tree (Some k)) (place_of name names)
 
--- nothing where a line can't name its host or service
+-- nothing if a line can't name its host or service
 abbrev pub made_of : List (List ℕ) → Data → Option Recurring
 made_of names tree =
     if is_nameable (text_at object.ScheduledDowntime attribute.HostName tree) && is_nameable (text_at object.ScheduledDowntime attribute.ServiceName tree)

@@ -4,7 +4,7 @@ ghost use Rattle.down_recur.specs.Laws.{AreGivenInOrder, AreNew, IsGivenOnce};
 ghost use Rattle.down_recur.specs.Readback.{AreBookings, LinesTell};
 
 /// Over turns whose moments don't fall each segment of an object is given at the first turn at which it may be and at no other: where it begins
-/// within a day and isn't over, or, if it is triggered, where it has begun and isn't over and the trigger has a downtime in effect. Those of one turn
+/// within a day and isn't over, or, if it is triggered, has begun and isn't over and the trigger has a downtime in effect. Those of one turn
 /// go by their starts.
 pub fn segments_are_given_once()
     ensures once { IsGivenOnce }

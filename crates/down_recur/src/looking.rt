@@ -29,7 +29,7 @@ pub(crate) struct Found {
 ///
 /// # Errors
 ///
-/// `OutOfMemory` where there is none for the segments.
+/// `OutOfMemory` if there is none for the segments.
 pub(crate) fn look(
     alloc: Global,
     zone: &Zone,

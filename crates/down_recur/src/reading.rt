@@ -159,7 +159,7 @@ fn is_false(value: Option<&Tree>) -> bool
     }
 }
 
-/// The name of the checkable by whose downtimes an object's are triggered; `None` where `vars.triggered_by` is no string.
+/// The name of the checkable by whose downtimes an object's are triggered; `None` if `vars.triggered_by` is no string.
 fn trigger_name(tree: &Tree) -> Option<&str>
     ensures { option_copied result ≡ trigger_in (view tree.now) }
 {

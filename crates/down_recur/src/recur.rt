@@ -52,11 +52,11 @@ impl<'a> Recur<'a> {
 
     /// What recurs on a site in its zone, before the first turn.
     ///
-    /// An object gives nothing where its host's or service's name has a `;` in it, or where no checkable has the name `vars.triggered_by`.
+    /// An object gives nothing if its host's or service's name has a `;` in it, or where no checkable has the name `vars.triggered_by`.
     ///
     /// # Errors
     ///
-    /// `OutOfMemory` where there is none for what recurs.
+    /// `OutOfMemory` if there is none for what recurs.
     pub fn new(alloc: Global, site: &Site, zone: &'a Zone) -> Result<Recur<'a>, OutOfMemory>
         ensures { IfOk result (λ r. r ≡ begun site.now zone.now) }
     {
@@ -80,7 +80,7 @@ impl<'a> Recur<'a> {
     ///
     /// # Errors
     ///
-    /// `OutOfMemory` where there is none for the lines. Nothing is said of what was given then.
+    /// `OutOfMemory` if there is none for the lines. Nothing is said of what was given then.
     pub fn lines(&mut self, books: &[Checkable], moment: Moment) -> Result<Vec<Blob>, OutOfMemory>
         requires { AreBooks (site_view self.old.site) moment books.now }
         ensures lines { IfOk result (λ lines. lines.items ≡ gives self.old (histories_of books.now) moment) }

@@ -12,9 +12,9 @@ pub struct Recurring {
     pub spans: Ranges,
     /// Whether `fixed` is false.
     pub flexible: bool,
-    /// Seconds that a flexible or triggered downtime lasts, at most those of the greatest moment; 0 where the object has none.
+    /// Seconds that a flexible or triggered downtime lasts, at most those of the greatest moment; 0 if the object has none.
     pub duration: u64,
-    /// The checkable by whose downtimes it is triggered, by index; `None` where `vars.triggered_by` is no string.
+    /// The checkable by whose downtimes it is triggered, by index; `None` if `vars.triggered_by` is no string.
     pub trigger: Option<u32>,
     /// Segments that begin before this second were given, or ended before others were.
     pub done: u64,

@@ -12,7 +12,7 @@ rank_of d = record { start = d.start; number = d.number }
 abbrev pub goes_first : Rank → Rank → Bool
 goes_first a b = nat_lt a.start b.start || ((a.start == b.start) && nat_le a.number b.number)
 
--- the lesser of the two, where there is another
+-- the lesser of the two, if there is another
 abbrev pub lesser : Rank → Option Rank → Rank
 lesser a None = a
 lesser a (Some b) = if goes_first a b then a else b

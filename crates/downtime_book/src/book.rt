@@ -89,7 +89,7 @@ impl Book {
     ///
     /// # Errors
     ///
-    /// `OutOfMemory` where there is none for one more downtime; the book is then as before.
+    /// `OutOfMemory` if there is none for one more downtime; the book is then as before.
     pub fn add(
         &mut self,
         number: u64,

@@ -20,7 +20,7 @@ pub struct Firsts {
 }
 
 impl Firsts {
-    /// Where there are none.
+    /// The firsts of no downtimes.
     pub fn none() -> Firsts
         ensures { result ≡ firsts_of [] }
     {

@@ -44,7 +44,7 @@ fn join_older(runs: &mut Vec<SortedRun>)
     drop_empty(runs);
 }
 
-/// Joins the run at this place with the one before it, and leaves it empty. Where there is no
+/// Joins the run at this place with the one before it, and leaves it empty. If there is no
 /// memory for that, both stay.
 fn join(runs: &mut Vec<SortedRun>, newer: usize)
     requires some { 0 < newer }
@@ -67,7 +67,7 @@ pub fn drop_empty(runs: &mut Vec<SortedRun>)
     }
 }
 
-/// How many downtimes there are, where they are at most so many.
+/// How many downtimes there are, if they are at most so many.
 pub fn count(runs: &[SortedRun], most: usize) -> usize
     requires { length (together runs.now) ≤ most }
     ensures { result ≡ length (together runs.now) }

@@ -55,7 +55,7 @@ joins (kinds.Sign s) = sign_joins s
 joins (kinds.Word words.In) = true
 joins k = false
 
--- newlines are joined to what stands before them, behind this token, where they were in front of it or not
+-- newlines are joined to what stands before them, after this token, whether they stood before it or not
 abbrev pub joined : Bool → TokenKind → Bool
 joined j kinds.NewLine = j
 joined j k = joins k
@@ -98,7 +98,7 @@ abbrev pub one_if : Bool → ℕ
 one_if true = 1
 one_if false = 0
 
--- one, if the token counts and weighs on the last of those behind it
+-- one, if the token counts and weighs on the last of those after it
 abbrev pub weight_of : Role → Bool → (ℕ → Bool) → ℕ
 weight_of Opening file more = one_if (more 1)
 weight_of Counted file more = one_if (more 0)

@@ -80,7 +80,7 @@ fn count(weight: &mut Weight, kind: &TokenKind) -> Result<(), AllocFailed<usize>
     Ok(())
 }
 
-/// What a token does; newlines do nothing where they are joined to what stands before them.
+/// What a token does; newlines do nothing if they are joined to what stands before them.
 fn role(joined: bool, kind: &TokenKind) -> Role
     ensures { result ≡ role_plain joined kind.now }
 {

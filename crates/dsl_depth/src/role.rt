@@ -1,6 +1,6 @@
 // The roles of tokens.
 
-/// What a token does to the depth of those behind it.
+/// What a token does to the depth of those after it.
 #[derive(Clone, Copy, PartialEq, Eq)]
 pub(crate) enum Role {
     /// It opens a bracket, and counts.

@@ -29,7 +29,7 @@ pub fn eval_expr(view: &WorldView, work: &mut Work, expr: &Expr) -> Result<Value
     outcome
 }
 
-/// What a body returns over a view, and null where it doesn't return. It ends early as `eval_expr` does.
+/// What a body returns over a view, and null if it doesn't return. It ends early as `eval_expr` does.
 pub fn eval_body(view: &WorldView, work: &mut Work, body: &[Stmt]) -> Result<Value, Stop>
     requires fit { IsFit work.old }
     requires told { IsTold view.now work.old.store }

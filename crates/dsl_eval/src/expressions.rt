@@ -210,7 +210,7 @@ fn eval_right(
     }
 }
 
-/// The value of an expression, where there is one.
+/// The value of an expression, if there is one.
 #[cycle(eval)]
 pub(crate) fn eval_maybe(
     view: &WorldView,

@@ -141,7 +141,7 @@ abbrev pub add_armed : Arms → Armed → Arms
 add_armed as' (armed e b) = add_arm as' e b
 
 -- "if" "(" expr ")" block { nl "else" "if" "(" expr ")" block } [ nl "else" block ], with the arms in order, and no
--- statements where there is no `else`
+-- statements if there is no `else`
 abbrev pub TableIf : Rules Token Name Value → RuleOf Token StatementKind
 TableIf L ts k rest =
     Both (λ arms other. choose (fold add_armed no_arms arms) other)

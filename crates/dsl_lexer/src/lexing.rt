@@ -28,7 +28,7 @@ use std::alloc::Global;
 /// `Fault` where the bytes aren't UTF-8, at the first that isn't, whatever stands before it; else at the
 /// first byte, reached token by token, that begins nothing of the language: a string or a comment
 /// without its end, a string with another escape or one above 127, a number that [`Num::read`] doesn't
-/// take or that a letter, a digit or `_` follows, or a byte with no meaning. `OutOfMemory` where there
+/// take or that a letter, a digit or `_` follows, or a byte with no meaning. `OutOfMemory` if there
 /// is no memory for the tokens.
 ///
 /// [`Num::read`]: site_base::Num::read

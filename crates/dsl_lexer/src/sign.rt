@@ -6,7 +6,7 @@ ghost use Rattle.dsl_lexer.specs.Signs.{sign_spelling};
 /// See "Operators" in the chapter "Language Reference" of the Icinga 2 documentation.
 #[derive(Clone, Copy, PartialEq, Eq)]
 pub enum Sign {
-    /// `!in`, only where no letter, digit or `_` follows
+    /// `!in`, only if no letter, digit or `_` follows
     NotIn,
     /// `+=`
     AddSet,

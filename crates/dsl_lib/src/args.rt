@@ -128,7 +128,7 @@ pub(crate) fn dict(value: &Value, store: &Store) -> Result<u32, LibFault>
     }
 }
 
-/// Whether a cell lies below the base, where nothing is changed.
+/// Whether a cell lies below the base, if nothing is changed.
 pub(crate) fn is_frozen(cell: u32, store: &Store) -> bool
     ensures { result ≡ nat_lt cell store.now.base }
 {

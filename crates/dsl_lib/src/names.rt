@@ -28,7 +28,7 @@ pub enum LibraryCall {
 }
 
 impl LibraryCall {
-    /// The function of a name; `None` where the library has none.
+    /// The function of a name; `None` if the library has none.
     #[tactic(auto, unfolding(crate::specs::Names::function_named))]
     pub fn function(name: &str) -> Option<LibraryCall>
         ensures { result ≡ function_named name.now }
@@ -36,7 +36,7 @@ impl LibraryCall {
         call_among(functions(), name)
     }
 
-    /// The method of a name that a value has; `None` where it has none. A dictionary's own key of that
+    /// The method of a name that a value has; `None` if it has none. A dictionary's own key of that
     /// name isn't looked for.
     #[tactic(auto, unfolding(crate::specs::Names::method_named))]
     pub fn method(value: &Value, name: &str, store: &Store) -> Option<LibraryCall>

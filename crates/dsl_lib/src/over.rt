@@ -182,7 +182,7 @@ fn joined_is_over(alloc: Global, items: &[Value], separator: &str, most: u64) ->
     false
 }
 
-/// The bytes of a scalar's text, or fewer where there is no memory to write a number.
+/// The bytes of a scalar's text, or fewer if there is no memory to write a number.
 fn text_len(alloc: Global, value: &Value) -> usize
     ensures { result ≤ scalar_bytes value.now }
 {

@@ -5,7 +5,7 @@ use Rattle.std.specs.Option.{option_or}
 use Rattle.dsl_value.specs.Pairs.{Pairs, find, is_sorted}
 use Rattle.dsl_value.specs.declared.value.Value.{Value}
 
--- the value of each key is the right one's, where that has the key, and else the left one's; the keys rise
+-- the value of each key is the right one's, if that has the key, and else the left one's; the keys rise
 pub record IsMerged (left right pairs : Pairs) : Type 0 where
   pub values : (key : List ℕ) → find key pairs ≡ option_or (find key right) (find key left)
   pub sorted : T (is_sorted pairs)

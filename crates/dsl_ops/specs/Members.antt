@@ -37,7 +37,7 @@ or_wrong None = refuses WrongType
 abbrev pub member_outcome : List PlainCell → Value → Value → Outcome MemberFault
 member_outcome cells v key = or_wrong (member_of cells v key)
 
--- the place of an element, where there are so many
+-- the place of an element, if there are so many
 abbrev pub place_in : ℕ → Option ℤ → Option ℕ
 place_in count (Some (pos i)) = if nat_lt i count then Some i else None
 place_in count o = None

@@ -11,7 +11,7 @@ use Rattle.dsl_ops.specs.declared.op_fault.OpFault.TheVariants.{WrongType, Overf
 abbrev pub Outcome : Type 0
 Outcome = Comes OpFault
 
--- the number, or Overflow where there is none
+-- the number, or Overflow if there is none
 abbrev pub or_overflow : Option ℤ → Outcome
 or_overflow (Some n) = gives (value.Number n)
 or_overflow None = refuses Overflow

@@ -21,7 +21,7 @@ fn numbers_of(left: &Operand, right: &Operand) -> Option<(Num, Num)>
     }
 }
 
-/// The number, or `Overflow` where there is none.
+/// The number, or `Overflow` if there is none.
 pub(crate) fn number_or_overflow(number: Option<Num>) -> Result<Num, OpFault>
     ensures { number_returned result ≡ or_overflow number }
 {

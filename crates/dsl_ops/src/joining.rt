@@ -115,7 +115,7 @@ fn shows(operand: &Operand) -> bool
     )
 }
 
-/// Adds the operand's text, where it has one.
+/// Adds the operand's text, if it has one.
 fn push_text(text: &mut Text, operand: &Operand) -> Result<(), OutOfMemory>
     ensures { OnOk result (text.new ≡ text.old ++ text_of (plain operand.now)) }
 {

@@ -60,7 +60,7 @@ fn element(items: &[Value], index: i64) -> Result<Value, MemberFault>
 }
 
 /// Writes a value at a key, which costs one unit. A dictionary takes a string, and an array an index below its length.
-/// All else is `WrongType`, null too; then comes `Frozen`, exactly where the cell is frozen, and then
+/// All else is `WrongType`, null too; then comes `Frozen`, exactly if the cell is frozen, and then
 /// `SpaceLimit`, where no unit is left. After each of these the store is as it was.
 #[tactic(auto, using(crate::proofs::Written::is_written, crate::proofs::Written::is_frozen, crate::proofs::Written::is_wrong))]
 pub fn set_member(

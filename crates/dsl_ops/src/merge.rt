@@ -36,7 +36,7 @@ pub(crate) fn merged_pairs<'a>(
     Ok(pairs)
 }
 
-/// The pair that comes first of two dictionaries; `None` where nothing is left of them.
+/// The pair that comes first of two dictionaries; `None` if nothing is left of them.
 #[tactic(auto, using(crate::proofs::Merging::next_less, crate::proofs::Merging::next_equal, crate::proofs::Merging::next_greater, crate::proofs::Merging::next_left, crate::proofs::Merging::next_right, crate::proofs::Merging::next_none, crate::proofs::Merging::beyond_sorted))]
 fn next_of<'a>(left: &PairsLeft<'a>, right: &PairsLeft<'a>) -> Option<Next<'a>>
     requires { T (is_sorted right.now) }

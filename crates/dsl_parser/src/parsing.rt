@@ -19,7 +19,7 @@ use std::alloc::Global;
 ///
 /// `SyntaxFault` at the first token, the end included, such that the tokens before it begin a file and with it they begin
 /// none. `TooDeep` at the first token through which more than 100 brackets are open, or on which more than 200 tokens weigh,
-/// where that isn't behind the other place. `OutOfMemory` where there is no memory for the tree.
+/// where that isn't behind the other place. `OutOfMemory` if there is no memory for the tree.
 pub fn parse(alloc: Global, tokens: &[Token]) -> Result<File, ParseError>
     requires { IsWhole tokens.now }
     ensures tree { GivesTree tokens.now result }

@@ -46,7 +46,7 @@ and b c = cond b c false
 abbrev pub or : Bool → Bool → Bool
 or b c = cond b true c
 
--- these, where it holds
+-- these, if it holds
 abbrev pub where_holds : Bool → List Sort → List Sort
 where_holds b cs = cond b cs []
 

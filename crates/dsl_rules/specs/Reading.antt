@@ -13,7 +13,7 @@ abbrev pub ◌>>=◌ : {T A B : Type 0} → Read T A → (A → List T → Read 
 (got a ts) >>= f = f a ts
 (bad s) >>= f = bad s
 
--- what is true where no token of these sorts stands in the place of lines (`erased` false), or of other tokens alone
+-- what is true if no token of these sorts stands in the place of lines (`erased` false), or of other tokens alone
 
 -- a derivation may have no token
 abbrev pub null : {T N : Type 0} {V : N → Type 0} {A : Type 0} → Alphabet T → Bool → Grammar T N V A → Bool

@@ -16,7 +16,7 @@ use std::alloc::{AllocFailed, Global};
 #[derive(Drop)]
 pub struct Choice {
     pub arms: Vec<Arm>,
-    /// What is run where no condition holds.
+    /// What is run if no condition holds.
     pub other: Vec<Stmt>,
     /// Whether an `else` may follow.
     pub more: bool,

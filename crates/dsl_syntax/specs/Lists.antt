@@ -1,4 +1,4 @@
--- The lists of the plain syntax tree: one thing of each, one more at the end, one list behind the other, the k-th thing,
+-- The lists of the plain syntax tree: one thing of each, one more at the end, one list after the other, the k-th thing,
 -- and what is left behind the first k.
 use Rattle.std.specs.Prelude.{ℕ, zero, suc, List, Option, Some, None}
 use Rattle.dsl_syntax.specs.Syntax.{Expression, Expressions, no_expressions, more_expressions, Entries, no_entries, more_entries, MaybeExpression, Uses, no_uses, more_uses, Steps, no_steps, member_step, index_step, Arms, no_arms, more_arms, Statement, Statements, no_statements, more_statements}
@@ -18,7 +18,7 @@ pub data OneStep : Type 0 where
   to_member : List ℕ → OneStep
   to_index : Expression → OneStep
 
--- a condition, and what is run where it holds
+-- a condition, and what is run if it holds
 pub data Armed : Type 0 where
   armed : Expression → Statements → Armed
 

@@ -1,7 +1,7 @@
 // The arms of an `if`.
 use crate::{Expr, Stmt};
 
-/// One condition of an `if`, and what is run where it is the first that holds.
+/// One condition of an `if`, and what is run if it is the first that holds.
 #[cycle(syntax)]
 #[derive(Drop)]
 pub struct Arm {

@@ -74,7 +74,7 @@ pub enum StmtKind {
     },
     If {
         arms: Vec<Arm>,
-        /// What is run where no condition holds.
+        /// What is run if no condition holds.
         other: Vec<Stmt>,
     },
     While {

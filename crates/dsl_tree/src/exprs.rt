@@ -151,7 +151,7 @@ fn push_params(out: &mut Text, params: &[Text]) -> Result<(), OutOfMemory>
     out.push(')')
 }
 
-/// A `use` list, where there is one.
+/// A `use` list, if there is one.
 #[cycle(print)]
 #[tactic(auto, using(crate::proofs::Lists::uses_are))]
 pub(crate) fn push_uses(out: &mut Text, uses: &[Use]) -> Result<(), OutOfMemory>
@@ -180,7 +180,7 @@ fn push_captures(out: &mut Text, uses: &[Use]) -> Result<(), OutOfMemory>
     out.push(')')
 }
 
-/// What a name is given, where it is given something.
+/// What a name is given, if it is given something.
 #[cycle(print)]
 pub(crate) fn push_given(out: &mut Text, given: &Option<Expr>) -> Result<(), OutOfMemory>
     ensures { OnOk result (out.new ≡ out.old ++ given_text (maybe_expr_view given.now)) }

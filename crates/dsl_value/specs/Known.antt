@@ -14,6 +14,6 @@ number_of levels a b = (a * 4294967296 + b) * 128 + levels
 abbrev pub AreEqual : List PlainCell → ℕ → ℕ → ℕ → Type 0
 AreEqual cells levels a b = refs_equal (equal_within levels cells) cells (Ref a) (Ref b) ≡ true
 
--- the number of cells that were found equal is among them only where they are
+-- the number of cells that were found equal is among them only if they are
 abbrev pub IsKnown : List PlainCell → Known → Type 0
 IsKnown cells known = (levels a b : ℕ) → levels < 128 → b < 4294967296 → contains nat_cmp known.numbers (number_of levels a b) ≡ true → AreEqual cells levels a b

@@ -16,7 +16,7 @@ use Rattle.dsl_value.specs.declared.loading.Step.TheVariants as steps
 abbrev pub among : Value → List PlainCell → Made Value
 among v cells = record { value = v; cells = cells }
 
--- the value of a tree that is loaded behind the cells so far, with all cells then
+-- the value of a tree that is loaded after the cells so far, with all cells then
 abbrev pub loaded : ℕ → List PlainCell → Data → Made Value
 loaded before cells d = record { value = given before cells (load d); cells = grown before cells (load d) }
 

@@ -17,7 +17,7 @@ pub record Made (A : Type 0) : Type 0 where
 abbrev pub bare : {A : Type 0} → A → Made A
 bare a = record { value = a; cells = [] }
 
--- one thing is made behind another
+-- one thing is made after another
 abbrev pub joined : {A B C : Type 0} → (A → B → C) → Made A → Made B → Made C
 joined f a b = record { value = f a.value b.value; cells = a.cells ++ b.cells }
 
@@ -67,7 +67,7 @@ pub record Fits (d : Data) : Type 0 where
   pub lawful : IsLawful d
   pub within : cost d ≤ most
 
--- the cells so far, with those of a thing that is made behind them; so many others lie before
+-- the cells so far, with those of a thing that is made after them; so many others lie before
 abbrev pub grown : {A : Type 0} → ℕ → List PlainCell → (ℕ → Made A) → List PlainCell
 grown before made thing = made ++ (thing (before + length made)).cells
 

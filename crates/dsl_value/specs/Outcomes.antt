@@ -27,14 +27,14 @@ pub data Outcome (F : Type 0) : Type 0 where
 abbrev pub written : {F : Type 0} → F → Contents → ℕ → PlainCell → Outcome F
 written frozen s k c = if nat_lt k s.base then refuses frozen else writes k c
 
--- a new cell goes behind the others, a cell that is written has its new content, and nothing else changes
+-- a new cell goes after the others, a cell that is written has its new content, and nothing else changes
 abbrev pub after : {F : Type 0} → Contents → Outcome F → Contents
 after s (gives v) = s
 after s (makes c) = with_cells s (s.cells ++ c ∷ [])
 after s (writes k c) = with_cells s (with_cell s.cells k c)
 after s (refuses e) = s
 
--- the value or the refusal; a new cell comes behind so many others
+-- the value or the refusal; a new cell comes after so many others
 abbrev pub answer : {F : Type 0} → ℕ → Outcome F → Result Value F
 answer count (gives v) = Ok v
 answer count (makes c) = Ok (value.Ref count)
@@ -81,7 +81,7 @@ outcome_of (made.Array vs) = makes (array vs)
 outcome_of (made.Texts vs) = makes (array vs)
 outcome_of (made.Dict ps) = makes (dict ps)
 
--- the value, where a new cell comes behind so many others
+-- the value, where a new cell comes after so many others
 abbrev pub value_of : ℕ → Made → Value
 value_of count (made.Value v) = v
 value_of count (made.Text t) = value.Str t
@@ -97,7 +97,7 @@ store_of s (made.Array vs) = with_cells s (s.cells ++ array vs ∷ [])
 store_of s (made.Texts vs) = with_cells s (s.cells ++ array vs ∷ [])
 store_of s (made.Dict ps) = with_cells s (s.cells ++ dict ps ∷ [])
 
--- what it costs: nothing where a value was there before
+-- what it costs: nothing if a value was there before
 abbrev pub units_of : Made → ℕ
 units_of (made.Value v) = 0
 units_of (made.Text t) = length t

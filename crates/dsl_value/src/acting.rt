@@ -18,7 +18,7 @@ pub enum Act<'a> {
 }
 
 impl Act<'_> {
-    /// The units that it costs, where these are so many at most; else `None`.
+    /// The units that it costs, if these are so many at most; else `None`.
     pub fn units_within(&self, most: u64) -> Option<u64>
         ensures within { IfSome result (λ n. (n ≡ act_units self.now) × (n ≤ most)) }
         ensures over { IfNone result (most < act_units self.now) }
@@ -29,7 +29,7 @@ impl Act<'_> {
         }
     }
 
-    /// The value, which is null where a cell is changed.
+    /// The value, which is null if a cell is changed.
     #[tactic(auto, using(crate::proofs::Growing::grows_one))]
     pub fn put_in(self, store: &mut Store) -> Result<Value, OutOfMemory>
         requires stands { StandsAct store.old self }

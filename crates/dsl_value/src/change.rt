@@ -11,6 +11,6 @@ pub enum Change<'a> {
     Push(Value),
     /// A value at a key of a dictionary.
     Set(Text, Value),
-    /// A dictionary without the pair of a key; nothing changes where the key is absent.
+    /// A dictionary without the pair of a key; nothing changes if the key is absent.
     Remove(&'a str),
 }

@@ -68,7 +68,7 @@ fn parts_of(tree: &Tree) -> Left<'_>
     }
 }
 
-/// The first of the parts that are left; `None` where none is.
+/// The first of the parts that are left; `None` if none is.
 #[tactic(auto, using(crate::proofs::Counted::first_item, crate::proofs::Counted::first_pair, crate::proofs::Counted::item_work, crate::proofs::Counted::pair_work, crate::proofs::Counted::no_items, crate::proofs::Counted::no_pairs))]
 fn next_part(left: Left<'_>) -> Result<Option<Counted<'_>>, OutOfMemory>
     ensures { IfOk result (λ o. MatchOption o (left_cost left.entry ≡ 0) (λ p. (left_cost left.entry ≡ part_cost p) × (part_work p < left_work left.entry))) }

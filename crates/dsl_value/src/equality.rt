@@ -15,7 +15,7 @@ const LEVELS: u32 = 100;
 /// Whether two values are equal. Null equals null, 0 and the empty text. Numbers, texts and booleans
 /// are compared by value, arrays and dictionaries element by element to a hundred levels of nesting,
 /// and functions by identity; values of two types are unequal. Cells that are met again beside each other are
-/// compared once, where there is memory to keep them in mind.
+/// compared once, if there is memory to keep them in mind.
 pub fn equal(left: &Value, right: &Value, store: &Store) -> bool
     requires left { Names (length store.now.cells) (length store.now.functions) left.now }
     requires right { Names (length store.now.cells) (length store.now.functions) right.now }

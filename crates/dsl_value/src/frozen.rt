@@ -122,7 +122,7 @@ impl Frozen {
     }
 }
 
-/// The layers behind a pointer, where there is one.
+/// The layers behind a pointer, if there is one.
 fn layers_in(layers: &Option<Arc<Vec<Layer>>>) -> &[Layer]
     ensures { result.now ≡ layers_of layers.now }
 {

@@ -29,7 +29,7 @@ impl Known {
         self.numbers.contains(&number(levels, left, right))
     }
 
-    /// Keeps in mind that two cells are equal, where there is memory for that.
+    /// Keeps in mind that two cells are equal, if there is memory for that.
     pub(crate) fn add(&mut self, levels: u32, left: u32, right: u32)
         requires { levels < 100 }
         ensures { (cells : List PlainCell) → IsKnown cells self.old → AreEqual cells levels left right → IsKnown cells self.new }

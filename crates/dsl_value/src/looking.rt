@@ -56,7 +56,7 @@ fn text_tree(text: &Text) -> Result<Tree, OutOfMemory>
     Ok(Tree::Str(text.clone()?))
 }
 
-/// The cost with more units; `None` where it is too much.
+/// The cost with more units; `None` if it is too much.
 pub(crate) fn charge(cost: usize, more: usize) -> Option<usize>
     requires { cost ≤ most }
     ensures within { IfSome result (λ c. (c ≡ cost + more) × (c ≤ most)) }
@@ -68,7 +68,7 @@ pub(crate) fn charge(cost: usize, more: usize) -> Option<usize>
     Some(cost + more)
 }
 
-/// The cost with an element or pair, whose key has so many bytes; `None` where it is too much.
+/// The cost with an element or pair, whose key has so many bytes; `None` if it is too much.
 pub(crate) fn charge_element(cost: usize, bytes: usize) -> Option<usize>
     requires { cost ≤ most }
     ensures within { IfSome result (λ c. (c ≡ cost + (1 + bytes)) × (c ≤ most)) }

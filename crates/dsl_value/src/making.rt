@@ -23,7 +23,7 @@ pub enum Made {
 }
 
 impl Made {
-    /// The units that it costs, where these are so many at most; else `None`.
+    /// The units that it costs, if these are so many at most; else `None`.
     pub fn units_within(&self, most: u64) -> Option<u64>
         ensures within { IfSome result (λ n. (n ≡ units_of self.now) × (n ≤ most)) }
         ensures over { IfNone result (most < units_of self.now) }
@@ -57,7 +57,7 @@ impl Made {
     }
 }
 
-/// The units so far with more of them, where these are so many at most.
+/// The units so far with more of them, if these are so many at most.
 pub(crate) fn units_with(units: u64, more: usize, most: u64) -> Option<u64>
     requires { units ≤ most }
     ensures within { IfSome result (λ n. (n ≡ units + more) × (n ≤ most)) }
@@ -70,7 +70,7 @@ pub(crate) fn units_with(units: u64, more: usize, most: u64) -> Option<u64>
     Some(units + more)
 }
 
-/// The units of a cell with so many elements or pairs, where these are so many at most.
+/// The units of a cell with so many elements or pairs, if these are so many at most.
 fn cell_units(count: usize, most: u64) -> Option<u64>
     ensures within { IfSome result (λ n. (n ≡ 1 + count) × (n ≤ most)) }
     ensures over { IfNone result (most < 1 + count) }
@@ -82,7 +82,7 @@ fn cell_units(count: usize, most: u64) -> Option<u64>
     Some(1 + count)
 }
 
-/// The units of an array of texts, where these are so many at most.
+/// The units of an array of texts, if these are so many at most.
 fn texts_units(items: &[Value], most: u64) -> Option<u64>
     ensures within { IfSome result (λ n. (n ≡ (1 + length items.now) + bytes_of items.now) × (n ≤ most)) }
     ensures over { IfNone result (most < (1 + length items.now) + bytes_of items.now) }

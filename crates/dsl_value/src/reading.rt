@@ -18,7 +18,7 @@ impl Store {
         copy_cell(self.cell(cell))
     }
 
-    /// The value of a dictionary's key; `None` where the key is absent.
+    /// The value of a dictionary's key; `None` if the key is absent.
     #[tactic(auto, using(crate::proofs::Found::cell_stands))]
     pub fn get(&self, cell: u32, key: &str) -> Option<&Value>
         requires inside { cell < length self.now.cells }

@@ -125,7 +125,7 @@ impl SortedPairs {
         put_kept(self.alloc, &mut self.kept, key, value)
     }
 
-    /// Takes a key's pair out; nothing changes where the key is absent.
+    /// Takes a key's pair out; nothing changes if the key is absent.
     pub fn remove(&mut self, key: &str)
         ensures { self.new ≡ without key.now self.old }
     {
@@ -143,7 +143,7 @@ impl SortedPairs {
         }
     }
 
-    /// Deals pairs that lie in a row out to several, where there is memory for that.
+    /// Deals pairs that lie in a row out to several, if there is memory for that.
     fn deal_out(&mut self)
         ensures { self.new ≡ self.old }
     {

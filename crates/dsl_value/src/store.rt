@@ -67,7 +67,7 @@ impl Store {
         }
     }
 
-    /// Freezes all cells. Forks share them, but where there is no memory for one more layer of cells.
+    /// Freezes all cells. Forks share them, unless there is no memory for one more layer of cells.
     pub fn freeze(&mut self)
         ensures { self.new ≡ record { cells = self.old.cells; base = length self.old.cells; functions = self.old.functions } }
     {
@@ -256,8 +256,8 @@ impl Store {
         Ok(value)
     }
 
-    /// The tree that a value stands for. `Cyclic` where a cell lies inside itself, `HasFunction` where
-    /// a function lies in it, `TooLarge` where its cost passes 16,777,216 units: the first of these that
+    /// The tree that a value stands for. `Cyclic` if a cell lies inside itself, `HasFunction` if
+    /// a function lies in it, `TooLarge` if its cost passes 16,777,216 units: the first of these that
     /// a walk meets which goes depth first, in element order. The keys of each dictionary in the tree
     /// rise, and it costs at most 16,777,216 units.
     pub fn tree_of(&self, value: &Value) -> Result<Tree, TreeFault>
@@ -268,7 +268,7 @@ impl Store {
         walk_value(self.alloc, self, value)
     }
 
-    /// Changes a cell. `Frozen` exactly where the cell is frozen.
+    /// Changes a cell. `Frozen` exactly if the cell is frozen.
     pub fn change(&mut self, cell: u32, change: Change) -> Result<(), SetFault>
         requires inside { cell < length self.old.cells }
         requires fits { FitsCell change (cell_at self.old.cells cell) }

@@ -61,7 +61,7 @@ fn turn(alloc: Global, store: &Store, mut path: Path) -> Result<Turn, TreeFault>
 }
 
 /// Passes the elements or pairs that come next and hold no cell, and gives the cell that comes then,
-/// whose element is counted; `None` where all are passed.
+/// whose element is counted; `None` if all are passed.
 fn pass_leaves(store: &Store, path: &mut Path) -> Result<Option<u32>, TreeFault>
     requires { IsPath (length store.now.cells) path.old }
     ensures gives { Passed store.now.cells path.new result (going store.now.cells path.old) }

@@ -9,7 +9,7 @@ use crate::{Change, SetFault, Store, Value};
 use site_base::Text;
 
 impl Store {
-    /// Gives a dictionary's key a value. `Frozen` exactly where the cell is frozen.
+    /// Gives a dictionary's key a value. `Frozen` exactly if the cell is frozen.
     pub fn set(&mut self, cell: u32, key: Text, value: Value) -> Result<(), SetFault>
         requires inside { cell < length self.old.cells }
         requires is_dict { IsTrue (is_dict (cell_at self.old.cells cell)) }
@@ -23,7 +23,7 @@ impl Store {
         self.change(cell, Change::Set(key, value))
     }
 
-    /// Changes one element of an array. `Frozen` exactly where the cell is frozen.
+    /// Changes one element of an array. `Frozen` exactly if the cell is frozen.
     pub fn put(&mut self, cell: u32, place: u32, value: Value) -> Result<(), SetFault>
         requires inside { cell < length self.old.cells }
         requires is_array { IsTrue (is_array (cell_at self.old.cells cell)) }
@@ -38,7 +38,7 @@ impl Store {
         self.change(cell, Change::Put(place, value))
     }
 
-    /// Adds a value at an array's end. `Frozen` exactly where the cell is frozen.
+    /// Adds a value at an array's end. `Frozen` exactly if the cell is frozen.
     pub fn push(&mut self, cell: u32, value: Value) -> Result<(), SetFault>
         requires inside { cell < length self.old.cells }
         requires is_array { IsTrue (is_array (cell_at self.old.cells cell)) }
@@ -52,7 +52,7 @@ impl Store {
         self.change(cell, Change::Push(value))
     }
 
-    /// Takes a key's pair out of a dictionary; nothing changes where the key is absent. `Frozen` exactly
+    /// Takes a key's pair out of a dictionary; nothing changes if the key is absent. `Frozen` exactly
     /// where the cell is frozen.
     pub fn remove(&mut self, cell: u32, key: &str) -> Result<(), SetFault>
         requires inside { cell < length self.old.cells }

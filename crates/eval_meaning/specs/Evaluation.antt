@@ -68,7 +68,7 @@ statement_kind_with view ev l (syntax.eval e) s = eval_with ev e s
 
 -- ---- steps and depth
 
--- On entry of a node its step is counted, and then nothing is run where no more nodes may be open.
+-- On entry of a node its step is counted, and then nothing is run if no more nodes may be open.
 abbrev pub too_deep : {A : Type 0} → Place → State → Outcome A
 too_deep l s = step l s >>= λ _ s1. fault l DepthLimit s1
 

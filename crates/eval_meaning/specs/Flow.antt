@@ -15,7 +15,7 @@ use Rattle.eval_meaning.specs.Frames.{set_local}
 use Rattle.eval_meaning.specs.declared.flow.Flow.{Flow}
 use Rattle.eval_meaning.specs.declared.flow.Flow.TheVariants.{On, Returned, Broken, Continued}
 
--- what follows a statement is run where it goes on
+-- what follows a statement is run if it goes on
 abbrev pub onward : Flow → (State → Outcome Flow) → State → Outcome Flow
 onward On next s = next s
 onward f next s = gives f s

@@ -139,7 +139,7 @@ abbrev pub unless_condition : Option Place → State → Outcome (Unit {0})
 unless_condition (Some l) s = fault l NotHere s
 unless_condition None s = gives tt s
 
--- the type is one, and conditions stand only where its objects take them
+-- the type is one, and conditions stand only if its objects take them
 unfoldable pub lawful : Place → List ℕ → Statements → State → Outcome (Unit {0})
 lawful l kind b s =
     if not (is_among kind types) then faults l UnknownType (quoted kind) s.reads

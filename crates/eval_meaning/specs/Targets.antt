@@ -25,7 +25,7 @@ use Rattle.eval_meaning.specs.Frames.{set_local}
 use Rattle.eval_meaning.specs.declared.flow.Flow.{Flow}
 use Rattle.eval_meaning.specs.declared.flow.Flow.TheVariants.{On}
 
--- Where an assignment goes to: by keys into the value of a local, which is the local itself where there are none, or by keys into another
+-- Where an assignment goes to: by keys into the value of a local, which is the local itself if there are none, or by keys into another
 -- value.
 pub data Target : Type 0 where
   to_local : List ℕ → Value → List Value → Target

@@ -3,7 +3,7 @@ use dsl_value::Value;
 use site_base::Place;
 
 /// How a statement ends: what follows it is run, or its frame ends with a value, or a loop ends or goes on. A `break` or a
-/// `continue` has its place, where it is a fault if no loop of its frame takes it.
+/// `continue` keeps its place: it is a fault if no loop of its frame takes it.
 #[derive(Drop)]
 pub enum Flow {
     On,

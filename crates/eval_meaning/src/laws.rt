@@ -34,7 +34,7 @@ pub fn a_load_is_over_a_world()
     ensures { (files : List PlainFile) → IsWorld (load_view files) }
 {}
 
-/// A `while` is its first turn and, where that goes on, the `while` after it.
+/// A `while` is its first turn and, if that goes on, the `while` after it.
 pub fn a_while_is_a_turn_and_the_rest()
     ensures { (view : View) (depth : ℕ) (e : Expression) (b : Statements) (s : State) → while_with (evaluated view depth) e b s ≡ unrolled (evaluated view depth) e b s }
 {}

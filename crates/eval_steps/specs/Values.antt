@@ -14,7 +14,7 @@ use Rattle.eval_meaning.specs.Frames.{name_value}
 use Rattle.dsl_value.specs.Contents.{Contents}
 use Rattle.eval_work.specs.Kept.{Named}
 
--- the value of an expression, where there is one
+-- the value of an expression, if there is one
 abbrev pub maybe_value : Parts → MaybeExpression → State → Outcome (Option Value)
 maybe_value ev no_expression s = gives None s
 maybe_value ev (some_expression e) s = ev.value e s >>= λ v s1. gives (Some v) s1
@@ -34,7 +34,7 @@ right_with ev l bin.And x b s = if holds s x then ev.value b s else gives x s
 right_with ev l bin.Or x b s = if holds s x then gives x s else ev.value b s
 right_with ev l o x b s = ev.value b s >>= λ y s1. operated l o x y s1
 
--- a value names what is there, where there is one
+-- a value names what is there, if there is one
 abbrev pub MaybeNamed : Contents → Option Value → Type 0
 MaybeNamed c None = Unit {0}
 MaybeNamed c (Some v) = Named c v

@@ -33,6 +33,6 @@ visit_with ev l visit.Filter f vs s = filter_with ev l f vs s
 visit_with ev l visit.Any f vs s = any_with ev l f vs s
 visit_with ev l visit.All f vs s = all_with ev l f vs s
 
--- an element more, where it is kept
+-- an element more, if it is kept
 abbrev pub with_item : Bool → Value → List Value → List Value
 with_item b v vs = if b then vs ++ v ∷ [] else vs

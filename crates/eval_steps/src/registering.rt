@@ -44,7 +44,7 @@ pub fn register(
     Ok(Flow::On)
 }
 
-/// The name of a rule, by the value of its expression; `None` where it has none. A fault where the value is no name.
+/// The name of a rule, by the value of its expression; `None` if it has none. A fault where the value is no name.
 pub fn rule_prefix(
     work: &Work,
     name: &Option<Expr>,

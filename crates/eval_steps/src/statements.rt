@@ -15,7 +15,7 @@ pub fn is_passed(kind: &StmtKind) -> bool
     matches!(kind, StmtKind::Assign { .. } | StmtKind::Ignore { .. })
 }
 
-/// The statements of a file, by its index in the view; none where there is no such file.
+/// The statements of a file, by its index in the view; none if there is no such file.
 pub fn statements_of<'a>(view: &'a WorldView, index: u32) -> &'a [Stmt]
     ensures { stmts_view result.now ≡ statements_in (slice_get (view_of view.now).files index) }
 {

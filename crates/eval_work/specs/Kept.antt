@@ -21,7 +21,7 @@ use Rattle.eval_work.specs.declared.template.Template.{Template}
 use Rattle.eval_work.specs.declared.view.WorldView.{WorldView}
 use Rattle.eval_work.specs.declared.work.Work.{Work}
 
--- a value names a cell or a function of a store, where it names one
+-- a value names a cell or a function of a store, if it names one
 abbrev pub Named : Contents → Value → Type 0
 Named c v = Names (length c.cells) (length c.functions) v
 

@@ -19,7 +19,7 @@ place_listed kind (Some v) = place_in kind v.items
 abbrev pub place_at : Places → List ℕ → List ℕ → Option ℕ
 place_at p kind name = place_listed kind (get_by_text p.lists name)
 
--- a place that is given where there is none
+-- a place that is given if there is none
 abbrev pub first_of : Option ℕ → ℕ → Option ℕ
 first_of None place = Some place
 first_of (Some old) place = Some old

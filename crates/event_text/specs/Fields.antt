@@ -23,7 +23,7 @@ AreFields ends_in_text (f ∷ g ∷ fs) text = (rest : List ℕ) × IsCut semico
 abbrev pub field : List (List ℕ) → ℕ → List ℕ
 field fs i = slice_index_or fs i []
 
--- the host stands first, and then the service where there is one
+-- the host stands first, and then the service if there is one
 abbrev pub service_in : Command → List (List ℕ) → Option (List ℕ)
 service_in c fs = if names_service c then Some (field fs 1) else None
 

@@ -32,7 +32,7 @@ abbrev pub numbers_read : PlainSite → Kind → ℕ → List ℕ → Option (Li
 numbers_read s k place last None = faulty fault.BadNumber
 numbers_read s k place last (Some ns) = judged_read s k place ns last
 
--- of the checkable at a place, where there is one
+-- of the checkable at a place, if there is one
 abbrev pub place_read : PlainSite → Command → List (List ℕ) → Option ℕ → Answer
 place_read s c fs None = faulty fault.UnknownCheckable
 place_read s c fs (Some place) =

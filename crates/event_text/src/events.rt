@@ -33,7 +33,7 @@ pub(crate) fn has_span(kind: Kind, numbers: &[u64]) -> bool
     }
 }
 
-/// Whether the checkable at a place takes what is asked: a result only where it takes passive ones.
+/// Whether the checkable at a place takes what is asked: a result only if it takes passive ones.
 pub(crate) fn is_open_to(site: &Site, kind: Kind, place: u32) -> bool
     ensures { result ≡ open_to kind (slice_get (site_view site.now).checkables place) }
 {

@@ -7,7 +7,7 @@ use crate::Command;
 use crate::cutting::cut_field;
 use arrayvec::ArrayVec;
 
-/// The fields of a text, where it has so many and no others. The last one takes the rest where it is a text.
+/// The fields of a text, if it has so many and no others. The last one takes the rest where it is a text.
 pub(crate) fn split<'a>(
     text: &'a str,
     count: usize,
@@ -43,7 +43,7 @@ fn is_last(text: &str, ends_in_text: bool) -> bool
     ends_in_text || cut_field(text).is_none()
 }
 
-/// The field at a place, or the empty text where there is none.
+/// The field at a place, or the empty text if there is none.
 pub(crate) fn field<'a>(fields: &[&'a str], place: usize) -> &'a str
     ensures { result.now ≡ field_at (texts_view fields.now) place }
 {

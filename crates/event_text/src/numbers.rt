@@ -23,7 +23,7 @@ fn are_digits(bytes: &[u8]) -> bool
     bytes.iter().all(|b| b.is_ascii_digit())
 }
 
-/// The number of at most so many digits that a text stands for, where it is at most so great.
+/// The number of at most so many digits that a text stands for, if it is at most so great.
 fn read_number(text: &str, digits: usize, most: u64) -> Option<u64>
     ensures { result ≡ number_in (record { digits = digits; most = most }) text.now }
 {
@@ -76,7 +76,7 @@ fn behind_names<'a>(fields: &'a [&'a str], names: usize) -> &'a [&'a str]
     fields.split_at(names).1
 }
 
-/// The number at a place, or 0 where there is none.
+/// The number at a place, or 0 if there is none.
 pub(crate) fn number(numbers: &[u64], place: usize) -> u64
     ensures { result ≡ slice_index numbers.now place }
 {

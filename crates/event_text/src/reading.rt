@@ -25,7 +25,7 @@ use std::alloc::Global;
 /// checkables.
 ///
 /// A line is `[MOMENT] NAME;FIELD;FIELD ..`: the moment has 1 to 11 digits and stands before the first `] `, the name goes to
-/// the first `;` or to the end, and each field to the next `;`. The last field, where it is a text, takes the rest of
+/// the first `;` or to the end, and each field to the next `;`. The last field, if it is a text, takes the rest of
 /// the line with its semicolons (Icinga 2 documentation, Features, "External Commands List"). The fields are, with HOST
 /// alone for a host and HOST;SERVICE for a service,
 ///
@@ -40,7 +40,7 @@ use std::alloc::Global;
 ///
 /// A moment in a field has 1 to 11 digits and any other number 1 to 19, leading zeros too.
 ///
-/// `Fault` with the first [`LineFault`] of the line, and `OutOfMemory` where there is no memory for the event.
+/// `Fault` with the first [`LineFault`] of the line, and `OutOfMemory` if there is no memory for the event.
 pub fn read_line(alloc: Global, bytes: &[u8], site: &Site) -> Result<(u32, Event), LineError>
     ensures value { Gives result (line_read (site_view site.now) bytes.now) }
     ensures told { HasNames (site_view site.now) → Tells (Has (site_view site.now) bytes.now) result }
@@ -163,7 +163,7 @@ fn read_placed(
     }
 }
 
-/// The event of a command of this kind, with these numbers and this last field, where it can be followed.
+/// The event of a command of this kind, with these numbers and this last field, if it can be followed.
 fn judge(
     alloc: Global,
     site: &Site,

@@ -45,7 +45,7 @@ fn is_inside(zone: &Zone, spec: &PeriodSpec, word: &str) -> &'static str {
     }
 }
 
-/// The period whose parts are joined by ` | `; none where one is no part.
+/// The period whose parts are joined by ` | `; none if one is no part.
 fn spec_of(alloc: Global, parts: &str) -> Result<Option<PeriodSpec>, OutOfMemory> {
     let mut spec = PeriodSpec {
         own: Row::new(alloc),

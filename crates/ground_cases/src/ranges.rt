@@ -21,7 +21,7 @@ pub(crate) fn push_ranges_of(alloc: Global, out: &mut Text, row: &str) -> Result
     }
 }
 
-/// The ranges of a key with its text; none where they are refused.
+/// The ranges of a key with its text; none if they are refused.
 pub(crate) fn ranges_of(alloc: Global, range: &str) -> Result<Option<Ranges>, OutOfMemory> {
     let tree = tree_of(alloc, range)?;
     match read_ranges(alloc, &tree) {

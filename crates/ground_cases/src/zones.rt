@@ -8,7 +8,7 @@ use time_range::{Zone, ZoneFault};
 /// The rule of central Europe.
 const RULE: &str = "CET-1CEST,M3.5.0,M10.5.0/3";
 
-/// The bytes of the file that a row names; none where it names none.
+/// The bytes of the file that a row names; none if it names none.
 fn bytes_of(alloc: Global, row: &str) -> Result<Option<Vec<u8>>, OutOfMemory> {
     let (word, text) = row.split_once(' ').unwrap_or((row, ""));
     Ok(match word {

@@ -6,7 +6,7 @@ use Rattle.site_base.specs.declared.tree.Tree.{Tree}
 use Rattle.dsl_value.specs.Pairs.{key_cmp}
 use Rattle.commit_meaning.specs.Groups.{has_string, with_last}
 
--- a list with one more name, where it isn't there yet
+-- a list with one more name, if it isn't there yet
 abbrev pub with_name : List ℕ → Items → Items
 with_name n ds = if has_string n ds then ds else with_last n ds
 

@@ -14,7 +14,7 @@ use std::alloc::Global;
 /// So many names are looked for one by one, which takes less time than to hash them.
 const FEW: usize = 16;
 
-/// Adds each of these names at the end of a list, where it isn't there yet. Many are looked up by hash.
+/// Adds each of these names at the end of a list, if it isn't there yet. Many are looked up by hash.
 pub(crate) fn add_names(
     alloc: Global,
     items: &mut Vec<Tree>,
@@ -108,7 +108,7 @@ fn add_string(alloc: Global, strings: &mut IndexSet<String>, item: &Tree) -> Res
     Ok(())
 }
 
-/// Adds a name to a list and to its strings, where it isn't there yet.
+/// Adds a name to a list and to its strings, if it isn't there yet.
 fn add_new(
     alloc: Global,
     strings: &mut IndexSet<String>,

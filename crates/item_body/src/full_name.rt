@@ -57,7 +57,7 @@ fn room_for(owners: &[Attribute], name: &Text, tree: &Tree) -> usize {
     room
 }
 
-/// Adds a name and a `!`, and nothing where the name is empty.
+/// Adds a name and a `!`, and nothing if the name is empty.
 fn push_owner(full: &mut String, owner: &str) -> Result<(), OutOfMemory>
     ensures { OnOk result ((more : List ℕ) → string_bytes full.new ++ more ≡ string_bytes full.old ++ (if length owner.now == 0 then more else owner.now ++ bang ∷ more)) }
 {

@@ -8,7 +8,7 @@ ghost use Rattle.commit_meaning.specs.Names.{text_of as attribute_text};
 use object_types::Attribute;
 use site_base::{Text, Tree};
 
-/// The string of an attribute; empty where it isn't set, or is no string.
+/// The string of an attribute; empty if it isn't set, or is no string.
 pub fn text_of(tree: &Tree, attribute: Attribute) -> &str
     ensures { result.now ≡ attribute_text (view tree.now) attribute }
 {
@@ -18,7 +18,7 @@ pub fn text_of(tree: &Tree, attribute: Attribute) -> &str
     }
 }
 
-/// The string under a key; empty where there is none.
+/// The string under a key; empty if there is none.
 fn text_under<'a>(key: &str, pairs: &'a [(Text, Tree)]) -> &'a str
     ensures { result.now ≡ string_under key.now (pairs_view pairs.now) }
 {
@@ -30,7 +30,7 @@ fn text_under<'a>(key: &str, pairs: &'a [(Text, Tree)]) -> &'a str
     ""
 }
 
-/// A string; empty where the value is none.
+/// A string; empty if the value is none.
 fn string(value: &Tree) -> &str
     ensures { result.now ≡ string_of (view value.now) }
 {

@@ -12,7 +12,7 @@ use eval_work::{Stop, Work, fault};
 use site_base::{DiagKind, Place, Text, Tree};
 use std::alloc::Global;
 
-/// The tree of a value. At the place stands `Cyclic` where a cell lies inside itself, `FunctionValue` where a function lies in the
+/// The tree of a value. At the place stands `Cyclic` if a cell lies inside itself, `FunctionValue` where a function lies in the
 /// value, and `SpaceLimit` where the tree costs more than 16,777,216 units: the first of these that a walk meets which goes depth
 /// first. The keys in the tree rise, and it costs no more than that.
 #[tactic(auto, unfolding(commit_meaning::specs::Starts::tree_at))]

@@ -21,7 +21,7 @@ impl Problems {
     ///
     /// # Errors
     ///
-    /// `OutOfMemory` where there is none for all of them.
+    /// `OutOfMemory` if there is none for all of them.
     pub fn of(alloc: Global, books: &[Checkable]) -> Result<Problems, OutOfMemory>
         requires few { length books.now < 2 ^ 32 }
         ensures { (s : PlainSite) (moment : ℕ) → AreBooks s moment books.now → IfOk result (λ p. p ≡ noted (lasting s (histories_of books.now))) }
@@ -38,7 +38,7 @@ impl Problems {
     ///
     /// # Errors
     ///
-    /// `OutOfMemory` where there is none for one more; any number of them was noted then.
+    /// `OutOfMemory` if there is none for one more; any number of them was noted then.
     pub fn follow(&mut self, books: &[Checkable], segments: &[Segment]) -> Result<(), OutOfMemory>
         requires { All (λ x. x.checkable < length books.now) segments.now }
         ensures { (s : PlainSite) (moment : ℕ) (before round : Histories) → AreBooks s moment books.now → length round ≡ length s.checkables → histories_of books.now ≡ joined before round → segments.now ≡ segments_of round → self.old ≡ noted (lasting s before) →
@@ -52,7 +52,7 @@ impl Problems {
     }
 }
 
-/// The moment of a checkable's last entry, where it shows a HARD problem.
+/// The moment of a checkable's last entry, if it shows a HARD problem.
 fn lasting_of(book: &Checkable) -> Option<Moment>
     ensures { result ≡ lasts (check_at (site_view book.now.site) book.now.index) book.now.entries }
 {

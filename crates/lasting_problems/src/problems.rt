@@ -38,7 +38,7 @@ impl Problems {
     ///
     /// # Errors
     ///
-    /// `OutOfMemory` where there is none for one more; it is then as before.
+    /// `OutOfMemory` if there is none for one more; it is then as before.
     #[tactic(auto, using(crate::proofs::Noting::inserted, crate::proofs::Noting::removed))]
     pub fn note(&mut self, checkable: u32, moment: Option<Moment>) -> Result<(), OutOfMemory>
         ensures noted { (ms : List (Option ℕ)) → checkable < length ms → self.old ≡ noted ms → OnOk result (self.new ≡ noted (slice_set ms checkable moment)) }
@@ -59,7 +59,7 @@ impl Problems {
     ///
     /// # Errors
     ///
-    /// `OutOfMemory` where there is none for the answer.
+    /// `OutOfMemory` if there is none for the answer.
     pub fn late(&self, alloc: Global, moment: Moment) -> Result<Vec<u32>, OutOfMemory>
         ensures { IfOk result (λ ks. ks.items ≡ late_in moment self.now) }
     {

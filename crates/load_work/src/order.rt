@@ -18,7 +18,7 @@ pub struct Around {
     pub(crate) at: usize,
 }
 
-/// The next number of the order in the file that is run; `None` where it has none left.
+/// The next number of the order in the file that is run; `None` if it has none left.
 pub fn next_in_order(work: &mut Work) -> Option<u32>
     requires { IsFit work.old }
     ensures number { result ≡ next_number (loading (state_of work.old)).order }
@@ -37,7 +37,7 @@ pub fn next_in_order(work: &mut Work) -> Option<u32>
     }
 }
 
-/// Begins the part of the next file of the order, and gives the file's index; `None` where there is none, and nothing is
+/// Begins the part of the next file of the order, and gives the file's index; `None` if there is none, and nothing is
 /// changed.
 pub fn begin_part(work: &mut Work) -> Result<Option<(u32, Around)>, Stop>
     requires { IsFit work.old }

@@ -194,7 +194,7 @@ fn check_applied(
     check_rule(work, place, kind, target, to, each, &body.statements)
 }
 
-/// The type is one, and conditions stand only where its objects take them.
+/// The type is one, and conditions stand only if its objects take them.
 #[tactic(auto, unfolding(eval_meaning::specs::Registration::lawful))]
 fn check_body(work: &Work, place: Place, kind: &Text, body: &[Stmt]) -> Result<(), Stop>
     ensures { Gives (λ _. tt) result (state_of work.now) (lawful place kind.now (stmts_view body.now) (state_of work.now)) }

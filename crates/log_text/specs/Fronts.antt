@@ -7,7 +7,7 @@ use Rattle.site_text.specs.Wholes.{whole_at}
 use Rattle.log_text.specs.declared.entry_error.EntryError.{EntryError}
 use Rattle.log_text.specs.declared.entry_error.EntryError.TheVariants as error
 
--- a value and what stands behind it; none where the front spells none
+-- a value and what stands behind it; none if the front spells none
 abbrev pub Front : Type 0 → Type 0
 Front A = Option (A × List ℕ)
 
@@ -78,7 +78,7 @@ with_first x xs = Some (x ∷ xs.0, xs.1)
 abbrev pub with_front : {A : Type 0} → List A → List A × List ℕ → Front (List A)
 with_front front xs = Some (front ++ xs.0, xs.1)
 
--- a part alone, or a part with those behind the comma
+-- a part alone, or a part with those after the comma
 abbrev pub joined : {A : Type 0} → (List ℕ → Front (List A)) → A × List ℕ → Option (List ℕ) → Front (List A)
 joined again x None = Some (x.0 ∷ [], x.1)
 joined again x (Some rest) = again rest >>= with_first x.0
@@ -90,6 +90,6 @@ abbrev pub parts_within : {A : Type 0} → ℕ → (List ℕ → Front A) → Li
 parts_within zero part bytes = None
 parts_within (suc most) part bytes = part bytes >>= after_part (parts_within most part)
 
--- the parts, or a dash where there are none
+-- the parts, or a dash if there are none
 abbrev pub list_at : {A : Type 0} → (List ℕ → Front A) → List ℕ → Front (List A)
 list_at part bytes = if begins (codes "-") bytes then Some ([], drop 1 bytes) else parts_within (length bytes) part bytes

@@ -19,7 +19,7 @@ use std::alloc::Global;
 
 /// The checkable and the entry that a line of version one is of, where a result's texts are empty.
 ///
-/// `BadLine` where the line is of no entry of the site, and `OutOfMemory` where there is no memory for the
+/// `BadLine` if the line is of no entry of the site, and `OutOfMemory` if there is no memory for the
 /// entry.
 pub fn read_entry(alloc: Global, line: &str, names: &SiteNames) -> Result<(u32, Entry), EntryError>
     ensures value { Gives (λ x. (x.0, x.1)) result (entry_read (names_view names.now) line.now) }
@@ -42,7 +42,7 @@ fn read_line(alloc: Global, line: &str, names: &SiteNames) -> Result<(u32, Entry
 
 /// The checkable and the entry that a line of version two is of.
 ///
-/// `BadLine` where the line is of no entry of the site, and `OutOfMemory` where there is no memory for the
+/// `BadLine` if the line is of no entry of the site, and `OutOfMemory` if there is no memory for the
 /// entry.
 pub fn read_entry_two(
     alloc: Global,

@@ -9,7 +9,7 @@ use site_model::Names;
 use site_text::{read_quoted, read_whole};
 use std::alloc::Global;
 
-/// What stands behind a word; `None` where it doesn't stand first.
+/// What stands behind a word; `None` if it doesn't stand first.
 pub(crate) fn strip<'a>(bytes: &'a [u8], word: &str) -> Option<&'a [u8]>
     ensures { MatchOption result (rest_behind word.now bytes.now ≡ None) (λ x. rest_behind word.now bytes.now ≡ Some x.now) }
 {

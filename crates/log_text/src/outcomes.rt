@@ -66,7 +66,7 @@ fn read_users<'a>(
     Err(EntryError::BadLine)
 }
 
-/// What stands behind the first byte, where there is one.
+/// What stands behind the first byte, if there is one.
 fn without_first(bytes: &[u8]) -> &[u8]
     ensures { result.now ≡ drop 1 bytes.now }
 {

@@ -41,7 +41,7 @@ pub record IsCase (a : Asked) (x : Case) : Type 0 where
   pub downtime : a.downtime ≡ x.downtime
   pub moment : a.moment ≡ x.entry.moment
 
--- the first of these causes that holds, where one does
+-- the first of these causes that holds, if one does
 abbrev pub first_in : List (Option Outcome) → Option Outcome
 first_in [] = None
 first_in (None ∷ os) = first_in os
@@ -73,7 +73,7 @@ own_causes holds x n note k =
     ∷ where_so (tells_state k && not (takes_state note.states x.after.state)) outcome.State
     ∷ problem_causes x n note k
 
--- the last moment at which a problem was sent, where that is from this one on
+-- the last moment at which a problem was sent, if that is from this one on
 abbrev pub sent_from : ℕ → Option ℕ → Option ℕ
 sent_from from None = None
 sent_from from (Some sent) = if nat_lt sent from then None else Some sent

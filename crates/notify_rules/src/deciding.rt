@@ -30,7 +30,7 @@ use time_range::Zone;
 ///
 /// # Errors
 ///
-/// `OutOfMemory` where there is none for the decisions.
+/// `OutOfMemory` if there is none for the decisions.
 pub fn decide(
     alloc: Global,
     site: &Site,

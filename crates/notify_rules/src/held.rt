@@ -38,7 +38,7 @@ pub(crate) fn common_cause(asked: &Asked, kind: NoteKind) -> Option<Outcome>
     None
 }
 
-/// What holds one notification back, the first cause of them, where nothing holds all back. The moment is that at which
+/// What holds one notification back, the first cause of them, if nothing holds all back. The moment is that at which
 /// a problem was sent last.
 pub(crate) fn own_cause(
     asked: &Asked,
@@ -95,7 +95,7 @@ fn is_repeat(asked: &Asked, interval: u64, sent: Option<Moment>) -> bool
     !asked.fresh && is_within(asked.moment, interval, sent_from(asked.after.change, sent))
 }
 
-/// The moment at which a problem was sent last, where that is from this one on.
+/// The moment at which a problem was sent last, if that is from this one on.
 fn sent_from(from: Moment, sent: Option<Moment>) -> Option<Moment>
     ensures { result ≡ sent_from from sent }
 {

@@ -29,7 +29,7 @@ impl NoteIndex {
     ///
     /// # Errors
     ///
-    /// `OutOfMemory` where there is none for a list of each checkable and four bytes of each notification.
+    /// `OutOfMemory` if there is none for a list of each checkable and four bytes of each notification.
     pub fn of(alloc: Global, site: &Site) -> Result<NoteIndex, OutOfMemory>
         requires { length site.now.notifies < 2 ^ 32 }
         ensures { IfOk result (IsNoteIndex (site_view site.now)) }

@@ -39,7 +39,7 @@ impl SentBook {
     ///
     /// # Errors
     ///
-    /// `OutOfMemory` where there is none for that room.
+    /// `OutOfMemory` if there is none for that room.
     pub fn new(
         alloc: Global,
         site: &Site,

@@ -42,7 +42,7 @@ added_by t taken o = if is_of t o then unless_taken taken o else []
 abbrev pub names_with : ObjectType → List (List ℕ) → PlainObject → List (List ℕ)
 names_with t taken o = if is_of t o then with_name o.name taken else taken
 
--- what a name gives, where there is one
+-- what a name gives, if there is one
 abbrev pub at_some : {A : Type 0} → (List ℕ → List A) → Option (List ℕ) → List A
 at_some f None = []
 at_some f (Some name) = f name
@@ -51,7 +51,7 @@ at_some f (Some name) = f name
 abbrev pub place_at : List (List ℕ) → ObjectType → Attribute → Data → Option ℕ
 place_at names t a d = option_and_then (λ name. place_of name names) (text_at t a d)
 
--- what two values make, where both are there
+-- what two values make, if both are there
 abbrev pub both : {A B C : Type 0} → (A → B → C) → Option A → Option B → Option C
 both make None b = None
 both make (Some a) b = option_map (make a) b

@@ -14,7 +14,7 @@ abbrev pub with_new : List ℕ → List ℕ → List ℕ
 with_new ks [] = ks
 with_new ks (n ∷ ns) = with_new (if list_any (nat_eq n) ks then ks else ks ++ n ∷ []) ns
 
--- the user of a name, where there is one
+-- the user of a name, if there is one
 abbrev pub user_named : List (List ℕ) → List ℕ → List ℕ
 user_named users name = option_to_list (place_of name users)
 

@@ -89,7 +89,7 @@ fn spans_named(
     Ok(Row::from(found))
 }
 
-/// Adds those of the period of this name, where there is one.
+/// Adds those of the period of this name, if there is one.
 fn push_named(
     alloc: Global,
     out: &mut Vec<Ranges>,

@@ -20,7 +20,7 @@ abbrev pub IsOf : ValueKind → Data → Type 0
 IsOf kind.Ranges value = (fits kind.Ranges value ≡ true) × ((spans : List DaySpan) × Holds value spans)
 IsOf k value = fits k value ≡ true
 
--- What may stand under an attribute: null where the type doesn't have it, and else a value of its kind or one that counts
+-- What may stand under an attribute: null if the type doesn't have it, and else a value of its kind or one that counts
 -- as not set.
 abbrev pub IsGood : Option SchemaRow → Data → Type 0
 IsGood None value = value ≡ null

@@ -162,7 +162,7 @@ abbrev pub row_among : List SchemaRow → List ℕ → Option SchemaRow
 row_among [] name = None
 row_among (r ∷ rs) name = if bytes_eq name (attribute_name r.attribute) then Some r else row_among rs name
 
--- the row where there is one, and else another
+-- the row if there is one, and else another
 abbrev pub row_or : Option SchemaRow → Option SchemaRow → Option SchemaRow
 row_or (Some r) other = Some r
 row_or None other = other

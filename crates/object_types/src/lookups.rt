@@ -6,7 +6,7 @@ use crate::schema::COMMON;
 use crate::{ObjectType, SchemaRow};
 
 impl ObjectType {
-    /// What the schema says of the attribute of this name, be it the type's own or every object's; `None` where objects
+    /// What the schema says of the attribute of this name, be it the type's own or every object's; `None` if objects
     /// of the type don't have it. An inert type has only those that every object has, and says nothing of others.
     #[tactic(auto, unfolding(crate::specs::Schema::row_named))]
     pub fn row(self, name: &str) -> Option<SchemaRow>

@@ -56,7 +56,7 @@ static TYPES: [ObjectType; 22] = [
 ];
 
 impl ObjectType {
-    /// The type of this name; `None` where no type has it.
+    /// The type of this name; `None` if no type has it.
     #[tactic(auto, unfolding(crate::specs::Names::type_named))]
     pub fn of_name(name: &str) -> Option<ObjectType>
         ensures value { result ≡ type_named name.now }

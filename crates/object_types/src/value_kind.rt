@@ -17,7 +17,7 @@ pub enum ValueKind {
     Dict,
     /// A string, which a shell runs, or an array of strings.
     Command,
-    /// A dictionary in which `begin` and `end`, where they are set, are seconds from 0.
+    /// A dictionary in which `begin` and `end`, if they are set, are seconds from 0.
     Times,
     /// An array of names of states.
     States,

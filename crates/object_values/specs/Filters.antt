@@ -80,7 +80,7 @@ names_state items s = has_text (state_name s) items
 abbrev pub names_kind : Items → NoteKind → Bool
 names_kind items k = has_text (kind_name k) items
 
--- the states that an object of a type names; none where it names none, which is all
+-- the states that an object of a type names; none if it names none, which is all
 abbrev pub states_at : ObjectType → Attribute → Data → Option StateSet
 states_at t a d = option_map (λ items. set_of_states (names_state items)) (items_at t a d)
 

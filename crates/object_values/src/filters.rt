@@ -32,7 +32,7 @@ static KINDS: [NoteKind; 9] = [
 ];
 
 impl Attributes<'_> {
-    /// The states that are named; `None`, which is all, where none is set.
+    /// The states that are named; `None`, which is all, if none is set.
     pub fn states(
         &self,
         alloc: Global,
@@ -46,7 +46,7 @@ impl Attributes<'_> {
         }
     }
 
-    /// The kinds that are named; `None`, which is all, where none is set.
+    /// The kinds that are named; `None`, which is all, if none is set.
     pub fn kinds(&self, alloc: Global, attribute: Attribute) -> Result<Option<KindSet>, OutOfMemory>
         ensures { IfOk result (λ set. set ≡ kinds_at self.now.kind attribute (view self.now.tree.now)) }
     {

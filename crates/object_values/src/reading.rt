@@ -112,7 +112,7 @@ fn limit_of(value: Option<&Tree>) -> Option<u64>
     }
 }
 
-/// The string that a value is; `None` where it is none.
+/// The string that a value is; `None` if it is none.
 pub fn text_of(value: &Tree) -> Option<&str>
     ensures { option_copied result ≡ string_of (view value.now) }
 {

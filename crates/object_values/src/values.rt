@@ -55,14 +55,14 @@ impl<'a> Attributes<'a> {
         }
     }
 
-    /// The limit under a key, in whole seconds, rounded up; `None` where there is none.
+    /// The limit under a key, in whole seconds, rounded up; `None` if there is none.
     pub fn limit(&self, attribute: Attribute, key: &str) -> Option<u64>
         ensures { result ≡ limit_at self.now.kind attribute key.now (view self.now.tree.now) }
     {
         limit_in(key, self.set(attribute))
     }
 
-    /// The spans of time ranges; none where there are none.
+    /// The spans of time ranges; none if there are none.
     pub fn spans(&self, alloc: Global, attribute: Attribute) -> Result<Ranges, OutOfMemory>
         ensures { IfOk result (λ r. r ≡ spans_at self.now.kind attribute (view self.now.tree.now)) }
     {
@@ -72,7 +72,7 @@ impl<'a> Attributes<'a> {
         }
     }
 
-    /// The string that is set; `None` where none is.
+    /// The string that is set; `None` if none is.
     pub fn text(&self, attribute: Attribute) -> Option<&'a str>
         ensures { option_copied result ≡ text_at self.now.kind attribute (view self.now.tree.now) }
     {
@@ -82,7 +82,7 @@ impl<'a> Attributes<'a> {
         }
     }
 
-    /// The array that is set; `None` where none is.
+    /// The array that is set; `None` if none is.
     pub fn items(&self, attribute: Attribute) -> Option<&'a [Tree]>
         ensures { slice_view result ≡ items_at self.now.kind attribute (view self.now.tree.now) }
     {

@@ -41,7 +41,7 @@ impl OrderBook {
     ///
     /// # Errors
     ///
-    /// `OutOfMemory` where there is none for it; the book is then as before.
+    /// `OutOfMemory` if there is none for it; the book is then as before.
     pub fn give(&mut self, checkable: u32) -> Result<u64, OutOfMemory>
         requires { self.old.given < 2 ^ 64 - 1 }
         ensures number { IfOk result (λ n. n ≡ self.old.given + 1) }

@@ -16,7 +16,7 @@ use std::alloc::Global;
 ///
 /// # Errors
 ///
-/// `OutOfMemory` where there is none for the answer. The posts are gone then.
+/// `OutOfMemory` if there is none for the answer. The posts are gone then.
 pub fn close_all<M: Machine>(
     alloc: Global,
     mut posts: Vec<Post<M>>,

@@ -19,7 +19,7 @@ pub struct Opened<M: Machine, W> {
 ///
 /// # Errors
 ///
-/// `OutOfMemory` where there is none for a post, or for what a caller has.
+/// `OutOfMemory` if there is none for a post, or for what a caller has.
 pub fn open_all<M: Machine, W: Drop>(
     alloc: Global,
     bases: Vec<Base<M, M::State>>,

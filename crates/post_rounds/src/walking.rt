@@ -14,7 +14,7 @@ use std::sync::Wait;
 ///
 /// # Errors
 ///
-/// `OutOfMemory` where there is none for what is seen, an event or an entry. The passes are gone then.
+/// `OutOfMemory` if there is none for what is seen, an event or an entry. The passes are gone then.
 pub fn walk<M: Machine, K: Maker<M>, R: Wait, G: Gate>(
     rt: &R,
     posts: &[Post<M>],

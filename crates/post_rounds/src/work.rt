@@ -42,7 +42,7 @@ pub trait Work: Sync {
 ///
 /// # Errors
 ///
-/// `OutOfMemory` where there is none for the answer, or for what a caller does.
+/// `OutOfMemory` if there is none for the answer, or for what a caller does.
 pub fn all_at_once<W: Work, R: Wait + Threads + Sync, G: Gate + Sync>(
     rt: &R,
     alloc: Global,

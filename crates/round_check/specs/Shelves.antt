@@ -9,7 +9,7 @@ abbrev pub items_or : {A : Type 0} → Option (Vec A Global) → List A
 items_or None = []
 items_or (Some v) = v.items
 
--- the list of a checkable, which is empty where none was begun
+-- the list of a checkable, which is empty if none was begun
 abbrev pub listed : {A : Type 0} → List (ℕ × Vec A Global) → ℕ → List A
 listed entries p = items_or (lookup (is_at (nat_cmp p)) entries)
 

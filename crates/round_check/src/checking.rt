@@ -32,7 +32,7 @@ use std::collections::BTreeMap;
 use time_range::Zone;
 
 /// The round that callers with these acts made at a moment, by what is told of its entries: which checkables got entries, by ascending
-/// index and each its own by number, who made them, and how far their callers saw. `None` where there is no such round; the books are
+/// index and each its own by number, who made them, and how far their callers saw. `None` if there is no such round; the books are
 /// spent then. The books are the checkables of the site, one each by index, and have no entry after the moment. The answer tells the
 /// entries.
 ///
@@ -40,7 +40,7 @@ use time_range::Zone;
 ///
 /// # Errors
 ///
-/// `OutOfMemory` where there is none for an entry or for what is kept of the round. The books are then spent.
+/// `OutOfMemory` if there is none for an entry or for what is kept of the round. The books are then spent.
 pub fn round_given(
     alloc: Global,
     site: &Site,
@@ -100,7 +100,7 @@ fn events_in(alloc: Global, acts: &[Act]) -> Result<Shelf<Event>, OutOfMemory>
     Ok(events)
 }
 
-/// What is kept once all that is told was made, in this order. `None` where it can't be.
+/// What is kept once all that is told was made, in this order. `None` if it can't be.
 fn made_of(
     setting: &Setting,
     books: &mut Vec<Checkable>,

@@ -95,7 +95,7 @@ fn list_at<T: Drop>(shelves: &[Shelf<T>], caller: u32, checkable: u32) -> &[T]
     }
 }
 
-/// What was seen at the sights that are told. `None` where they aren't of the ancestors of the checkable, or one is of less than stood
+/// What was seen at the sights that are told. `None` if they aren't of the ancestors of the checkable, or one is of less than stood
 /// there before the round or of more than stands.
 fn sights_told(
     setting: &Setting,
@@ -143,7 +143,7 @@ fn are_of(sights: &[Sight], checkables: &[u32]) -> bool
     true
 }
 
-/// What was seen at a sight. `None` where it is of less than stood there before the round, or of more than stands.
+/// What was seen at a sight. `None` if it is of less than stood there before the round, or of more than stands.
 fn view_told(books: &[Checkable], views: &Shelf<View>, sight: &Sight) -> Option<View>
     requires { sight.now.checkable < length books.now }
     ensures { (s : PlainSite) (now : ℕ) (before round : Histories) → AreBooks s now books.now → AreViews s before round views.now.lists.entries → histories_of books.now ≡ joined before round →

@@ -17,7 +17,7 @@ pub(crate) struct Ranked {
     pub(crate) told: Told,
 }
 
-/// What is told, so that what is told of ancestors comes first. `None` where something is told of no checkable of the site.
+/// What is told, so that what is told of ancestors comes first. `None` if something is told of no checkable of the site.
 pub(crate) fn parents_first(
     alloc: Global,
     site: &Site,

@@ -9,7 +9,7 @@ ghost use Rattle.run_examples.specs.Rows.{order, orders_of, statuses};
 ghost use Rattle.run_examples.specs.Histories.{at, results};
 ghost use Rattle.run_examples.specs.Checks.{checked, checks_behind, checks_of, four, free_service, held_service, logs_without, one_service, three};
 
-/// All that are due are ordered by their index, where they are due since the same moment. The order whose macro is missing
+/// All that are due are ordered by their index, if they are due since the same moment. The order whose macro is missing
 /// is reported by the next turn itself, and so is checked again only after its interval; a report of it from outside is
 /// refused.
 pub fn first_orders()

@@ -13,7 +13,7 @@ pub record Asked : Type 0 where
 abbrev pub Histories : Type 0
 Histories = List (List Entry)
 
--- one of many lists; the empty one where there is none
+-- one of many lists; the empty one if there is none
 abbrev pub of_index : {A : Type 0} → ℕ → List (List A) → List A
 of_index k [] = []
 of_index zero (xs ∷ xss) = xs

@@ -150,7 +150,7 @@ abbrev pub switched_to : Option Bool → Bool → Bool
 switched_to None before = before
 switched_to (Some on) before = on
 
--- as the last switch left it; on, where there is none
+-- as the last switch left it; on, if there is none
 abbrev pub switched : (Event → Option Bool) → List Entry → Bool
 switched switch [] = true
 switched switch (e ∷ back) = switched_to (switch e.event) (switched switch back)

@@ -58,7 +58,7 @@ pub fn each_event_goes_to_one_caller()
     ensures { (callers : ℕ) (lines : List Asked) (reports : List Taken) (ticks : List Asked) → 1 ≤ callers → IsPermutation (lines ++ (map (λ t. t.asked) reports ++ ticks)) (flat_map (λ events. events) (dealt callers lines reports ticks)) }
 {}
 
-/// Each report is taken or refused, and of an order at most one is taken: one, where it is outstanding and has a report.
+/// Each report is taken or refused, and of an order at most one is taken: one, if it is outstanding and has a report.
 pub fn each_report_is_taken_or_refused()
     ensures one { (os : List Outstanding) (rs : List Reported) → IsPermutation (map (λ r. r.order) rs) (map (λ t. t.order) (taken_reports os rs) ++ orders_refused (report_refusals os rs)) }
     ensures outstanding { (os : List Outstanding) (rs : List Reported) (o : ℕ) → is_some (checkable_of o os) ≡ true → list_any (nat_eq o) (map (λ r. r.order) rs) ≡ true → list_any (nat_eq o) (map (λ t. t.order) (taken_reports os rs)) ≡ true }

@@ -15,7 +15,7 @@ pub fn slots_are_by_looking_back()
         slice_get (stage_by (basis_of s holds command feed) (start s given) ts ls).plans.slots k ≡ Some (slot_back c (back_by s holds command feed k c [] (start s given) ts ls)) }
 {}
 
-/// A checkable has an order that is outstanding by the reports, as the stage counts them, exactly where it has one by its
+/// A checkable has an order that is outstanding by the reports, as the stage counts them, exactly if it has one by its
 /// entries, as the schedule does.
 pub fn outstanding_orders_are_the_same()
     ensures { (s : PlainSite) (holds : ℕ → ℕ → Bool) (command : ℕ → Command) (feed : Feed) (callers : ℕ) (given : Histories) (ts : List ReadTurn) (ls : List TurnLog) → IsRun (basis_of s holds command feed) callers (start s given) ts ls → AskCommands feed ts → (k : ℕ) (c : PlainCheck) → slice_get s.checkables k ≡ Some c →

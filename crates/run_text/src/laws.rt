@@ -29,7 +29,7 @@ pub fn lines_ask_for_commands()
 {}
 
 /// So in every run of a script's turns, whatever checks are ordered and however many callers there are, the schedule keeps
-/// of a checkable what looking back gives, has an order of it outstanding exactly where one is by its entries, and never
+/// of a checkable what looking back gives, has an order of it outstanding exactly if one is by its entries, and never
 /// more orders outstanding than may be.
 pub fn scripts_keep_the_schedule()
     ensures slots { (s : PlainSite) (holds : ℕ → ℕ → Bool) (command : ℕ → Command) (callers : ℕ) (given : Histories) (ts : List Turn) (ls : List TurnLog) → IsRun (basis_of s holds command nothing_fed) callers (start s given) (map (turn_read s) ts) ls → (k : ℕ) (c : PlainCheck) → slice_get s.checkables k ≡ Some c →

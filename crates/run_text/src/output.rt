@@ -9,7 +9,7 @@ use site_edge::{Sink, SinkFault};
 
 /// Writes the lines, each by one call, and then hands on all that is kept back.
 ///
-/// `Failed` comes only where a line could not be written or handed on; a prefix of the lines is written then.
+/// `Failed` comes only if a line could not be written or handed on; a prefix of the lines is written then.
 pub fn write_lines<S: Sink>(out: &mut S, lines: &[Text]) -> Result<(), SinkFault>
     ensures ok { OnOk result (Adds (concat lines.now) (S.written out.old) (S.written out.new)) }
     ensures through { OnOk result (S.kept_back out.new ≡ 0) }

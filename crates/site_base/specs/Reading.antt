@@ -17,7 +17,7 @@ unit_size unit =
     else if bytes_eq unit (codes "d") then Some (24 * 60 * 60 * 1000)
     else None
 
--- the digits behind the point, with the point; nothing where there are none
+-- the digits after the point, with the point; nothing if there are none
 abbrev pub pointed : List ℕ → List ℕ
 pointed [] = []
 pointed (d ∷ ds) = 46 ∷ d ∷ ds
@@ -28,7 +28,7 @@ pub record IsWritten (text whole behind unit : List ℕ) : Type 0 where
   pub digits : IsNumeral 10 whole
   pub more_digits : AllDigits 10 behind
 
--- a text that stands for so many thousandths: they are, times ten to the number of digits behind the point, all the
+-- a text that stands for so many thousandths: they are, times ten to the number of digits after the point, all the
 -- digits as one number, times the unit
 abbrev pub Spells : List ℕ → ℤ → Type 0
 Spells text (pos n) =
@@ -38,12 +38,12 @@ Spells text (negsuc n) = ⊥
 
 -- The same, calculated.
 
--- the digits behind the point with which a text begins; none where it begins in another way
+-- the digits after the point with which a text begins; none if it begins in another way
 abbrev pub digits_behind : List ℕ → List ℕ
 digits_behind [] = []
 digits_behind (b ∷ bs) = if b == 46 then take_while is_ascii_digit bs else []
 
--- all the digits as one number, times the unit, over ten for each digit behind the point, where that is whole
+-- all the digits as one number, times the unit, over ten for each digit after the point, if that is whole
 abbrev pub scaled : List ℕ → List ℕ → ℕ → Option ℤ
 scaled whole behind size =
     let product = digits_value 10 (whole ++ behind) * size in

@@ -8,7 +8,7 @@ pub struct Diag {
     pub number: ItemNo,
     pub place: Place,
     pub kind: DiagKind,
-    /// The whole detail as it is printed, quotes included; empty where there is none.
+    /// The whole detail as it is printed, quotes included; empty if there is none.
     pub text: Text,
 }
 

@@ -39,8 +39,8 @@ impl Num {
 
     /// The number that a text stands for: digits, then maybe `.` and digits, then maybe a unit. The units
     /// are `ms`, `s`, `m`, `h` and `d`, for thousandths, ones, minutes, hours and days in seconds. There
-    /// may be any number of digits. `None` where the text has another form, where what it stands for
-    /// is no whole number of thousandths, and where it is out of range: the greatest is
+    /// may be any number of digits. `None` if the text has another form, if what it stands for
+    /// is no whole number of thousandths, and if it is out of range: the greatest is
     /// `9223372036854775.807`.
     pub fn read(text: &str) -> Option<Num>
         ensures value { result ≡ number_read text.now }
@@ -50,7 +50,7 @@ impl Num {
         read_number(text.as_bytes())
     }
 
-    /// The sum; `None` where it is out of range.
+    /// The sum; `None` if it is out of range.
     pub fn plus(&self, other: &Num) -> Option<Num>
         ensures value { result ≡ sum_of self.now other.now }
         ensures undone { IfSome result (λ sum. difference_of sum other.now ≡ Some self.now) }
@@ -59,7 +59,7 @@ impl Num {
         Some(Num { thousandths })
     }
 
-    /// The difference; `None` where it is out of range.
+    /// The difference; `None` if it is out of range.
     pub fn minus(&self, other: &Num) -> Option<Num>
         ensures value { result ≡ difference_of self.now other.now }
         ensures undone { IfSome result (λ difference. sum_of difference other.now ≡ Some self.now) }
@@ -68,15 +68,15 @@ impl Num {
         Some(Num { thousandths })
     }
 
-    /// The product, cut toward zero to a whole number of thousandths; `None` where it is out of range.
+    /// The product, cut toward zero to a whole number of thousandths; `None` if it is out of range.
     pub fn times(&self, other: &Num) -> Option<Num>
         ensures { result ≡ product_of self.now other.now }
     {
         narrowed(wide_product(self.thousandths, other.thousandths) / 1000)
     }
 
-    /// The quotient, cut toward zero to a whole number of thousandths; `None` where it is out of
-    /// range, and where the divisor is 0.
+    /// The quotient, cut toward zero to a whole number of thousandths; `None` if it is out of
+    /// range, and if the divisor is 0.
     pub fn over(&self, divisor: &Num) -> Option<Num>
         ensures { result ≡ quotient_of self.now divisor.now }
     {
@@ -87,7 +87,7 @@ impl Num {
     }
 
     /// What is left when the divisor is taken away as often as the quotient says, cut toward zero to a
-    /// whole number: it has this number's sign. `None` where the divisor is 0.
+    /// whole number: it has this number's sign. `None` if the divisor is 0.
     pub fn rest(&self, divisor: &Num) -> Option<Num>
         ensures { result ≡ rest_of self.now divisor.now }
     {
@@ -99,7 +99,7 @@ impl Num {
         })
     }
 
-    /// Whole seconds, rounded up, of a number of seconds; `None` where it is negative.
+    /// Whole seconds, rounded up, of a number of seconds; `None` if it is negative.
     pub fn seconds(&self) -> Option<u64>
         ensures { result ≡ seconds_of self.now }
     {

@@ -38,7 +38,7 @@ fn digits_len(text: &[u8]) -> usize
     text.iter().take_while(|b| b.is_ascii_digit()).count()
 }
 
-/// The digits behind the point with which a text begins, and what follows them; a point without
+/// The digits after the point with which a text begins, and what follows them; a point without
 /// digits is part of what follows.
 fn split_fraction(text: &[u8]) -> (&[u8], &[u8])
     ensures digits { result.0.now ≡ digits_behind text.now }
@@ -69,7 +69,7 @@ fn thousandths_in(unit: &[u8]) -> Option<u64>
     }
 }
 
-/// The number that the digits before and behind the point stand for, in a unit of this size.
+/// The number that the digits before and after the point stand for, in a unit of this size.
 fn scaled_digits(whole: &[u8], behind: &[u8], size: u64) -> Option<Num>
     requires whole { AllDigits 10 whole.now }
     requires behind { AllDigits 10 behind.now }
@@ -91,7 +91,7 @@ fn total(units: u64, size: u64, part: u64) -> Option<Num>
     Some(Num::of(thousandths))
 }
 
-/// The thousandths that the digits behind the point stand for, if they are whole.
+/// The thousandths that the digits after the point stand for, if they are whole.
 fn part_of_unit(behind: &[u8], size: u64) -> Option<u64>
     requires digits { AllDigits 10 behind.now }
     requires greatest { size ≤ DAY }

@@ -53,12 +53,12 @@ pub record IsOneMore (s t : WalkState) : Type 0 where
   pub one : length t.names ≡ length s.names + 1
   pub order : t.order ≡ s.order
 
--- where there is a file to be followed, its index was added to the order
+-- if there is a file to be followed, its index was added to the order
 abbrev pub IsAdded : WalkState → WalkState → Option ℕ → Type 0
 IsAdded s t None = ⊥
 IsAdded s t (Some index) = t.order ≡ s.order ++ index ∷ []
 
--- a later moment, and the file that is to be followed was met; where there is none, a fault was told
+-- a later moment, and the file that is to be followed was met; if there is none, a fault was told
 pub record IsFound (s t : WalkState) (found : Option ℕ) : Type 0 where
   pub later : IsLater s t
   pub met : IfSome found (λ k. k < length t.names)

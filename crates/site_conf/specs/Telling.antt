@@ -12,7 +12,7 @@ use Rattle.conf_sources.specs.declared.inclusion.Inclusion.{Inclusion}
 abbrev pub following : Told → ℕ → ℕ → List ℕ → List Inclusion → WalkState → WalkState
 following all left index file is s = each_inclusion all (onward_at all left) left index file is s
 
--- what is told of an inclusion stands behind all that is told of those before it, and before all that is told of those behind it
+-- what is told of an inclusion stands behind all that is told of those before it, and before all that is told of those after it
 pub record StandInOrder (all : Told) (left index : ℕ) (file : List ℕ) (before : List Inclusion) (i : Inclusion) (behind : List Inclusion) (s : WalkState) : Type 0 where
   pub of_those_before : Grows s.diags (following all left index file before s).diags
   pub of_it : Grows (following all left index file before s).diags (following all left index file (before ++ i ∷ []) s).diags

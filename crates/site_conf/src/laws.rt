@@ -43,7 +43,7 @@ pub fn each_file_has_its_tree_or_its_fault()
 }
 
 /// Faults are told in walking order: what is told of an inclusion and of the files in it stands behind all that is told of the
-/// inclusions before it, and before all that is told of those behind it.
+/// inclusions before it, and before all that is told of those after it.
 pub fn faults_stand_in_walking_order()
     ensures { (all : Told) (left index : ℕ) (file : List ℕ) (before : List Inclusion) (i : Inclusion)
         (behind : List Inclusion) (s : WalkState) → StandInOrder all left index file before i behind s }

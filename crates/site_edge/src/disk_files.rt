@@ -110,7 +110,7 @@ fn is_missing(kind: ErrorKind) -> bool {
     )
 }
 
-/// The bytes of a file; `None` where it is missing.
+/// The bytes of a file; `None` if it is missing.
 fn read_whole<R: std::rt::Files + AllocGlobal>(
     rt: &R,
     name: &str,

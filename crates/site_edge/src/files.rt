@@ -8,10 +8,10 @@ use site_base::{Blob, Texts};
 
 /// A place that files are read from.
 pub trait Files {
-    /// The names and bytes of all files, where they are told.
+    /// The names and bytes of all files, if they are told.
     ghost told: { Self → Option (List (List ℕ × List ℕ)) };
 
-    /// The names that were read so far, one for each read, in order, where they are told.
+    /// The names that were read so far, one for each read, in order, if they are told.
     ghost reads: { Self → Option (List (List ℕ)) };
 
     /// How often a call has failed.
@@ -20,9 +20,9 @@ pub trait Files {
     /// No later call fails.
     ghost calm: { Self → Type 0 };
 
-    /// The bytes of the first file of that name; `None` where there is none.
+    /// The bytes of the first file of that name; `None` if there is none.
     ///
-    /// After an error the files count as read before. `Failed` comes only where the count of faults
+    /// After an error the files count as read before. `Failed` comes only if the count of faults
     /// rose in this call.
     fn read(&mut self, name: &str) -> Result<Option<Blob>, FileFault>
         ensures bytes { IfOk result (ReadsFile name.now (told self.old)) }
@@ -35,10 +35,10 @@ pub trait Files {
         ensures calm { calm self.old → calm self.new }
         ensures unfailing { calm self.old → result ≢ Err FileFault.Failed };
 
-    /// The paths of all files below a folder, at any depth, each once, in byte order; none where the
+    /// The paths of all files below a folder, at any depth, each once, in byte order; none if the
     /// folder is missing. The empty name is the folder in which the program runs.
     ///
-    /// `Failed` comes only where the count of faults rose in this call.
+    /// `Failed` comes only if the count of faults rose in this call.
     fn names(&mut self, dir: &str) -> Result<Texts, FileFault>
         ensures names { IfOk result (ListsNames dir.now (told self.old)) }
         ensures same { told self.new ≡ told self.old }

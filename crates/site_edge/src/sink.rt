@@ -7,7 +7,7 @@ use crate::SinkFault;
 
 /// A place that bytes are written to. What is put may be kept back, and counts as written all the same; a flush hands it on.
 pub trait Sink {
-    /// The bytes written, where they are told.
+    /// The bytes written, if they are told.
     ghost written: { Self → Option (List ℕ) };
 
     /// How many of the last bytes put are still kept back.
@@ -21,7 +21,7 @@ pub trait Sink {
 
     /// Writes all of the bytes, or after an error some prefix of them. They may be kept back until the next flush.
     ///
-    /// `Failed` comes only where the count of faults rose in this call.
+    /// `Failed` comes only if the count of faults rose in this call.
     fn put(&mut self, bytes: &[u8]) -> Result<(), SinkFault>
         ensures ok { OnOk result (Adds bytes.now (written self.old) (written self.new)) }
         ensures err { OnErr result (AddsPart bytes.now (written self.old) (written self.new)) }
@@ -34,7 +34,7 @@ pub trait Sink {
 
     /// Hands on what is still kept back, so that a reader of the output sees all that was put.
     ///
-    /// `Failed` comes only where the count of faults rose in this call.
+    /// `Failed` comes only if the count of faults rose in this call.
     fn flush(&mut self) -> Result<(), SinkFault>
         ensures through { OnOk result (kept_back self.new ≡ 0) }
         ensures kept { written self.new ≡ written self.old }

@@ -9,13 +9,13 @@ use crate::{Order, Turn, WorldError};
 
 /// What gives turns and runs check programs.
 pub trait World {
-    /// The turns that are left, where they are told.
+    /// The turns that are left, if they are told.
     ghost turns: { Self → Option (List Turn) };
 
-    /// The orders that were started, where they are told.
+    /// The orders that were started, if they are told.
     ghost started: { Self → Option (List Order) };
 
-    /// The orders with which `start` was called, call by call, where they are told.
+    /// The orders with which `start` was called, call by call, if they are told.
     ghost calls: { Self → Option (List (List Order)) };
 
     /// How often a call has failed.
@@ -24,9 +24,9 @@ pub trait World {
     /// No later call fails.
     ghost calm: { Self → Type 0 };
 
-    /// The next turn, which is taken off the turns left; `None` where there is none.
+    /// The next turn, which is taken off the turns left; `None` if there is none.
     ///
-    /// After an error the turns left are as before. `Failed` comes only where the count of faults
+    /// After an error the turns left are as before. `Failed` comes only if the count of faults
     /// rose in this call.
     fn next(&mut self) -> Result<Option<Turn>, WorldError>
         ensures ok { IfOk result (TakesFirst (turns self.old) (turns self.new)) }
@@ -41,7 +41,7 @@ pub trait World {
 
     /// Starts all of the orders, or after an error some prefix of them. A call that fails may be told or not.
     ///
-    /// `Failed` comes only where the count of faults rose in this call.
+    /// `Failed` comes only if the count of faults rose in this call.
     fn start(&mut self, orders: &[Order]) -> Result<(), WorldError>
         ensures ok { OnOk result (Adds orders.now (started self.old) (started self.new)) }
         ensures err { OnErr result (AddsPart orders.now (started self.old) (started self.new)) }

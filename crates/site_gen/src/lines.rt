@@ -10,7 +10,7 @@ use std::alloc::Global;
 ///
 /// # Errors
 ///
-/// `OutOfMemory` where there is none for them.
+/// `OutOfMemory` if there is none for them.
 pub fn lines_of(alloc: Global, objects: u64, counts: &Counts) -> Result<Texts, OutOfMemory>
     ensures { IfOk result (λ lines. lines ≡ count_lines objects counts.now) }
 {

@@ -10,7 +10,7 @@ use std::alloc::Global;
 ///
 /// # Errors
 ///
-/// `OutOfMemory` where there is none for it.
+/// `OutOfMemory` if there is none for it.
 pub fn root_text(alloc: Global, hosts: u32) -> Result<Text, OutOfMemory>
     ensures { IfOk result (λ t. t ≡ text_of hosts) }
 {

@@ -18,7 +18,7 @@ use turn_engine::Engine;
 ///
 /// # Errors
 ///
-/// `OutOfMemory` where there is none for the run.
+/// `OutOfMemory` if there is none for the run.
 pub fn count_run(alloc: Global, hosts: u32, site: Site) -> Result<Counts, OutOfMemory>
     requires sound { IsSound (site_view site) }
     requires few { length (site_view site).checkables < 2 ^ 32 - 1 }

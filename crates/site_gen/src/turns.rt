@@ -12,7 +12,7 @@ use std::alloc::Global;
 ///
 /// # Errors
 ///
-/// `OutOfMemory` where there is none for its lines.
+/// `OutOfMemory` if there is none for its lines.
 pub fn turn_of(alloc: Global, hosts: u32, number: u64) -> Result<Turn, OutOfMemory>
     requires number { number ≤ 6 }
     ensures { IfOk result (λ t. t ≡ turn_in hosts number) }

@@ -37,7 +37,7 @@ entries_in names k d = as_array d >>= entries_among names k
 
 -- Checkables.
 
--- of each checkable, by index, the entries that were told; none where it wasn't named
+-- of each checkable, by index, the entries that were told; none if it wasn't named
 abbrev pub Told : Type 0
 Told = List (Option (List Entry))
 

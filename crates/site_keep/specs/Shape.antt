@@ -29,7 +29,7 @@ saved_items (x ∷ xs) = item (saved_data x) (saved_items xs)
 abbrev pub state_data : List Saved → Data
 state_data xs = object (member (codes "checkables") (array (saved_items xs)) (member (codes "version") (number (unsigned 1)) no_members))
 
--- the values of two members with these names, where there are no others
+-- the values of two members with these names, if there are no others
 abbrev pub two_among : List ℕ → List ℕ → Members → Option (Data × Data)
 two_among first second no_members = None
 two_among first second (member k a no_members) = None

@@ -140,7 +140,7 @@ fn take_name(reader: &mut Reader<'_>, site: &Site) -> Result<u32, KeepError>
     }
 }
 
-/// Restores the checkable of this index with these entries, where they are its own and its place is empty.
+/// Restores the checkable of this index with these entries, if they are its own and its place is empty.
 fn restore_lines(
     alloc: Global,
     site: &Site,

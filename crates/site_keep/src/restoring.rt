@@ -35,7 +35,7 @@ use std::alloc::Global;
 ///
 /// `BadState` where the bytes are no state file of the site: they aren't UTF-8, or no JSON text of exactly the shape that
 /// [`save`](crate::save) gives; a name is none of the site's, or stands twice; a line is of no entry, or of one of another checkable; or
-/// `Checkable::restored` gives `BadHistory` of a checkable's entries. `OutOfMemory` where there is none for the value or the checkables.
+/// `Checkable::restored` gives `BadHistory` of a checkable's entries. `OutOfMemory` if there is none for the value or the checkables.
 pub fn restore(alloc: Global, bytes: &[u8], site: &Site) -> Result<Vec<Checkable>, KeepError>
     requires sound { IsSound (site_view site.now) }
     requires few { length site.now.checkables < 2 ^ 32 }

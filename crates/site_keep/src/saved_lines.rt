@@ -52,7 +52,7 @@ impl SavedLines {
     ///
     /// # Errors
     ///
-    /// `OutOfMemory` where there is none for a line.
+    /// `OutOfMemory` if there is none for a line.
     pub fn add(
         &mut self,
         alloc: Global,

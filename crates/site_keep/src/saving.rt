@@ -23,7 +23,7 @@ use std::alloc::Global;
 ///
 /// # Errors
 ///
-/// `OutOfMemory` where there is none for the text.
+/// `OutOfMemory` if there is none for the text.
 pub fn save(alloc: Global, site: &Site, lines: &[SavedLines]) -> Result<Text, OutOfMemory>
     requires whole { length lines.now ≡ length site.now.checkables }
     requires few { length site.now.checkables < 2 ^ 32 }

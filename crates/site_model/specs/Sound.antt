@@ -8,7 +8,7 @@ use Rattle.site_model.specs.declared.notify_spec.NotifySpec.{NotifySpec}
 abbrev pub IsIndex : ℕ → ℕ → Type 0
 IsIndex count k = k < count
 
--- an index where there is one, as a period that may be left out
+-- an index if there is one, as a period that may be left out
 abbrev pub IsIndexOrNone : ℕ → Option ℕ → Type 0
 IsIndexOrNone count place = IfSome place (IsIndex count)
 

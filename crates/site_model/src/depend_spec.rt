@@ -12,7 +12,7 @@ pub struct DependSpec {
     pub child: u32,
     /// The checkable on which it depends.
     pub parent: u32,
-    /// `redundancy_group`; `None` where it is in none.
+    /// `redundancy_group`; `None` if it is in none.
     pub group: Option<Text>,
     /// `disable_checks`: whether it holds back the child's checks.
     pub checks: bool,

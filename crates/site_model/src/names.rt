@@ -42,7 +42,7 @@ impl Names {
         self.set.len()
     }
 
-    /// The place of a name; `None` where it isn't there.
+    /// The place of a name; `None` if it isn't there.
     pub fn find(&self, name: &str) -> Option<u32>
         ensures value { result ≡ place_of name.now self.now }
         ensures place { IsPlaceOf name.now self.now result }

@@ -54,7 +54,7 @@ impl Site {
         }
     }
 
-    /// The place of the checkable with this full name; `None` where no checkable has it.
+    /// The place of the checkable with this full name; `None` if no checkable has it.
     pub fn find(&self, name: &str) -> Option<u32>
         ensures value { result ≡ place_of name.now self.now.names }
         ensures checkable { HasNames (site_view self.now) → IsPlaceOf name.now (full_names (site_view self.now)) result }

@@ -15,7 +15,7 @@ pub struct View {
     /// The check attempt, from 1.
     pub attempt: u32,
     /// The moment of the last result that made it a HARD problem or changed the state of one, also after
-    /// the problem's end; 0 where none did.
+    /// the problem's end; 0 if none did.
     pub change: Moment,
     pub ack: Ack,
     /// Whether active checks are on: they are set on, and weren't switched off last.

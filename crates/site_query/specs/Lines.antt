@@ -72,7 +72,7 @@ abbrev pub with_limit : Query → ℕ → Option ℕ → Option Query
 with_limit q n None = Some (record q { limit = Some n })
 with_limit q n (Some m) = None
 
--- what is asked for with one line more, where it may stand
+-- what is asked for with one line more, if it may stand
 abbrev pub with_line : Query → QueryLine → Option Query
 with_line q (line.Columns cs) = with_columns q cs q.columns
 with_line q (line.Filter f) = Some (record q { filters = q.filters ++ f ∷ [] })

@@ -28,7 +28,7 @@ lines_of text = slice_split (λ b. b == 10) text
 abbrev pub words_of : List ℕ → List (List ℕ)
 words_of text = slice_split (λ b. b == 32) text
 
--- the number of at most 19 digits that a text stands for, where it is at most so great
+-- the number of at most 19 digits that a text stands for, if it is at most so great
 abbrev pub number_read : ℕ → List ℕ → Option ℕ
 number_read most text = number_in (record any_number { most = most }) text
 

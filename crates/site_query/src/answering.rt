@@ -24,7 +24,7 @@ use std::alloc::Global;
 ///
 /// # Errors
 ///
-/// `OutOfMemory` where there is none for the text.
+/// `OutOfMemory` if there is none for the text.
 pub fn answer(
     alloc: Global,
     site: &Site,

@@ -19,11 +19,11 @@ pub enum Column {
     Flapping,
     /// `attempt`: the check attempt, from 1.
     Attempt,
-    /// `change`: when it became a HARD problem, or changed the state of one, in seconds from 1970; 0 where it never did.
+    /// `change`: when it became a HARD problem, or changed the state of one, in seconds from 1970; 0 if it never did.
     Change,
     /// `count`: the number of its entries.
     Count,
-    /// `downtime`: the number of the downtime in effect, which is that of the entry that began it; 0 where none is.
+    /// `downtime`: the number of the downtime in effect, which is that of the entry that began it; 0 if none is.
     Downtime,
 }
 

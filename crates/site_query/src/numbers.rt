@@ -8,7 +8,7 @@ ghost use Rattle.site_query.specs.Reading.{number_read};
 /// A number has at most so many digits.
 const MOST_DIGITS: usize = 19;
 
-/// The number that a text stands for, where it is digits alone, 1 to 19, and the number is at most so great.
+/// The number that a text stands for, if it is digits alone, 1 to 19, and the number is at most so great.
 pub(crate) fn read_number(text: &str, most: u64) -> Option<u64>
     ensures { result ≡ number_read most text.now }
 {

@@ -11,7 +11,7 @@ use std::alloc::Global;
 pub struct Query {
     /// Whether hosts are asked for; else services.
     pub hosts: bool,
-    /// What is told of each, in this order; name and state where there are none.
+    /// What is told of each, in this order; name and state if there are none.
     pub columns: Row<Column>,
     /// What each has to meet.
     pub filters: Row<Filter>,

@@ -23,8 +23,8 @@ use std::alloc::Global;
 ///
 /// # Errors
 ///
-/// `BadQuery` at the first line that is none of these in its place: at line 1 where there is none, and where the bytes aren't UTF-8.
-/// `OutOfMemory` where there is none for the query.
+/// `BadQuery` at the first line that is none of these in its place: at line 1 if there is none, and where the bytes aren't UTF-8.
+/// `OutOfMemory` if there is none for the query.
 pub fn read_query(alloc: Global, bytes: &[u8]) -> Result<Query, QueryError>
     ensures value { Gives result (query_read bytes.now) }
     ensures told { Tells (Has bytes.now) result }

@@ -46,7 +46,7 @@ kind_text kind.BadScript = codes "BadScript"
 kind_text kind.BadQuery = codes "BadQuery"
 kind_text kind.BadState = codes "BadState"
 
--- a blank and the detail, where there is one
+-- a blank and the detail, if there is one
 abbrev pub detail_text : List ℕ → List ℕ
 detail_text [] = []
 detail_text (b ∷ bs) = 32 ∷ b ∷ bs

@@ -111,7 +111,7 @@ abbrev pub parts_text : Bool → List (List ℕ) → List ℕ
 parts_text later [] = []
 parts_text later (part ∷ parts) = (if later then codes ", " else []) ++ (part ++ parts_text true parts)
 
--- the parts joined, and a dash where there are none
+-- the parts joined, and a dash if there are none
 abbrev pub list_text : List (List ℕ) → List ℕ
 list_text [] = codes "-"
 list_text (part ∷ parts) = parts_text false (part ∷ parts)

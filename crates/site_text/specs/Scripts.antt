@@ -31,7 +31,7 @@ with_report r t = record t { reports = t.reports ++ r ∷ [] }
 abbrev pub with_command : List ℕ → Turn → Turn
 with_command text t = record t { lines = t.lines ++ text ∷ [] }
 
--- the turns with another last one; none where there are none
+-- the turns with another last one; none if there are none
 abbrev pub with_last : List Turn → (Turn → Turn) → Option Turn → Option (List Turn)
 with_last ts f None = None
 with_last ts f (Some t) = Some (slice_set ts (length ts - 1) (f t))
@@ -45,7 +45,7 @@ with_line ts (line.Turn moment) = Some (ts ++ empty_turn moment ∷ [])
 with_line ts (line.Report r) = on_last (with_report r) ts
 with_line ts (line.Line text) = on_last (with_command text) ts
 
--- the turns behind these lines; none where there is no turn that a line could go to
+-- the turns behind these lines; none if there is no turn that a line could go to
 abbrev pub with_lines : List Turn → List ScriptLine → Option (List Turn)
 with_lines ts [] = Some ts
 with_lines ts (l ∷ ls) = option_and_then (λ us. with_lines us ls) (with_line ts l)

@@ -12,7 +12,7 @@ use crate::unquoting::behind_byte;
 const MOST_DIGITS: usize = 20;
 
 /// The number of 64 bits at the front of some bytes, written in decimal digits without a leading zero,
-/// and what stands behind it; `None` where no digit stands there, or the digits are of no such number.
+/// and what stands behind it; `None` if no digit stands there, or the digits are of no such number.
 #[tactic(auto, unfolding(crate::specs::Wholes::whole_at))]
 pub fn read_whole(bytes: &[u8]) -> Option<(u64, &[u8])>
     ensures { MatchOption result (whole_at bytes.now ≡ bad) (λ x. whole_at bytes.now ≡ got x.0 x.1.now) }

@@ -5,7 +5,7 @@ ghost use Rattle.site_text.specs.Diags.{diag_line, kind_text, detail_text};
 use site_base::{Diag, DiagKind, OutOfMemory, Text, Texts};
 use std::alloc::Global;
 
-/// The line of a diagnostic: the file, line and column of its place, its kind and, where there is
+/// The line of a diagnostic: the file, line and column of its place, its kind and, if there is
 /// one, its detail, with a newline. The place's file is its index in `files`.
 pub fn print_diag(alloc: Global, diag: &Diag, files: &Texts) -> Result<Text, OutOfMemory>
     requires { diag.now.place.file < length files.now }
@@ -23,7 +23,7 @@ pub fn print_diag(alloc: Global, diag: &Diag, files: &Texts) -> Result<Text, Out
     Ok(out)
 }
 
-/// Adds a blank and the detail, where there is one.
+/// Adds a blank and the detail, if there is one.
 fn push_detail(out: &mut Text, detail: &str) -> Result<(), OutOfMemory>
     ensures { OnOk result (out.new ≡ out.old ++ detail_text detail.now) }
 {

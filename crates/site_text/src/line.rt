@@ -33,7 +33,7 @@ impl Line {
     ///
     /// # Errors
     ///
-    /// `OutOfMemory` where there is none for its room.
+    /// `OutOfMemory` if there is none for its room.
     pub fn new(alloc: Global) -> Result<Line, OutOfMemory>
         ensures { IfOk result (λ l. l ≡ []) }
     {
@@ -47,7 +47,7 @@ impl Line {
     ///
     /// # Errors
     ///
-    /// `OutOfMemory` where there is none for the text.
+    /// `OutOfMemory` if there is none for the text.
     pub fn into_text(self) -> Result<Text, OutOfMemory>
         ensures { IfOk result (λ t. t ≡ self) }
     {
@@ -64,7 +64,7 @@ impl Line {
     ///
     /// # Errors
     ///
-    /// `OutOfMemory` where there is none for it.
+    /// `OutOfMemory` if there is none for it.
     pub fn push(&mut self, c: char) -> Result<(), OutOfMemory>
         ensures ok { OnOk result (self.new ≡ self.old ++ encode_utf8 c) }
         ensures ascii { c < 128 → encode_utf8 c ≡ c ∷ [] }
@@ -77,7 +77,7 @@ impl Line {
     ///
     /// # Errors
     ///
-    /// `OutOfMemory` where there is none for it.
+    /// `OutOfMemory` if there is none for it.
     pub fn push_str(&mut self, more: &str) -> Result<(), OutOfMemory>
         ensures { OnOk result (self.new ≡ self.old ++ more.now) }
     {
@@ -89,7 +89,7 @@ impl Line {
     ///
     /// # Errors
     ///
-    /// `OutOfMemory` where there is none for them; some of them may stand there then.
+    /// `OutOfMemory` if there is none for them; some of them may stand there then.
     #[tactic(auto, using(std::proofs::lemmas::Fmt::decimal_digit))]
     pub fn push_decimal(&mut self, number: u64) -> Result<(), OutOfMemory>
         ensures { OnOk result (self.new ≡ self.old ++ decimal number) }
@@ -105,7 +105,7 @@ impl Line {
     ///
     /// # Errors
     ///
-    /// `OutOfMemory` where there is none for it; the front of it may stand there then.
+    /// `OutOfMemory` if there is none for it; the front of it may stand there then.
     #[tactic(auto, using(crate::proofs::Lines::quoted_as_it_is))]
     pub fn push_quoted(&mut self, text: &str) -> Result<(), OutOfMemory>
         ensures { OnOk result (self.new ≡ self.old ++ quoted text.now) }

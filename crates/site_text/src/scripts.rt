@@ -20,7 +20,7 @@ use std::alloc::Global;
 /// most 11 and an order's at most 19. Texts are spelled as [`site_base::quote`] spells them, where bytes
 /// above 127 stand as they are, UTF-8 or not. The first line begins a turn, and an empty script has none.
 ///
-/// `BadScript` at the first line that is none, or that has no turn to go to; `OutOfMemory` where there is no
+/// `BadScript` at the first line that is none, or that has no turn to go to; `OutOfMemory` if there is no
 /// memory for the turns. The time is linear in the number of bytes.
 pub fn read_script(alloc: Global, bytes: &[u8]) -> Result<Row<Turn>, ScriptError>
     ensures value { Gives result (script_from [] 0 bytes.now) }
@@ -49,7 +49,7 @@ fn read_lines(alloc: Global, bytes: &[u8]) -> Result<Row<Turn>, ScriptError>
     Ok(Row::from(turns))
 }
 
-/// Begins a turn, or adds to the last one; `false` where there is none.
+/// Begins a turn, or adds to the last one; `false` if there is none.
 fn take_line(alloc: Global, turns: &mut Vec<Turn>, line: ScriptLine) -> Result<bool, OutOfMemory>
     ensures { IfOk result (λ taken. MatchBool taken (with_line turns.old.items line ≡ Some turns.new.items) (with_line turns.old.items line ≡ None)) }
 {

@@ -49,7 +49,7 @@ fn front_len(bytes: &[u8]) -> usize
     bytes.iter().take_while(|byte| stands(**byte)).count()
 }
 
-/// What stands behind this byte, where it stands first.
+/// What stands behind this byte, if it stands first.
 pub(crate) fn behind_byte(bytes: &[u8], byte: u8) -> Option<&[u8]>
     ensures value { MatchOption result (byte_at byte bytes.now ≡ None) (λ x. byte_at byte bytes.now ≡ Some x.now) }
     ensures shorter { IfSome result (λ x. length x.now ≤ length bytes.now) }

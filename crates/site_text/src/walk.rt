@@ -132,7 +132,7 @@ fn push_key(out: &mut Text, later: bool, key: &str) -> Result<(), OutOfMemory>
     out.push(':')
 }
 
-/// The first of some things and the rest; `None` where there is none.
+/// The first of some things and the rest; `None` if there is none.
 fn next_of<T>(things: &[T]) -> Option<(&T, &[T])>
     ensures { MatchOption result (things.now ≡ []) (λ x. things.now ≡ x.0.now ∷ x.1.now) }
 {

@@ -48,7 +48,7 @@ workers_in w = few_workers (whole_at w)
 abbrev pub AreWorkers : ℕ → Type 0
 AreWorkers k = (1 ≤ k) × (k ≤ 64)
 
--- what is told, where nothing was told so far
+-- what is told, if nothing was told so far
 abbrev pub once : {A : Type 0} → Option A → Option A → Option A
 once None now = now
 once (Some before) now = None

@@ -31,7 +31,7 @@ impl Options {
         }
     }
 
-    /// With one option more that has a value; `None` where it isn't one, its value is none of its values, or it was given before.
+    /// With one option more that has a value; `None` if it isn't one, its value is none of its values, or it was given before.
     pub(crate) fn with(self, option: &Text, value: &Text) -> Option<Options>
         ensures value { result ≡ with_option self option.now value.now }
         ensures few { AreFew self → IfSome result AreFew }
@@ -43,7 +43,7 @@ impl Options {
         }
     }
 
-    /// With downtimes that recur; `None` where that was asked for before.
+    /// With downtimes that recur; `None` if that was asked for before.
     pub(crate) fn with_recur(self) -> Option<Options>
         ensures value { result ≡ recurring self }
         ensures few { AreFew self → IfSome result AreFew }

@@ -13,7 +13,7 @@ use site_base::{Day, OutOfMemory, Ranges, Row, Text, Tree};
 use std::alloc::Global;
 
 /// The spans that the attribute `ranges` of a time period stands for, in the order of its keys and,
-/// under one key, as written; none where it is null.
+/// under one key, as written; none if it is null.
 ///
 /// A key is a day of the week in lower case or a date `YYYY-MM-DD`. Its value is a text of spans
 /// `HH:MM-HH:MM` joined by commas: the start is before the end, which is at most `24:00`, and
@@ -22,7 +22,7 @@ use std::alloc::Global;
 /// # Errors
 ///
 /// `BadRange` names the first key for which that isn't so: the least in byte order, since the keys
-/// of a dictionary stand in that order. `OutOfMemory` where there is none for the spans.
+/// of a dictionary stand in that order. `OutOfMemory` if there is none for the spans.
 pub fn read_ranges(alloc: Global, tree: &Tree) -> Result<Ranges, RangeFault>
     requires { CanRead (view tree.now) }
     // What is read is what the keys and their texts say, and what they say is read, unless memory

@@ -40,7 +40,7 @@ fn push_pieces(out: &mut Ranges, day: Day, text: &[u8]) -> Result<bool, OutOfMem
     Ok(true)
 }
 
-/// What stands before the first comma, or all where there is none.
+/// What stands before the first comma, or all if there is none.
 fn first_piece(text: &[u8]) -> &[u8]
     ensures { result.now ≡ first_piece text.now }
 {

@@ -50,7 +50,7 @@ impl Zone {
     /// # Errors
     ///
     /// `BadZone` where the reader of `jiff` refuses the bytes: they have another form, or their
-    /// rule contradicts their table. `OutOfMemory` where there is none for the table.
+    /// rule contradicts their table. `OutOfMemory` if there is none for the table.
     pub fn of_file(alloc: Global, bytes: &[u8]) -> Result<Zone, ZoneFault>
         ensures file { IfOk result (λ zone. MatchOption zone ⊥ (IsTableOf bytes.now)) }
         ensures bad { IsErrOf result ZoneFault.BadZone → IsBadFile bytes.now }
@@ -68,8 +68,8 @@ impl Zone {
 
     /// The moment at which a clock of the zone shows the civil time so many seconds after the
     /// midnight with which a day begins, the day as days since 1970-01-01. The offset before a gap
-    /// or a fold counts: of two such moments it is the earlier, and where there is none, because
-    /// clocks are set forward, it is the one that a clock not set forward would give. `None` where
+    /// or a fold counts: of two such moments it is the earlier, and if there is none, because
+    /// clocks are set forward, it is the one that a clock not set forward would give. `None` if
     /// that is no `Moment`, or the day is none from the year -9999 to 9999.
     pub fn instant(&self, day: i32, second: u32) -> Option<Moment>
         requires { second ≤ 86_400 }

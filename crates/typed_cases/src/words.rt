@@ -21,7 +21,7 @@ pub(crate) fn push_number(out: &mut Text, word: &str, number: u64) -> Result<(),
     out.push_decimal(number)
 }
 
-/// Adds a word and a number behind it, where there is one.
+/// Adds a word and a number behind it, if there is one.
 pub(crate) fn push_limit(
     out: &mut Text,
     word: &str,
@@ -33,7 +33,7 @@ pub(crate) fn push_limit(
     }
 }
 
-/// Adds a word and a place in a list behind it, where there is one.
+/// Adds a word and a place in a list behind it, if there is one.
 pub(crate) fn push_place(
     out: &mut Text,
     word: &str,

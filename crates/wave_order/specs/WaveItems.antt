@@ -21,7 +21,7 @@ as_registered i = pending.Registered i
 abbrev pub as_made : Instance → Pending
 as_made i = pending.Made i
 
--- one thing, where it is kept
+-- one thing, if it is kept
 abbrev pub kept : {A : Type 0} → Bool → A → List A
 kept b a = if b then a ∷ [] else []
 

@@ -1,5 +1,5 @@
 -- A finite map from ids below a capacity to moments: a list with a place for each id, which holds
--- the id's moment, or `None` where the id is no member.
+-- the id's moment, or `None` if the id is no member.
 use Rattle.std.specs.Prelude.{ℕ, List, Option, Some, None, IsSome, is_some, length, count_by, replicate, slice_index_or, slice_set}
 
 abbrev pub Members : Type 0

@@ -3,7 +3,7 @@
 use Rattle.std.specs.Prelude.{◌≡◌, ◌≢◌, ℕ, ◌+◌, ◌-◌, ◌*◌, ◌^◌, ◌<◌, ◌≤◌, nat_lt, List, Option, Some, None, min, length, slice_index_or, if◌then◌else◌}
 use Rattle.wheel_links.specs.Members.{Members, capacity_of, moment_of}
 
--- the lesser of two moments, where there are such
+-- the lesser of two moments, if there are such
 abbrev pub lesser : Option ℕ → Option ℕ → Option ℕ
 lesser (Some a) (Some b) = Some (min a b)
 lesser (Some a) None = Some a

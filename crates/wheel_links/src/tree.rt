@@ -97,7 +97,7 @@ fn depth_for(capacity: u32) -> u32
     u32::BITS - capacity.saturating_sub(1).leading_zeros()
 }
 
-/// The lesser of two moments, where there are such.
+/// The lesser of two moments, if there are such.
 fn lesser(a: Option<Moment>, b: Option<Moment>) -> Option<Moment>
     ensures { result ≡ lesser a b }
 {

@@ -73,7 +73,7 @@ impl Wheel {
         self.count
     }
 
-    /// Makes an id a member with this moment. `Present` comes exactly where it is a member
+    /// Makes an id a member with this moment. `Present` comes exactly if it is a member
     /// already. It takes at most sixteen steps, and no memory.
     pub fn place<L: Ledger>(
         &mut self,
@@ -95,7 +95,7 @@ impl Wheel {
         Ok(())
     }
 
-    /// Takes a member off the wheel, and gives its moment. `Absent` comes exactly where the id is
+    /// Takes a member off the wheel, and gives its moment. `Absent` comes exactly if the id is
     /// no member. It takes at most sixteen steps, and no memory.
     pub fn remove<L: Ledger>(&mut self, id: u32, steps: &mut Steps<L>) -> Result<Moment, Absent>
         requires { id < capacity_of self.old }
@@ -111,7 +111,7 @@ impl Wheel {
         Ok(moment)
     }
 
-    /// Gives a member another moment, and gives its old one. `Absent` comes exactly where the id is
+    /// Gives a member another moment, and gives its old one. `Absent` comes exactly if the id is
     /// no member. It takes at most sixteen steps, and no memory.
     pub fn move_to<L: Ledger>(
         &mut self,
@@ -134,7 +134,7 @@ impl Wheel {
     }
 
     /// The id of the member that is due first: the least by moment, then by id, among those whose
-    /// moment is at or before this one. `None` comes exactly where there is none. It looks at as
+    /// moment is at or before this one. `None` comes exactly if there is none. It looks at as
     /// many nodes as `due_counting`.
     pub fn due(&self, moment: Moment) -> Option<u32>
         ensures none { IfNone result (IsNoneDue self.now moment) }
