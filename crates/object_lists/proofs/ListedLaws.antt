@@ -1,15 +1,15 @@
 -- The objects of a type, gathered one by one.
-use Rattle.std.proofs.Common.{◌≡◌, ℕ, ◌+◌, ◌<◌, Bool, true, false, cond, List, [], ◌∷◌, ◌++◌, length, map, drop, get_or, Option, Some, None, is_some, refl, sym, ap, ◌∙◌, append_assoc, append-nil}
+use Rattle.std.proofs.Common.{◌≡◌, ℕ, ◌+◌, ◌<◌, ◌≤◌, Bool, true, false, cond, List, [], ◌∷◌, ◌++◌, length, map, drop, get_or, Option, Some, None, is_some, refl, sym, ap, ◌∙◌, append_assoc, append-nil, arith, length-append}
 use Rattle.std.specs.List.{list_any}
 use Rattle.std.specs.Str.{bytes_eq}
-use Rattle.std.proofs.lemmas.List.{map-append}
+use Rattle.std.proofs.lemmas.List.{length-map, map-append}
 use Rattle.site_model.specs.Names.{place_of}
 use Rattle.site_model.specs.PlainSite.{PlainObject, object_view}
 use Rattle.site_model.specs.declared.object.Object.{Object}
 use Rattle.object_types.specs.declared.object_type.ObjectType.{ObjectType}
 use Rattle.conf_check.specs.Keys.{is_of, name_of, of_type}
 use Rattle.conf_check.proofs.KeyLaws.{is_found}
-use Rattle.object_lists.specs.Listed.{added_by, firsts_behind, names_with}
+use Rattle.object_lists.specs.Listed.{added_by, firsts_behind, listed, names_with}
 use Rattle.object_lists.proofs.Steps.{next}
 
 kept : (names : List (List ℕ)) (o : PlainObject) (os : List PlainObject) (b : Bool)
@@ -36,6 +36,34 @@ names_grow t o os = by (is_of t o) (list_any (bytes_eq o.name) (map name_of os))
     by true false = sym (map-append name_of os (o ∷ []))
     by false c = same
 
+-- ---- their number
+
+pub firsts_short : (taken : List (List ℕ)) (os : List PlainObject) → length (firsts_behind taken os) ≤ length os
+firsts_short taken [] = omega arith
+firsts_short taken (o ∷ os) = by (firsts_short taken os) (firsts_short (taken ++ o.name ∷ []) os) (list_any (bytes_eq o.name) taken)
+  where
+    by : length (firsts_behind taken os) ≤ length os → length (firsts_behind (taken ++ o.name ∷ []) os) ≤ length os → (b : Bool)
+        → length (cond b (firsts_behind taken os) (o ∷ firsts_behind (taken ++ o.name ∷ []) os)) ≤ length (o ∷ os)
+    by same more true = omega arith
+    by same more false = omega arith
+
+pub listed_short : (t : ObjectType) (os : List PlainObject) → length (listed t os) ≤ length (of_type t os)
+unfolding listed
+listed_short t os = firsts_short [] (of_type t os)
+
+pub type_short : (t : ObjectType) (os : List PlainObject) → length (of_type t os) ≤ length os
+type_short t [] = omega arith
+type_short t (o ∷ os) = by (type_short t os) (is_of t o)
+  where
+    by : length (of_type t os) ≤ length os → (b : Bool) → length (cond b (o ∷ of_type t os) (of_type t os)) ≤ length (o ∷ os)
+    by rest true = omega arith
+    by rest false = omega arith
+
+pub listed_few : (t : ObjectType) (os : List PlainObject) → length (listed t os) ≤ length os
+listed_few t os = let first = listed_short t os in let second = type_short t os in omega (arith, first, second)
+
+-- ---- one after another
+
 -- these are the objects of a type so far, and with those of the rest they are all
 pub record IsListed (t : ObjectType) (names : List (List ℕ)) (found rest all : List PlainObject) : Type 0 where
   pub whole : found ++ firsts_behind names (of_type t rest) ≡ all
@@ -60,6 +88,18 @@ one_more t objects i o names more was now all inside same grows grown so_far =
           ∙ sym (ap (λ ns. map name_of (was ++ added_by t ns (object_view o))) so_far.named)
           ∙ sym (ap (map name_of) grown);
     }
+
+-- names of those so far are no more than all objects
+pub names_few : (t : ObjectType) (objects : List Object) (names : List (List ℕ)) (found rest : List PlainObject) → IsListed t names found rest (firsts_behind [] (of_type t (map object_view objects)))
+    → length names ≤ length objects
+names_few t objects names found rest so_far =
+    let os = map object_view objects in
+    let named : length names ≡ length (map name_of found) = ap length so_far.named in
+    let whole : length (found ++ firsts_behind names (of_type t rest)) ≡ length (firsts_behind [] (of_type t os)) = ap length so_far.whole in
+    let split : length (found ++ firsts_behind names (of_type t rest)) ≡ length found + length (firsts_behind names (of_type t rest)) = length-append found (firsts_behind names (of_type t rest)) in
+    let first = firsts_short [] (of_type t os) in
+    let second = type_short t os in
+    omega (arith, named, whole, split, first, second, length-map found name_of, length-map objects object_view)
 
 -- a name that has a place is taken, and one without is new
 pub is_taken : (n : List ℕ) (names : List (List ℕ)) (found : Option ℕ) (b c : Bool) → found ≡ place_of n names → b ≡ is_some found → b ≡ c → list_any (bytes_eq n) names ≡ c

@@ -7,6 +7,7 @@
 //! whom a notification tells.
 #![tactic(auto)]
 
+mod group_names;
 mod listed;
 mod members;
 mod periods;

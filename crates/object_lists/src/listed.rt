@@ -1,5 +1,5 @@
 // The objects of one type.
-ghost use Rattle.std.specs.Prelude.{◌≡◌, ◌++◌, map, IfOk, OnOk};
+ghost use Rattle.std.specs.Prelude.{◌≡◌, ◌++◌, ◌<◌, ◌^◌, ◌-◌, length, map, IfOk, OnOk};
 ghost use Rattle.site_base.specs.View.{view};
 ghost use Rattle.site_model.specs.Names.{with_name};
 ghost use Rattle.site_model.specs.PlainSite.{object_view};
@@ -11,9 +11,6 @@ use site_base::{OutOfMemory, Text};
 use site_model::{Names, Object};
 use std::alloc::Global;
 
-/// There is memory for no more names.
-const MOST_NAMES: usize = u32::MAX as usize;
-
 /// The objects of one type, of those with one name the first, and the names of these.
 #[derive(Drop)]
 pub struct Listed<'a> {
@@ -23,13 +20,15 @@ pub struct Listed<'a> {
     pub objects: Vec<&'a Object>,
 }
 
-/// Those of all objects that are of a type, in their order.
+/// Those of all objects that are of a type, in their order. There are fewer than 4,294,967,295 objects, so each name has a
+/// place.
 #[tactic(auto, unfolding(crate::specs::Listed::listed))]
 pub fn all_of<'a>(
     alloc: Global,
     kind: ObjectType,
     objects: &'a [Object],
 ) -> Result<Listed<'a>, OutOfMemory>
+    requires few { length objects.now < 2 ^ 32 - 1 }
     ensures names { IfOk result (λ l. l.names ≡ listed_names kind (map object_view objects.now)) }
     ensures objects { IfOk result (λ l. lent_view l.objects.items ≡ listed kind (map object_view objects.now)) }
 {
@@ -46,6 +45,7 @@ pub fn all_of<'a>(
 impl<'a> Listed<'a> {
     /// Takes an object, if it is of a type.
     fn take(&mut self, kind: ObjectType, object: &'a Object) -> Result<(), OutOfMemory>
+        requires { length self.old.names < 2 ^ 32 - 1 }
         ensures names { OnOk result (self.new.names ≡ names_with kind self.old.names (object_view object.now)) }
         ensures objects { OnOk result (lent_view self.new.objects.items
             ≡ lent_view self.old.objects.items ++ added_by kind self.old.names (object_view object.now)) }
@@ -59,6 +59,7 @@ impl<'a> Listed<'a> {
 
     /// Adds an object, unless its name is taken.
     fn add(&mut self, object: &'a Object) -> Result<(), OutOfMemory>
+        requires { length self.old.names < 2 ^ 32 - 1 }
         ensures names { OnOk result (self.new.names ≡ with_name object.now.name self.old.names) }
         ensures objects { OnOk result (lent_view self.new.objects.items
             ≡ lent_view self.old.objects.items ++ unless_taken self.old.names (object_view object.now)) }
@@ -72,13 +73,11 @@ impl<'a> Listed<'a> {
     }
 }
 
-/// Adds a name where it isn't there.
+/// Adds a name if it isn't there. Of fewer than 4,294,967,295 names each has a place, and one more has one too.
 pub fn add_name(names: &mut Names, name: &Text) -> Result<(), OutOfMemory>
+    requires { length names.old < 2 ^ 32 - 1 }
     ensures { OnOk result (names.new ≡ with_name name.now names.old) }
 {
-    if names.len() >= MOST_NAMES {
-        return Err(OutOfMemory);
-    }
     names.add(name.clone()?)?;
     Ok(())
 }

@@ -1,5 +1,5 @@
 // The members of user groups.
-ghost use Rattle.std.specs.Prelude.{◌≡◌, ◌<◌, ◌++◌, ◌∷◌, [], ℕ, List, Some, None, IfOk, OnOk, length, slice_set};
+ghost use Rattle.std.specs.Prelude.{◌≡◌, ◌<◌, ◌≤◌, ◌^◌, ◌++◌, ◌∷◌, [], ℕ, List, Some, None, IfOk, OnOk, length, slice_set};
 ghost use Rattle.std.specs.Option.{option_copied, option_to_list};
 ghost use Rattle.site_base.specs.View.{items_view};
 ghost use Rattle.site_model.specs.Names.{place_of};
@@ -8,33 +8,29 @@ ghost use Rattle.object_lists.specs.Listed.{lent_view};
 ghost use Rattle.object_lists.specs.Members.{AreMembers, list_at};
 ghost use Rattle.object_lists.specs.Users.{in_groups, members, memberships_from};
 
+use crate::group_names::GroupNames;
 use object_types::{Attribute, ObjectType};
 use object_values::{Attributes, text_of};
-use site_base::{OutOfMemory, Row, Text, Tree};
-use site_model::{Names, Object};
+use site_base::{OutOfMemory, Row, Tree};
+use site_model::Object;
 use std::alloc::Global;
-
-/// So many groups or users are too many.
-const MOST: usize = u32::MAX as usize;
 
 /// The groups of users by their names, each with the places of its members in their order.
 #[derive(Drop)]
 pub struct Members {
-    names: Names,
+    names: GroupNames,
     lists: Vec<Row<u32>>,
 }
 
-/// The groups that these users are in.
+/// The groups that these users are in. There are at most 4,294,967,296 users, so each has a place; of groups there may be more.
 pub fn members_of(alloc: Global, users: &[&Object]) -> Result<Members, OutOfMemory>
+    requires few { length users.now ≤ 2 ^ 32 }
     ensures { IfOk result (AreMembers (memberships_from 0 (lent_view users.now))) }
 {
     let mut members = Members {
-        names: Names::new(alloc),
+        names: GroupNames::new(alloc),
         lists: Vec::new(alloc),
     };
-    if users.len() > MOST {
-        return Err(OutOfMemory);
-    }
     for place in 0..users.len() {
         let set = Attributes {
             kind: ObjectType::User,
@@ -51,7 +47,7 @@ impl Members {
         ensures { (ms : List (List ℕ × ℕ)) → AreMembers ms self.now → result.now ≡ members ms group.now }
     {
         match self.names.find(group) {
-            Some(place) => self.at(place as usize),
+            Some(place) => self.at(place),
             None => &[],
         }
     }
@@ -97,15 +93,15 @@ impl Members {
         ensures { (ms : List (List ℕ × ℕ)) → AreMembers ms self.old
             → OnOk result (AreMembers (ms ++ (group.now, user) ∷ []) self.new) }
     {
-        let place = self.place(alloc, group)? as usize;
+        let place = self.place(alloc, group)?;
         if place < self.lists.len() {
             push_at(&mut self.lists, place, user)?;
         }
         Ok(())
     }
 
-    /// The place of a group, which is added without members where it isn't there.
-    fn place(&mut self, alloc: Global, group: &str) -> Result<u32, OutOfMemory>
+    /// The place of a group, which is added without members if it isn't there.
+    fn place(&mut self, alloc: Global, group: &str) -> Result<usize, OutOfMemory>
         ensures place { IfOk result (λ k. place_of group.now self.new.names ≡ Some k) }
         ensures same { (ms : List (List ℕ × ℕ)) → AreMembers ms self.old → OnOk result (AreMembers ms self.new) }
     {
@@ -115,15 +111,12 @@ impl Members {
         }
     }
 
-    fn new_place(&mut self, alloc: Global, group: &str) -> Result<u32, OutOfMemory>
+    fn new_place(&mut self, alloc: Global, group: &str) -> Result<usize, OutOfMemory>
         requires { place_of group.now self.old.names ≡ None }
         ensures place { IfOk result (λ k. place_of group.now self.new.names ≡ Some k) }
         ensures same { (ms : List (List ℕ × ℕ)) → AreMembers ms self.old → OnOk result (AreMembers ms self.new) }
     {
-        if self.names.len() >= MOST {
-            return Err(OutOfMemory);
-        }
-        let place = self.names.add(Text::copy_of(alloc, group)?)?;
+        let place = self.names.add(String::from_str(alloc, group)?)?;
         self.lists.push(Row::new(alloc))?;
         Ok(place)
     }

@@ -1,5 +1,5 @@
 // All phases, one after another.
-ghost use Rattle.std.specs.Prelude.{◌≡◌, ◌<◌, ◌^◌, Bool, [], ◌∷◌, All, map, length, IfOk};
+ghost use Rattle.std.specs.Prelude.{◌≡◌, ◌<◌, ◌^◌, ◌-◌, Bool, [], ◌∷◌, All, map, length, IfOk};
 ghost use Rattle.std.specs.Bool.{Decides};
 ghost use Rattle.site_model.specs.PlainSite.{object_view, site_view};
 ghost use Rattle.site_model.specs.Sound.{IsSound};
@@ -17,7 +17,7 @@ use std::alloc::Global;
 use typed_site::typed_site;
 
 /// What all objects of a configuration come to, which stand in committed order and in these files: a site, or what is wrong with
-/// them together.
+/// them together. There are fewer than 4,294,967,294 of them, so that each has a place.
 ///
 /// The diagnostics of one phase alone are told, the first that has any: `Duplicate`, `NoReference`, `DependencyCycle`, and
 /// last `BadConst` and `BadZone` of the constants.
@@ -28,6 +28,7 @@ pub fn last_phases(
     globals: Globals,
 ) -> Result<Answer, OutOfMemory>
     requires placed { All (λ o. o.place.file < length files) objects }
+    requires few { length objects < 2 ^ 32 - 2 }
     // Whether the zone's file is one is what its reader says.
     ensures value { (bad : Bool) → Decides bad (AreBadBytes (settings_of (globals_view globals)).zone)
         → IfOk result (λ a. answer_view a ≡ last_part files (globals_view globals) (map object_view objects) bad) }

@@ -1,20 +1,23 @@
 -- What the parts of a site come to together.
-use Rattle.std.proofs.Common.{◌≡◌, ◌≢◌, ℕ, zero, suc, ◌+◌, ◌-◌, ◌^◌, ◌<◌, ◌≤◌, List, [], ◌∷◌, ◌++◌, length, map, All, AllPairs, Option, refl, sym, ap, ◌∙◌, subst, arith}
+use Rattle.std.proofs.Common.{◌≡◌, ◌≢◌, ℕ, zero, suc, ◌+◌, ◌-◌, ◌^◌, ◌<◌, ◌≤◌, List, [], ◌∷◌, ◌++◌, length, map, All, AllPairs, Option, refl, sym, ap, ◌∙◌, subst, arith, length-append}
 use Rattle.std.specs.Borrow.{Bor}
 use Rattle.std.specs.List.{flat_map}
 use Rattle.std.specs.Option.{option_to_list}
 use Rattle.std.proofs.lemmas.List.{length-map}
 use Rattle.site_base.specs.declared.period_spec.PeriodSpec.{PeriodSpec}
-use Rattle.site_model.specs.PlainSite.{PlainCheck, PlainCommand, PlainObject, PlainSite, object_view}
+use Rattle.site_model.specs.PlainSite.{PlainCheck, PlainCommand, PlainObject, PlainSite, check_view, object_view}
 use Rattle.site_model.specs.Sound.{IsSound}
+use Rattle.site_model.specs.declared.check_spec.CheckSpec.{CheckSpec}
 use Rattle.site_model.specs.declared.depend_spec.DependSpec.{DependSpec}
 use Rattle.site_model.specs.declared.notify_spec.NotifySpec.{NotifySpec}
 use Rattle.site_model.specs.declared.object.Object.{Object}
 use Rattle.site_model.specs.declared.user_spec.UserSpec.{UserSpec}
+use Rattle.object_types.specs.declared.object_type.ObjectType.{ObjectType}
 use Rattle.object_types.specs.declared.object_type.ObjectType.TheVariants as object
 use Rattle.object_lists.specs.Listed.{lent_view, listed, listed_names}
 use Rattle.object_lists.specs.Periods.{periods}
 use Rattle.object_lists.specs.Users.{memberships, memberships_from, user_of, users}
+use Rattle.object_lists.proofs.ListedLaws.{listed_few}
 use Rattle.typed_site.specs.Checks.{check_name, checkables, commands, host_check, hosts, service_check, services}
 use Rattle.typed_site.specs.Depends.{depend_of, depends}
 use Rattle.typed_site.specs.Notifies.{notifies, notify_of}
@@ -79,6 +82,32 @@ hosts_apart os names cs none is = subst (AllPairs (λ x y. x ≢ y)) (sym (ap (�
 pub services_apart : (os : List PlainObject) (names : List (List ℕ)) (cs : List PlainCheck) → names ≡ map check_name (hosts os) → cs ≡ services os → AllPairs (λ x y. x ≢ y) (names ++ map check_name cs)
 services_apart os names cs first is =
     subst (AllPairs (λ x y. x ≢ y)) (sym (ap (λ ns. ns ++ map check_name cs) first ∙ ap (λ xs. map check_name (hosts os) ++ map check_name xs) is)) (all_distinct os)
+
+-- there are no more of them than objects
+
+pub hosts_few : (os : List PlainObject) (names : List (List ℕ)) (specs : List CheckSpec) → names ≡ [] → map check_view specs ≡ hosts os → length names + length specs ≤ length os
+unfolding checkables
+hosts_few os names specs none is =
+    let all = few_checks os in
+    let split : length (hosts os ++ services os) ≡ length (hosts os) + length (services os) = length-append (hosts os) (services os) in
+    let same : length (map check_view specs) ≡ length (hosts os) = ap length is in
+    let empty : length names ≡ 0 = ap length none in
+    omega (arith, all, split, same, empty, length-map specs check_view)
+
+pub services_few : (os : List PlainObject) (names : List (List ℕ)) (specs : List CheckSpec) → names ≡ map check_name (hosts os) → map check_view specs ≡ services os → length names + length specs ≤ length os
+unfolding checkables
+services_few os names specs first is =
+    let all = few_checks os in
+    let split : length (hosts os ++ services os) ≡ length (hosts os) + length (services os) = length-append (hosts os) (services os) in
+    let same : length (map check_view specs) ≡ length (services os) = ap length is in
+    let before : length names ≡ length (map check_name (hosts os)) = ap length first in
+    omega (arith, all, split, same, before, length-map (hosts os) check_name, length-map specs check_view)
+
+pub lent_few : (t : ObjectType) (os : List PlainObject) (lent : List (Bor Object)) → lent_view lent ≡ listed t os → length lent ≤ length os
+lent_few t os lent is =
+    let all = listed_few t os in
+    let same : length (lent_view lent) ≡ length (listed t os) = ap length is in
+    omega (arith, all, same, length-map lent (λ (o : Bor Object). object_view o.now))
 
 map_append : {A B : Type 0} (f : A → B) (xs ys : List A) → map f (xs ++ ys) ≡ map f xs ++ map f ys
 map_append f [] ys = refl

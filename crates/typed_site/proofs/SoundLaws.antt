@@ -27,6 +27,7 @@ use Rattle.object_lists.specs.Listed.{both, firsts_behind, listed, listed_names,
 use Rattle.object_lists.specs.Periods.{own_spans, period_of, periods, periods_among}
 use Rattle.object_lists.specs.Receivers.{members_named, receivers, users_named, with_new}
 use Rattle.object_lists.specs.Users.{in_groups, members, memberships, memberships_from, user_name, user_of, users}
+use Rattle.object_lists.proofs.ListedLaws.{firsts_short, listed_short, type_short}
 use Rattle.object_lists.proofs.NewLaws.{new_all, new_once}
 use Rattle.typed_site.specs.Checks.{check_made, check_name, checkables, command_of, commands, host_check, hosts, one_at_least, service_check, service_made, services}
 use Rattle.typed_site.specs.Depends.{depend_made, depend_name, depend_of, depends, full_name, target_at}
@@ -58,15 +59,6 @@ kept_short {A} {B} f (x ∷ xs) = by (kept_short f xs) (f x)
     by rest None = omega arith
     by rest (Some y) = omega arith
 
-firsts_short : (taken : List (List ℕ)) (os : List PlainObject) → length (firsts_behind taken os) ≤ length os
-firsts_short taken [] = omega arith
-firsts_short taken (o ∷ os) = by (firsts_short taken os) (firsts_short (taken ++ o.name ∷ []) os) (list_any (bytes_eq o.name) taken)
-  where
-    by : length (firsts_behind taken os) ≤ length os → length (firsts_behind (taken ++ o.name ∷ []) os) ≤ length os → (b : Bool)
-        → length (cond b (firsts_behind taken os) (o ∷ firsts_behind (taken ++ o.name ∷ []) os)) ≤ length (o ∷ os)
-    by same more true = omega arith
-    by same more false = omega arith
-
 -- objects of two types are no more than all
 two_types : (p q : PlainObject → Bool) → ((o : PlainObject) → p o ≡ true → q o ≡ false) → (os : List PlainObject) → length (filter p os) + length (filter q os) ≤ length os
 two_types p q never [] = omega arith
@@ -78,18 +70,6 @@ two_types p q never (o ∷ os) = by (two_types p q never os) (p o) (q o) (never 
     by rest true false other = omega arith
     by rest false true other = omega arith
     by rest false false other = omega arith
-
-listed_short : (t : ObjectType) (os : List PlainObject) → length (listed t os) ≤ length (of_type t os)
-unfolding listed
-listed_short t os = firsts_short [] (of_type t os)
-
-type_short : (t : ObjectType) (os : List PlainObject) → length (of_type t os) ≤ length os
-type_short t [] = omega arith
-type_short t (o ∷ os) = by (type_short t os) (is_of t o)
-  where
-    by : length (of_type t os) ≤ length os → (b : Bool) → length (cond b (o ∷ of_type t os) (of_type t os)) ≤ length (o ∷ os)
-    by rest true = omega arith
-    by rest false = omega arith
 
 names_differ : (t : ObjectType) (os : List PlainObject) → Differ (listed_names t os)
 unfolding listed

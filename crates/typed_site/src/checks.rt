@@ -1,5 +1,5 @@
 // Check commands, hosts and services.
-ghost use Rattle.std.specs.Prelude.{◌≡◌, ◌≢◌, ◌++◌, ◌+◌, ◌<◌, ◌^◌, length, map, AllPairs, IfOk, OnOk, None};
+ghost use Rattle.std.specs.Prelude.{◌≡◌, ◌≢◌, ◌++◌, ◌+◌, ◌-◌, ◌<◌, ◌^◌, length, map, AllPairs, IfOk, OnOk, None};
 ghost use Rattle.std.specs.Option.{option_map, option_to_list};
 ghost use Rattle.std.specs.List.{flat_map};
 ghost use Rattle.std.specs.Arc.{arc_value};
@@ -181,7 +181,8 @@ fn one_at_least(attempts: u32) -> u32
 
 /// Adds the names of these checkables, which are new.
 pub(crate) fn add_names(names: &mut Names, specs: &[CheckSpec]) -> Result<(), OutOfMemory>
-    requires { AllPairs (λ x y. x ≢ y) (names.old ++ map check_name (map check_view specs.now)) }
+    requires few { length names.old + length specs.now < 2 ^ 32 - 1 }
+    requires new { AllPairs (λ x y. x ≢ y) (names.old ++ map check_name (map check_view specs.now)) }
     ensures { OnOk result (names.new ≡ names.old ++ map check_name (map check_view specs.now)) }
 {
     for spec in specs {

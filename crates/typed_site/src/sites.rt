@@ -21,9 +21,6 @@ use site_base::{OutOfMemory, PeriodSpec, Row, Texts};
 use site_model::{CheckSpec, CommandSpec, DependSpec, Names, NotifySpec, Object, Site, UserSpec};
 use std::alloc::Global;
 
-/// There is memory for no more objects.
-const MOST_OBJECTS: usize = u32::MAX as usize - 1;
-
 /// The commands and periods of a site, with their names.
 #[derive(Drop)]
 struct Bases {
@@ -52,7 +49,8 @@ struct Around {
 ///
 /// Each name in an object stands for the place of the object that it names. What a name stands for that is no object's is
 /// left out, and so is each object but the first of one type and name; after `duplicates` and `references` (conf_check) told
-/// nothing, that is none. The time is linear in the objects, the names in them and the members of the groups in them.
+/// nothing, that is none. There are fewer than 4,294,967,294 objects, so that each has a place. The time is linear in the objects, the
+/// names in them and the members of the groups in them.
 pub fn typed_site(
     alloc: Global,
     files: Texts,
@@ -60,15 +58,13 @@ pub fn typed_site(
     settings: Settings,
 ) -> Result<Site, OutOfMemory>
     requires placed { All (λ o. o.place.file < length files) objects }
+    requires few { length objects < 2 ^ 32 - 2 }
     requires some_order { 1 ≤ settings.max_orders }
     requires most_orders { settings.max_orders ≤ 65535 }
     ensures value { IfOk result (λ s. site_view s ≡ site_of files (settings_view settings) (map object_view objects)) }
     ensures sound { IfOk result (λ s. IsSound (site_view s)) }
     ensures few { IfOk result (λ s. length (site_view s).checkables < 2 ^ 32 - 1) }
 {
-    if objects.len() >= MOST_OBJECTS {
-        return Err(OutOfMemory);
-    }
     let bases = bases_of(alloc, objects.as_slice())?;
     let checks = checks_of(alloc, &bases, objects.as_slice())?;
     let around = around_of(
@@ -95,6 +91,7 @@ pub fn typed_site(
 
 #[tactic(auto, unfolding(crate::specs::Checks::commands, object_lists::specs::Periods::periods))]
 fn bases_of(alloc: Global, objects: &[Object]) -> Result<Bases, OutOfMemory>
+    requires few { length objects.now < 2 ^ 32 - 2 }
     ensures commands { IfOk result (λ b. map command_view b.commands ≡ commands (map object_view objects.now)) }
     ensures command_names { IfOk result (λ b. b.command_names ≡ listed_names object.CheckCommand (map object_view objects.now)) }
     ensures periods { IfOk result (λ b. b.periods ≡ periods (map object_view objects.now)) }
@@ -113,6 +110,7 @@ fn bases_of(alloc: Global, objects: &[Object]) -> Result<Bases, OutOfMemory>
 /// The hosts and then the services.
 #[tactic(auto, unfolding(crate::specs::Checks::checkables))]
 fn checks_of(alloc: Global, bases: &Bases, objects: &[Object]) -> Result<Checks, OutOfMemory>
+    requires few { length objects.now < 2 ^ 32 - 2 }
     requires command_names { bases.now.command_names ≡ listed_names object.CheckCommand (map object_view objects.now) }
     requires period_names { bases.now.period_names ≡ listed_names object.TimePeriod (map object_view objects.now) }
     ensures specs { IfOk result (λ c. map check_view c.specs.items ≡ checkables (map object_view objects.now)) }
@@ -128,6 +126,7 @@ fn checks_of(alloc: Global, bases: &Bases, objects: &[Object]) -> Result<Checks,
 
 #[tactic(auto, unfolding(crate::specs::Checks::hosts))]
 fn hosts_of(alloc: Global, known: Known<'_>, objects: &[Object]) -> Result<Checks, OutOfMemory>
+    requires few { length objects.now < 2 ^ 32 - 2 }
     requires command_names { known.commands.now ≡ listed_names object.CheckCommand (map object_view objects.now) }
     requires period_names { known.periods.now ≡ listed_names object.TimePeriod (map object_view objects.now) }
     ensures specs { IfOk result (λ c. map check_view c.specs.items ≡ hosts_in (map object_view objects.now)) }
@@ -148,6 +147,7 @@ fn with_services(
     hosts: Checks,
     objects: &[Object],
 ) -> Result<Checks, OutOfMemory>
+    requires few { length objects.now < 2 ^ 32 - 2 }
     requires command_names { known.commands.now ≡ listed_names object.CheckCommand (map object_view objects.now) }
     requires period_names { known.periods.now ≡ listed_names object.TimePeriod (map object_view objects.now) }
     requires specs { map check_view hosts.specs.items ≡ hosts_in (map object_view objects.now) }
@@ -175,6 +175,7 @@ fn around_of(
     checkables: &Names,
     objects: &[Object],
 ) -> Result<Around, OutOfMemory>
+    requires few { length objects.now < 2 ^ 32 - 2 }
     requires periods { periods.now ≡ listed_names object.TimePeriod (map object_view objects.now) }
     requires checkables { checkables.now ≡ map check_name (checkables_in (map object_view objects.now)) }
     ensures users { IfOk result (λ a. a.users ≡ users (map object_view objects.now)) }

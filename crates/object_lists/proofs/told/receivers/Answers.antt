@@ -1,4 +1,4 @@
-use Rattle.std.proofs.Common.{[], ◌++◌, ap, ◌∙◌, sym}
+use Rattle.std.proofs.Common.{[], ap, ◌∙◌, sym}
 use Rattle.site_base.specs.View.{view}
 use Rattle.object_types.specs.declared.attribute.Attribute.TheVariants as attribute
 use Rattle.object_types.specs.declared.object_type.ObjectType.TheVariants as object

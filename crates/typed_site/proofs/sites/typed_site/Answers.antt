@@ -1,4 +1,4 @@
-use Rattle.std.proofs.Common.{map, ap, ◌∙◌, arith}
+use Rattle.std.proofs.Common.{map, ap, ◌∙◌}
 use Rattle.site_model.specs.PlainSite.{check_view, object_view}
 use Rattle.object_lists.specs.Periods.{periods}
 use Rattle.object_lists.specs.Users.{users}
@@ -22,7 +22,7 @@ returns-clause-value c =
 
 pub returns-clause-sound : goal.returns-clause-sound
 returns-clause-sound c =
-    is_sound c.args.files (settings_view c.args.settings) c.args.objects _ c.requires.placed (omega (arith, c.len.ensures)) c.requires.some_order c.requires.most_orders (returns-clause-value c)
+    is_sound c.args.files (settings_view c.args.settings) c.args.objects _ c.requires.placed c.requires.few c.requires.some_order c.requires.most_orders (returns-clause-value c)
 
 pub returns-clause-few : goal.returns-clause-few
-returns-clause-few c = are_few c.args.files (settings_view c.args.settings) c.args.objects _ (omega (arith, c.len.ensures)) (returns-clause-value c)
+returns-clause-few c = are_few c.args.files (settings_view c.args.settings) c.args.objects _ c.requires.few (returns-clause-value c)

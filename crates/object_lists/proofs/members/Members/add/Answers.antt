@@ -6,11 +6,11 @@ use Rattle.object_lists.proofs.members.Members.add.Goals as goal
 
 pub returns-in_ok-push_at : goal.returns-in_ok-push_at
 returns-in_ok-push_at c = λ ms are.
-    grown ms c.place.new.self _ c.args.group.now c.args.user c.in_ok-place.field-0 (c.in_ok-place.ensures.same ms are) c.in_ok-place.ensures.place refl c.in_ok-push_at.ensures
+    grown ms c.place.new.self _ c.args.group.now c.args.user c.in_ok-place.place (c.in_ok-place.ensures.same ms are) c.in_ok-place.ensures.place refl c.in_ok-push_at.ensures
 
 pub returns-else-place-len : goal.returns-else-place-len
 returns-else-place-len c = λ ms are.
     let all = c.in_ok-place.ensures.same ms are in
-    let low = place_below c.args.group.now c.place.new.self.names c.in_ok-place.field-0 c.in_ok-place.ensures.place in
+    let low = place_below c.args.group.now c.place.new.self.names c.in_ok-place.place c.in_ok-place.ensures.place in
     let level = all.level in
     absurd (omega (arith, low, level))

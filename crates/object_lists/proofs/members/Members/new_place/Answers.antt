@@ -11,6 +11,6 @@ returns-clause-same c = λ ms are.
     let group = c.args.group.now in
     with_group ms c.args.self.now _ group are
     (c.in_ok-place.ensures.names
-    ∙ ap (λ n. with_name n names) c.in_ok-copy_of.ensures
+    ∙ ap (λ n. with_name n names) c.in_ok-from_str.ensures.ok
     ∙ ap (λ b. cond b names (names ++ group ∷ [])) (is_new group names c.requires))
     (c.in_ok-push.ensures.items ∙ ap (λ r. c.args.self.now.lists.items ++ r ∷ []) c.new.ensures)
