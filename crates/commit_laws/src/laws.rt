@@ -2,8 +2,10 @@
 ghost use Rattle.std.specs.Prelude.{◌≡◌, ℕ, List, [], All, map};
 ghost use Rattle.site_base.specs.declared.diag.Diag.{Diag};
 ghost use Rattle.site_model.specs.PlainSite.{PlainObject, PlainSite};
+ghost use Rattle.dsl_value.specs.declared.value.Value.{Value};
 ghost use Rattle.eval_meaning.specs.Registered.{PlainFile};
-ghost use Rattle.eval_meaning.specs.Load.{Loaded, load_run};
+ghost use Rattle.eval_meaning.specs.Load.{Loaded, load_run, loaded};
+ghost use Rattle.eval_meaning.specs.States.{State, gives};
 ghost use Rattle.eval_meaning.specs.Registration.{types};
 ghost use Rattle.eval_meaning.specs.Views.{View, IsWorld};
 ghost use Rattle.site_model.specs.Sound.{AreDistinct};
@@ -49,6 +51,12 @@ pub fn a_commit_loses_nothing()
 /// No two items of a wave have one number, and numbers rise in committed order, those of targets too.
 pub fn numbers_rise()
     ensures { (load : Loaded) → IsRegistered load → RisesThroughout load }
+{}
+
+/// Whatever files a load runs: if it ends without a fault, its commit loses nothing, and numbers its items as `numbers_rise` says.
+pub fn a_commit_of_files_loses_nothing()
+    ensures loses_nothing { (phases : List PlainObject → List (List Diag)) (last : List PlainObject → PlainSite) (files : List PlainFile) (order : List ℕ) (v : Value) (s : State) → load_run files order ≡ gives v s → CommitLosesNothing (loaded s) (commit phases last (loaded s)) }
+    ensures rises { (files : List PlainFile) (order : List ℕ) (v : Value) (s : State) → load_run files order ≡ gives v s → RisesThroughout (loaded s) }
 {}
 
 /// Of objects whose full names differ in each type no duplicate is told, and where each name in an object is that of one, no missing name is. Together with

@@ -9,7 +9,7 @@
 mod laws;
 
 pub use laws::{
-    a_commit_loses_nothing, a_load_registers_by_types, a_load_takes_all_types,
-    a_wave_loses_nothing, a_world_answers_every_task, numbers_rise,
+    a_commit_loses_nothing, a_commit_of_files_loses_nothing, a_load_registers_by_types,
+    a_load_takes_all_types, a_wave_loses_nothing, a_world_answers_every_task, numbers_rise,
     objects_that_stand_have_no_faults,
 };

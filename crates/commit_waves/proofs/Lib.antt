@@ -4,5 +4,6 @@ pub mod NamedLaws
 pub mod WaveLaws
 pub mod SplitLaws
 pub mod CommitLaws
+mod FewLaws
 pub mod WaveSteps
 pub mod WaveRuns

@@ -1,5 +1,5 @@
 // A commit.
-ghost use Rattle.std.specs.Prelude.{◌≡◌, ◌<◌, ◌++◌, Bool, All, [], length, map, true, IfOk};
+ghost use Rattle.std.specs.Prelude.{◌≡◌, ◌<◌, ◌^◌, ◌-◌, ◌++◌, Bool, All, [], length, map, true, IfOk};
 ghost use Rattle.std.specs.Bool.{Decides};
 ghost use Rattle.object_types.specs.Names.{all_types, type_name};
 ghost use Rattle.site_model.specs.PlainSite.{object_view};
@@ -182,7 +182,8 @@ fn with_objects(objects: Vec<Object>, more: Vec<Object>) -> Result<Vec<Object>, 
 
 /// The last phases over all objects.
 fn finish(alloc: Global, loaded: Loaded, objects: Vec<Object>) -> Result<Answer, OutOfMemory>
-    requires { IsLoad loaded.parts }
+    requires load { IsLoad loaded.parts }
+    requires few { length objects.items < 2 ^ 32 - 2 }
     ensures value { (bad : Bool) → Decides bad (AreBadBytes (settings_of (globals_of loaded.parts.store.cells loaded.zone)).zone)
         → IfOk result (λ a. answer_view a ≡ last_part loaded.files (globals_of loaded.parts.store.cells loaded.zone) (map object_view objects.items) bad) }
     ensures files { IfOk result (FilesStay loaded.files) }

@@ -81,7 +81,8 @@ fn run<F: Files>(alloc: Global, files: &mut F, walk: Walk) -> Result<LoadAnswer,
     match eval_files(alloc, &sources, &order) {
         Ok(parts) => with_zone(alloc, files, names, parts),
         Err(Stop::Fault { place, kind, text }) => Ok(refused(alloc, names, place, kind, text)?),
-        Err(Stop::Blocked(_) | Stop::Memory) => Err(LoadFault::OutOfMemory),
+        Err(Stop::Blocked(_)) => unreachable!(),
+        Err(Stop::Memory) => Err(LoadFault::OutOfMemory),
     }
 }
 

@@ -9,6 +9,9 @@ use site_model::Site;
 use site_phases::{Answer, last_phases};
 use std::alloc::Global;
 
+/// No row has more objects.
+const MOST_OBJECTS: usize = 1_000_000;
+
 /// What the word of a row asks of the site of its objects.
 pub(crate) fn answer(alloc: Global, word: &str, row: &str) -> Result<Text, OutOfMemory> {
     let mut out = Text::new(alloc);
@@ -29,6 +32,9 @@ fn push_given(alloc: Global, out: &mut Text, word: &str, given: Given) -> Result
     let files = both_files(alloc)?;
     if !are_placed(given.objects.as_slice(), &files) {
         return out.push_str("an object in no file");
+    }
+    if given.objects.len() > MOST_OBJECTS {
+        return out.push_str("too many objects");
     }
     let answer = last_phases(alloc, files, given.objects, given.globals)?;
     push_site(out, word, &answer)

@@ -1,5 +1,6 @@
 -- Names that are added one after another.
-use Rattle.std.proofs.Common.{◌≡◌, ℕ, ◌+◌, ◌<◌, cond, List, [], ◌∷◌, ◌++◌, length, map, drop, get_or, refl, sym, ap, ◌∙◌, subst, append_assoc}
+use Rattle.std.proofs.Common.{◌≡◌, ℕ, ◌+◌, ◌<◌, ◌≤◌, cond, List, [], ◌∷◌, ◌++◌, length, map, drop, get_or, refl, sym, ap, ◌∙◌, subst, append_assoc, arith, length-append}
+use Rattle.std.proofs.lemmas.List.{length-map}
 use Rattle.site_model.specs.Names.{with_name}
 use Rattle.site_model.specs.PlainSite.{check_view}
 use Rattle.site_model.specs.Sound.{AreDistinct}
@@ -17,3 +18,9 @@ name_step specs i spec names more all inside same distinct named so_far =
     ap (λ ns. ns ++ rest) (named ∙ ap (λ b. cond b names (names ++ spec.name ∷ [])) fresh)
     ∙ append_assoc names (spec.name ∷ []) rest
     ∙ whole
+
+-- what stands so far is no longer than all
+pub name_room : (names before : List (List ℕ)) (specs : List CheckSpec) (rest : List (List ℕ)) → names ++ rest ≡ before ++ map check_name (map check_view specs) → length names ≤ length before + length specs
+name_room names before specs rest so_far =
+    let same : length (names ++ rest) ≡ length (before ++ map check_name (map check_view specs)) = ap length so_far in
+    omega (arith, same, length-append names rest, length-append before (map check_name (map check_view specs)), length-map (map check_view specs) check_name, length-map specs check_view)

@@ -83,7 +83,7 @@ fn push_some(out: &mut Vec<CheckSpec>, spec: Option<CheckSpec>) -> Result<(), Ou
     Ok(())
 }
 
-/// A host, where its command is there.
+/// A host, if its command is there.
 fn host_spec(
     alloc: Global,
     known: Known<'_>,
@@ -103,7 +103,7 @@ fn host_spec(
     }
 }
 
-/// A service, where its host and its command are there and no host has its name.
+/// A service, if its host and its command are there and no host has its name.
 fn service_spec(
     alloc: Global,
     known: Known<'_>,

@@ -40,7 +40,7 @@ fn push_some(out: &mut Vec<DependSpec>, spec: Option<DependSpec>) -> Result<(), 
     Ok(())
 }
 
-/// A dependency, where its child and its parent are there.
+/// A dependency, if its child and its parent are there.
 fn depend_spec(
     alloc: Global,
     periods: &Names,

@@ -52,7 +52,7 @@ fn push_some(out: &mut Vec<NotifySpec>, spec: Option<NotifySpec>) -> Result<(), 
     Ok(())
 }
 
-/// A notification, where its checkable is there.
+/// A notification, if its checkable is there.
 fn notify_spec(
     alloc: Global,
     known: Told<'_>,

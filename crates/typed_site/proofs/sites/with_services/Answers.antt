@@ -1,12 +1,12 @@
-use Rattle.std.proofs.Common.{◌++◌, map, ap, ◌∙◌}
-use Rattle.std.proofs.lemmas.List.{map-append}
+use Rattle.std.proofs.Common.{◌++◌, map, ap, ◌∙◌, arith}
+use Rattle.std.proofs.lemmas.List.{length-map, map-append}
 use Rattle.site_model.specs.PlainSite.{check_view, object_view}
 use Rattle.typed_site.specs.Checks.{check_name}
-use Rattle.typed_site.proofs.SiteLaws.{checks_from, names_from, services_apart, services_from}
+use Rattle.typed_site.proofs.SiteLaws.{checks_from, names_from, services_apart, services_few, services_from}
 use Rattle.typed_site.proofs.sites.with_services.Goals as goal
 
-pub add_names-requires : goal.add_names-requires
-add_names-requires c =
+pub add_names-requires-clause-new : goal.add_names-requires-clause-new
+add_names-requires-clause-new c =
     services_apart (map object_view c.args.objects.now) c.args.hosts.names (map check_view c.deref-2.result.now) c.requires.names
     (ap (map check_view) c.deref-2.ensures.value
     ∙ services_from (map object_view c.args.objects.now) _ _ _ _ _ _ c.requires.command_names c.requires.period_names c.requires.names c.deref.ensures.value c.in_ok-listed.ensures.objects c.in_ok-services.ensures)
@@ -25,3 +25,11 @@ returns-clause-names c =
     (ap (map check_name)
     (ap (map check_view) c.deref-2.ensures.value
     ∙ services_from (map object_view c.args.objects.now) _ _ _ _ _ _ c.requires.command_names c.requires.period_names c.requires.names c.deref.ensures.value c.in_ok-listed.ensures.objects c.in_ok-services.ensures))
+
+pub add_names-requires-clause-few : goal.add_names-requires-clause-few
+add_names-requires-clause-few c =
+    let few =
+    services_few (map object_view c.args.objects.now) c.args.hosts.names c.deref-2.result.now c.requires.names
+    (ap (map check_view) c.deref-2.ensures.value
+    ∙ services_from (map object_view c.args.objects.now) _ _ _ _ _ _ c.requires.command_names c.requires.period_names c.requires.names c.deref.ensures.value c.in_ok-listed.ensures.objects c.in_ok-services.ensures) in
+    omega (arith, few, c.requires.few, length-map c.args.objects.now object_view)
