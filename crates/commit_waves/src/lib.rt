@@ -1,8 +1,8 @@
 //! A commit: the objects of a load, wave after wave, and then what is checked of all of them together.
 //!
-//! In reading order: what is committed (`loaded`), what stands before a wave (`world`), one wave (`waves`), who makes it (`maker`), the
-//! globals of the site (`site_globals`), and all of it (`commit`), also by many workers (`many`). The items of a wave and their objects are those
-//! of wave_objects. What it has to come to is `commit` (commit_meaning), in words in docs/OBJECTS.md.
+//! In reading order: what is committed (`loaded`), what stands before a wave (`world`), one wave (`waves`), who makes it (`maker`),
+//! the globals of the site (`site_globals`), and all of it (`commit`), also by many workers (`many`). The items of a wave and their
+//! objects are those of wave_objects. What it has to come to is `commit` (commit_meaning), in words in docs/OBJECTS.md.
 #![tactic(auto)]
 
 mod commit;

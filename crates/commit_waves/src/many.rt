@@ -25,9 +25,9 @@ use std::alloc::Global;
 use std::sync::Wait;
 use std::thread::Threads;
 
-/// What a load comes to, as [`crate::commit_one`] says, by so many workers at most, of which the caller is one. The tasks of a wave are shared
-/// among them, and the next wave begins when all of these are done. The answer is the same for any number of workers, and in whatever order
-/// their tasks end.
+/// What a load comes to, as [`crate::commit_one`] says, by so many workers at most, of which the caller is one. The tasks of a wave
+/// are shared among them, and the next wave begins when all of these are done. The answer is the same for any number of workers,
+/// and in whatever order their tasks end.
 ///
 /// # Errors
 ///

@@ -58,8 +58,8 @@ impl<'v, 'a> Evaluate<&'a Object, Vec<PlacedAnswer<'a>>> for RuleTasks<'v, 'a> {
     }
 }
 
-/// Applies rules to all objects that are their targets, as [`crate::applying::apply_to_all`] does, by so many workers at most. What they make is
-/// the same for any number of them, and in whatever order their answers come.
+/// Applies rules to all objects that are their targets, as [`crate::applying::apply_to_all`] does, by so many workers at most. What
+/// they make is the same for any number of them, and in whatever order their answers come.
 pub(crate) fn apply_to_all_by_many<'a, R: Threads + Wait + Sync>(
     rt: &R,
     alloc: Global,

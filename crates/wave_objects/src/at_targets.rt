@@ -22,8 +22,8 @@ pub(crate) struct PlacedAnswer<'a> {
     pub(crate) answer: RuleAnswer<'a>,
 }
 
-/// What the rules that go to an object's type come to at it, one rule after another, if it is a target. The object is prepared once, for all
-/// of them.
+/// What the rules that go to an object's type come to at it, one rule after another, if it is a target. The object is prepared
+/// once, for all of them.
 pub(crate) fn answers_at_object<'a>(
     alloc: Global,
     view: &WorldView,

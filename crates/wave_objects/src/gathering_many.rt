@@ -23,8 +23,8 @@ use std::alloc::Global;
 use std::sync::Wait;
 use std::thread::Threads;
 
-/// Gathers the items of a wave as [`crate::gather`] does. So many workers at most evaluate its rules. The items are the same for any number of
-/// them, and in whatever order their answers come.
+/// Gathers the items of a wave as [`crate::gather`] does. So many workers at most evaluate its rules. The items are the same for
+/// any number of them, and in whatever order their answers come.
 pub fn gather_by_many<'a, R: Threads + Wait + Sync>(
     rt: &R,
     alloc: Global,

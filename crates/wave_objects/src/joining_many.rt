@@ -48,8 +48,8 @@ impl<'a, 'b> Evaluate<&'b Object, GroupAnswer> for GroupTasks<'a> {
     }
 }
 
-/// Puts objects into the groups of their types that take them, as [`crate::join_groups`] does, by so many workers at most. The objects are the
-/// same for any number of them, and in whatever order their answers come.
+/// Puts objects into the groups of their types that take them, as [`crate::join_groups`] does, by so many workers at most. The
+/// objects are the same for any number of them, and in whatever order their answers come.
 pub fn join_groups_by_many<R: Threads + Wait + Sync>(
     rt: &R,
     alloc: Global,

@@ -24,8 +24,8 @@ use std::sync::Wait;
 use std::thread::Threads;
 use wave_order::Pending;
 
-/// Makes the objects of items as [`crate::make_objects`] does, by so many workers at most. The objects are the same for any number of them, and
-/// in whatever order their answers come.
+/// Makes the objects of items as [`crate::make_objects`] does, by so many workers at most. The objects are the same for any number
+/// of them, and in whatever order their answers come.
 pub fn make_objects_by_many<R: Threads + Wait + Sync>(
     rt: &R,
     alloc: Global,
