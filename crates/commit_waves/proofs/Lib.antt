@@ -7,3 +7,4 @@ pub mod CommitLaws
 mod FewLaws
 pub mod WaveSteps
 pub mod WaveRuns
+pub mod MakerLaws

@@ -10,8 +10,9 @@ ghost use Rattle.commit_meaning.specs.Waves.{diags_of, wave_diags, wave_world};
 ghost use Rattle.site_phases.specs.Constants.{AreBadBytes, globals_view, settings_of};
 ghost use Rattle.site_phases.specs.Phases.{FilesStay, IfSite, IsReady, answer_view, last_part, phases, site_made};
 ghost use Rattle.wave_objects.specs.Captured.{AreNamed};
-ghost use Rattle.commit_waves.specs.Globals.{globals_of};
 ghost use Rattle.wave_objects.specs.Plain.{with_items};
+ghost use Rattle.commit_waves.specs.Globals.{globals_of};
+ghost use Rattle.commit_waves.specs.Making.{IsWaveOf};
 ghost use Rattle.commit_waves.specs.Plain.{plain_world};
 
 use crate::Loaded;
@@ -50,16 +51,22 @@ pub fn commit_one(alloc: Global, loaded: Loaded) -> Result<Answer, OutOfMemory>
     // A run may begin with every site that is given.
     ensures ready { IfOk result (λ a. IfSite a IsReady) }
 {
-    commit_by(alloc, &OneWorker, loaded)
+    let mut maker = OneWorker;
+    commit_by(alloc, &mut maker, loaded)
 }
 
-/// The same, whoever makes the objects of the waves.
-pub(crate) fn commit_by<M: WaveMaker>(
+/// The same, whoever makes the objects of the waves. If a maker stands before the first wave of the load, it stands after the last one once
+/// there is a site.
+///
+/// # Errors
+///
+/// `OutOfMemory` if there is too little memory for an object, or for what is made on the way.
+pub fn commit_by<M: WaveMaker>(
     alloc: Global,
-    maker: &M,
+    maker: &mut M,
     loaded: Loaded,
 ) -> Result<Answer, OutOfMemory>
-    requires apt { M.apt maker.now }
+    requires apt { M.apt maker.old }
     requires load { IsLoad loaded.parts }
     // Whether the zone's file is one is what its reader says.
     ensures value { (bad : Bool) → Decides bad (AreBadBytes (settings_of (globals_of loaded.parts.store.cells loaded.zone)).zone)
@@ -68,6 +75,9 @@ pub(crate) fn commit_by<M: WaveMaker>(
     ensures files { IfOk result (FilesStay loaded.files) }
     // A run may begin with every site that is given.
     ensures ready { IfOk result (λ a. IfSite a IsReady) }
+    ensures apt { M.apt maker.new }
+    ensures holds { M.stands maker.old (plain_parts loaded.parts) 0 → M.holds maker.old (plain_parts loaded.parts) → M.holds maker.new (plain_parts loaded.parts) }
+    ensures stands { M.stands maker.old (plain_parts loaded.parts) 0 → IfOk result (λ a. IfSite a (λ _. M.stands maker.new (plain_parts loaded.parts) 6)) }
 {
     let known = all_known(alloc)?;
     let Loaded { files, parts, zone } = loaded;
@@ -103,17 +113,20 @@ struct Run {
 /// Runs the waves, one after another, up to the first in which something is wrong, over these items of a load and the rest of its parts.
 fn run_waves<M: WaveMaker>(
     alloc: Global,
-    maker: &M,
+    maker: &mut M,
     parts: &LoadParts,
     items: Vec<Item>,
     known: &Known,
 ) -> Result<Run, OutOfMemory>
-    requires apt { M.apt maker.now }
+    requires apt { M.apt maker.old }
     requires load { IsLoad (with_items items parts.now) }
     requires whole { known.now.whole.items ≡ map type_name all_types }
     requires absent { known.now.absent.items ≡ [] }
     ensures diags { IfOk result (λ r. r.list ≡ first_told (map (diags_of (plain_parts (with_items items parts.now))) waves)) }
     ensures objects { IfOk result (λ r. r.list ≡ [] → map object_view r.objects.items ≡ committed (plain_parts (with_items items parts.now))) }
+    ensures apt { M.apt maker.new }
+    ensures holds { M.stands maker.old (plain_parts (with_items items parts.now)) 0 → M.holds maker.old (plain_parts (with_items items parts.now)) → M.holds maker.new (plain_parts (with_items items parts.now)) }
+    ensures stands { M.stands maker.old (plain_parts (with_items items parts.now)) 0 → IfOk result (λ r. r.list ≡ [] → M.stands maker.new (plain_parts (with_items items parts.now)) 6) }
 {
     let mut objects = Committed::new(alloc);
     let mut groups = Vec::new(alloc);
@@ -146,20 +159,23 @@ fn run_waves<M: WaveMaker>(
 /// Runs the last wave. Nothing looks its objects up, so they stand after the others without being committed.
 fn run_last<M: WaveMaker>(
     alloc: Global,
-    maker: &M,
+    maker: &mut M,
     parts: &LoadParts,
     items: Vec<Item>,
     known: &Known,
     objects: Committed,
     groups: Vec<Item>,
 ) -> Result<Run, OutOfMemory>
-    requires apt { M.apt maker.now }
+    requires apt { M.apt maker.old }
     requires load { IsLoad (with_items items parts.now) }
     requires whole { known.now.whole.items ≡ map type_name all_types }
     requires absent { known.now.absent.items ≡ [] }
     requires named { AreNamed parts.now.store (map plain_item groups.items) }
     ensures diags { IfOk result (λ r. r.list ≡ wave_diags (plain_parts (with_items items parts.now)) (plain_world objects groups.items) 6) }
     ensures objects { IfOk result (λ r. r.list ≡ [] → map object_view r.objects.items ≡ (wave_world (plain_parts (with_items items parts.now)) (plain_world objects groups.items) 6).objects) }
+    ensures apt { M.apt maker.new }
+    ensures holds { (load : _) (before : _) → IsWaveOf load before (plain_parts (with_items items parts.now)) (plain_world objects groups.items) 6 → M.stands maker.old load before → M.holds maker.old load → M.holds maker.new load }
+    ensures stands { (load : _) (before : _) → IsWaveOf load before (plain_parts (with_items items parts.now)) (plain_world objects groups.items) 6 → M.stands maker.old load before → IfOk result (λ r. r.list ≡ [] → M.stands maker.new load 6) }
 {
     let mut groups = groups;
     let made = maker.make(alloc, parts, items, known, &objects, &mut groups, LAST_WAVE)?;

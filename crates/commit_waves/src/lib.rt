@@ -13,6 +13,9 @@ mod site_globals;
 mod waves;
 mod world;
 
-pub use commit::commit_one;
+pub use commit::{commit_by, commit_one};
 pub use loaded::Loaded;
+pub use maker::WaveMaker;
 pub use many::commit_many;
+pub use waves::{MOST_ITEMS, Wave, too_many};
+pub use world::{add_groups, view_before};

@@ -47,7 +47,7 @@ pub fn commit_many<R: Threads + Wait + Sync>(
     // A run may begin with every site that is given.
     ensures ready { IfOk result (λ a. IfSite a IsReady) }
 {
-    let maker = ManyWorkers {
+    let mut maker = ManyWorkers {
         make: |alloc: Global, parts: &LoadParts, items: Vec<
             Item,
         >, known: &Known, objects: &Committed, groups: &mut Vec<Item>, wave: u8| -> Result<
@@ -67,5 +67,5 @@ pub fn commit_many<R: Threads + Wait + Sync>(
             )
         },
     };
-    commit_by(alloc, &maker, loaded)
+    commit_by(alloc, &mut maker, loaded)
 }

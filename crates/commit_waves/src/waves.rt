@@ -8,6 +8,7 @@ ghost use Rattle.commit_meaning.specs.Waves.{limited, wave_world, wave_diags};
 ghost use Rattle.wave_order.specs.WaveItems.{plain_pending};
 ghost use Rattle.wave_objects.specs.Captured.{AreNamed};
 ghost use Rattle.wave_objects.specs.Plain.{with_items};
+ghost use Rattle.commit_waves.specs.Making.{IsWaveOf};
 ghost use Rattle.commit_waves.specs.Plain.{plain_world};
 
 use crate::maker::WaveMaker;
@@ -26,13 +27,13 @@ use wave_objects::{
 use wave_order::{Pending, diags_by_number};
 
 /// A wave has so many items at most.
-const MOST_ITEMS: usize = 1_000_000;
+pub const MOST_ITEMS: usize = 1_000_000;
 
 /// What a wave comes to: its objects, and what is wrong in it, by number.
 #[derive(Drop)]
-pub(crate) struct Wave {
-    pub(crate) objects: Vec<Object>,
-    pub(crate) list: Diags,
+pub struct Wave {
+    pub objects: Vec<Object>,
+    pub list: Diags,
 }
 
 /// Makes the objects of a wave, from 1 on, over the objects that were committed and the items of the groups among them. The load
@@ -108,7 +109,11 @@ pub(crate) fn make_wave_by_many<R: Threads + Wait + Sync>(
 }
 
 /// A wave of which this item is the first that is one too many.
-fn too_many(alloc: Global, item: &Pending) -> Result<Wave, OutOfMemory>
+///
+/// # Errors
+///
+/// `OutOfMemory` if there is too little memory for its diagnostic.
+pub fn too_many(alloc: Global, item: &Pending) -> Result<Wave, OutOfMemory>
     ensures { IfOk result (λ x. x.list ≡ limited (Some (plain_pending item.now)) []) }
 {
     let mut list = Row::new(alloc);
@@ -125,9 +130,10 @@ fn too_many(alloc: Global, item: &Pending) -> Result<Wave, OutOfMemory>
 }
 
 /// Runs a wave: what is wrong in it, by number. If nothing is, its objects are committed and its groups stand after the others then.
+/// What is so of the maker goes on as `WaveMaker::make` says.
 pub(crate) fn run_wave<M: WaveMaker>(
     alloc: Global,
-    maker: &M,
+    maker: &mut M,
     parts: &LoadParts,
     items: Vec<Item>,
     known: &Known,
@@ -135,7 +141,7 @@ pub(crate) fn run_wave<M: WaveMaker>(
     groups: &mut Vec<Item>,
     wave: u8,
 ) -> Result<Diags, OutOfMemory>
-    requires apt { M.apt maker.now }
+    requires apt { M.apt maker.old }
     requires whole { known.now.whole.items ≡ map type_name all_types }
     requires absent { known.now.absent.items ≡ [] }
     requires load { IsLoad (with_items items parts.now) }
@@ -143,6 +149,9 @@ pub(crate) fn run_wave<M: WaveMaker>(
     ensures diags { IfOk result (λ ds. ds ≡ wave_diags (plain_parts (with_items items parts.now)) (plain_world objects.old groups.old.items) wave) }
     ensures world { IfOk result (λ ds. ds ≡ [] → plain_world objects.new groups.new.items ≡ wave_world (plain_parts (with_items items parts.now)) (plain_world objects.old groups.old.items) wave) }
     ensures named { IfOk result (λ ds. ds ≡ [] → AreNamed parts.now.store (map plain_item groups.new.items)) }
+    ensures apt { M.apt maker.new }
+    ensures holds { (load : _) (before : _) → IsWaveOf load before (plain_parts (with_items items parts.now)) (plain_world objects.old groups.old.items) wave → M.stands maker.old load before → M.holds maker.old load → M.holds maker.new load }
+    ensures stands { (load : _) (before : _) → IsWaveOf load before (plain_parts (with_items items parts.now)) (plain_world objects.old groups.old.items) wave → M.stands maker.old load before → IfOk result (λ ds. ds ≡ [] → M.stands maker.new load wave) }
 {
     let made = maker.make(alloc, parts, items, known, objects, groups, wave)?;
     add_objects(objects, made.objects)?;

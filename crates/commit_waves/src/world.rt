@@ -40,7 +40,11 @@ const TYPES: [ObjectType; 22] = [
 ];
 
 /// Adds the items of groups after others.
-pub(crate) fn add_groups(out: &mut Vec<Item>, more: Vec<Item>) -> Result<(), OutOfMemory>
+///
+/// # Errors
+///
+/// `OutOfMemory` if there is too little memory for all of them.
+pub fn add_groups(out: &mut Vec<Item>, more: Vec<Item>) -> Result<(), OutOfMemory>
     ensures { OnOk result (map plain_item out.new.items ≡ map plain_item out.old.items ++ map plain_item more.items) }
 {
     let mut more = more;
@@ -80,7 +84,7 @@ fn names_of(alloc: Global, kinds: &[ObjectType]) -> Result<Vec<Text>, OutOfMemor
 }
 
 /// What evaluations over a world are told.
-pub(crate) fn view_before<'a>(
+pub fn view_before<'a>(
     parts: &'a LoadParts,
     objects: &'a Committed,
     known: &'a Known,

@@ -9,6 +9,7 @@ use Rattle.site_phases.proofs.PhaseLaws.{nothing}
 use Rattle.commit_waves.specs.Globals.{globals_of}
 use Rattle.commit_waves.proofs.CommitLaws.{left_to_phases, refused_in_waves}
 use Rattle.commit_waves.proofs.FewLaws.{committed_few}
+use Rattle.commit_waves.proofs.MakerLaws.{if_site}
 use Rattle.commit_waves.proofs.commit.commit_by.Goals as goal
 
 something : (ds : List Diag) → (length ds == 0) ≡ false → ¬ (ds ≡ [])
@@ -38,3 +39,7 @@ finish-requires-clause-few g c =
     let few = committed_few (plain_parts c.args.loaded.parts) (sym c.in_ok-made.ensures.diags ∙ none) in
     let same = ap length (c.in_ok-made.ensures.objects none) in
     omega (arith, few, same, length-map c.in_ok-made.made.objects.items object_view)
+pub returns-clause-stands : goal.returns-clause-stands
+returns-clause-stands g c = λ stood.
+    let none = nothing c.in_ok-made.made.list (sym c.is_empty.ensures ∙ c.if-not-is_empty.false) in
+    if_site (g.M.WaveMaker.stands c.in_ok-made.new.maker (plain_parts c.args.loaded.parts) 6) (c.in_ok-made.ensures.stands stood none) c.finish.result
