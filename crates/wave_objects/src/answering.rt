@@ -20,7 +20,11 @@ use std::alloc::Global;
 use wave_order::Pending;
 
 /// What an item comes to when its turn has come.
-pub(crate) fn answer_of(
+///
+/// # Errors
+///
+/// `OutOfMemory` if there is too little memory for its object, or for what is made on the way.
+pub fn answer_of(
     alloc: Global,
     view: &WorldView,
     keys: &PresetKeys,

@@ -13,7 +13,7 @@ ghost use Rattle.wave_objects.specs.Applying.{AppliedNamed, AppliedShared, AreAp
 ghost use Rattle.wave_objects.specs.AtTargets.{AreAnswersShared, plain_placed};
 
 use crate::at_targets::{PlacedAnswer, answers_at_object};
-use crate::by_type::by_type;
+use crate::by_type::rules_by_type;
 use apply_rules::{Instance, RuleAnswer};
 use eval_work::{Committed, Locals, Rule, WorldView};
 use site_base::{Diags, OutOfMemory, Row};
@@ -22,14 +22,18 @@ use wave_order::is_in_wave;
 
 /// A rule of a wave, with the instances that it has made so far, and its faults.
 #[derive(Drop)]
-pub(crate) struct Applied<'a> {
-    pub(crate) rule: &'a Rule,
-    pub(crate) made: Vec<Instance<'a>>,
-    pub(crate) faults: Diags,
+pub struct Applied<'a> {
+    pub rule: &'a Rule,
+    pub made: Vec<Instance<'a>>,
+    pub faults: Diags,
 }
 
 /// The rules of a wave, of which none has made anything yet.
-pub(crate) fn unapplied<'a>(
+///
+/// # Errors
+///
+/// `OutOfMemory` if there is too little memory for the list of them.
+pub fn unapplied<'a>(
     alloc: Global,
     rules: &'a [Rule],
     wave: u8,
@@ -65,7 +69,7 @@ pub(crate) fn apply_to_all<'a>(
     ensures applied { OnOk result (AreApplied (view_of view.now) (map object_view objects.now) rules.new.items) }
     ensures shared { OnOk result (AppliedShared view.now.store.now rules.new.items) }
 {
-    let types = by_type(alloc, rules)?;
+    let types = rules_by_type(alloc, rules)?;
     let mut spare = Locals::new(alloc);
     for object in objects.as_slice() {
         let answers = answers_at_object(alloc, view, objects, object, &types, &mut spare)?;
@@ -75,7 +79,11 @@ pub(crate) fn apply_to_all<'a>(
 }
 
 /// Has the rules at these places take answers, one after another.
-pub(crate) fn take_answers<'a>(
+///
+/// # Errors
+///
+/// `OutOfMemory` if there is too little memory for what is taken.
+pub fn take_answers<'a>(
     answers: Vec<PlacedAnswer<'a>>,
     rules: &mut Vec<Applied<'a>>,
 ) -> Result<(), OutOfMemory>

@@ -12,7 +12,7 @@ ghost use Rattle.wave_objects.specs.Tasks.{AreOfObject, all_placed};
 
 use crate::applying::{Applied, apply_to_all, take_answers};
 use crate::at_targets::{PlacedAnswer, answers_at_object};
-use crate::by_type::{RulesOfType, by_type};
+use crate::by_type::{RulesOfType, rules_by_type};
 use crate::lending::each_of;
 use commit_board::{Evaluate, answer_all};
 use eval_work::{Committed, Locals, WorldView};
@@ -78,7 +78,7 @@ pub(crate) fn apply_to_all_by_many<'a, R: Threads + Wait + Sync>(
     if rules.is_empty() {
         return apply_to_all(alloc, view, objects, rules);
     }
-    let types = by_type(alloc, rules)?;
+    let types = rules_by_type(alloc, rules)?;
     let answers = answers_at_objects(rt, alloc, view, objects, &types, workers)?;
     take_all(answers, rules)?;
     Ok(())

@@ -17,9 +17,9 @@ use std::alloc::Global;
 
 /// What a rule comes to at a target, with the rule's place among those of the wave.
 #[derive(Drop)]
-pub(crate) struct PlacedAnswer<'a> {
-    pub(crate) place: usize,
-    pub(crate) answer: RuleAnswer<'a>,
+pub struct PlacedAnswer<'a> {
+    pub place: usize,
+    pub answer: RuleAnswer<'a>,
 }
 
 /// What the rules that go to an object's type come to at it, one rule after another, if it is a target. The object is prepared

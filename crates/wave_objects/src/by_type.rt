@@ -10,20 +10,24 @@ use std::alloc::Global;
 
 /// A rule, and its place among those of a wave.
 #[derive(Clone, Copy)]
-pub(crate) struct PlacedRule<'a> {
-    pub(crate) place: usize,
-    pub(crate) rule: &'a Rule,
+pub struct PlacedRule<'a> {
+    pub place: usize,
+    pub rule: &'a Rule,
 }
 
 /// The rules that go to objects of one type, in their order.
 #[derive(Drop)]
-pub(crate) struct RulesOfType<'a> {
-    pub(crate) kind: &'a Text,
-    pub(crate) rules: Vec<PlacedRule<'a>>,
+pub struct RulesOfType<'a> {
+    pub kind: &'a Text,
+    pub rules: Vec<PlacedRule<'a>>,
 }
 
 /// Sorts rules by the types that they go to.
-pub(crate) fn by_type<'a>(
+///
+/// # Errors
+///
+/// `OutOfMemory` if there is too little memory for the lists.
+pub fn rules_by_type<'a>(
     alloc: Global,
     rules: &[Applied<'a>],
 ) -> Result<Vec<RulesOfType<'a>>, OutOfMemory>
@@ -78,7 +82,7 @@ fn type_at(types: &[RulesOfType], target: &Text) -> usize
 }
 
 /// The rules that go to objects of a type.
-pub(crate) fn rules_to<'a, 'b>(types: &'b [RulesOfType<'a>], kind: &str) -> &'b [PlacedRule<'a>]
+pub fn rules_to<'a, 'b>(types: &'b [RulesOfType<'a>], kind: &str) -> &'b [PlacedRule<'a>]
     ensures { result.now ≡ type_rules kind.now types.now }
 {
     for one in types {

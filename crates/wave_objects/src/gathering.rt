@@ -56,7 +56,11 @@ pub fn gather<'a>(
 }
 
 /// The items of a wave, by their numbers: those of these items that are of it, and those that its rules have made.
-pub(crate) fn put_together<'a>(
+///
+/// # Errors
+///
+/// `OutOfMemory` if there is too little memory for the list of them.
+pub fn put_together<'a>(
     alloc: Global,
     items: Vec<Item>,
     rules: Vec<Applied<'a>>,

@@ -25,7 +25,7 @@ use std::alloc::Global;
 
 /// The items of groups, by the type of their members.
 #[derive(Drop)]
-pub(crate) struct GroupLists<'a> {
+pub struct GroupLists<'a> {
     of_hosts: Vec<&'a Item>,
     of_services: Vec<&'a Item>,
     of_users: Vec<&'a Item>,
@@ -33,7 +33,12 @@ pub(crate) struct GroupLists<'a> {
 }
 
 impl<'a> GroupLists<'a> {
-    pub(crate) fn new(
+    /// The lists of these groups. What they captured names cells and functions of the store.
+    ///
+    /// # Errors
+    ///
+    /// `OutOfMemory` if there is too little memory for the lists.
+    pub fn new(
         alloc: Global,
         store: &Store,
         groups: &'a [Item],
@@ -51,7 +56,7 @@ impl<'a> GroupLists<'a> {
     }
 
     /// The groups that objects of a type may be in.
-    fn of(&self, kind: &str) -> &[&'a Item]
+    pub fn of(&self, kind: &str) -> &[&'a Item]
         ensures { result.now ≡ list_for self.now (type_named kind.now) }
     {
         match ObjectType::of_name(kind) {
@@ -142,7 +147,11 @@ pub(crate) fn answer_of_member(
 }
 
 /// Puts an object into the groups of an answer.
-pub(crate) fn join_by(
+///
+/// # Errors
+///
+/// `OutOfMemory` if there is too little memory for the object's list of groups.
+pub fn join_by(
     alloc: Global,
     object: Object,
     answer: GroupAnswer,

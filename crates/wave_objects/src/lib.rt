@@ -22,9 +22,14 @@ mod making;
 mod making_many;
 mod targets;
 
-pub use gathering::{Gathered, gather};
+pub use answering::answer_of;
+pub use applying::{Applied, take_answers, unapplied};
+pub use at_targets::PlacedAnswer;
+pub use by_type::{PlacedRule, RulesOfType, rules_by_type, rules_to};
+pub use gathering::{Gathered, gather, put_together};
 pub use gathering_many::gather_by_many;
-pub use joining::join_groups;
+pub use joining::{GroupLists, join_by, join_groups};
 pub use joining_many::join_groups_by_many;
-pub use making::{Objects, add_diags, make_objects};
+pub use making::{Objects, add_answer, add_diags, make_objects};
 pub use making_many::make_objects_by_many;
+pub use targets::target_of;

@@ -79,7 +79,11 @@ fn make(
 }
 
 /// Adds what an item came to. Nothing is added for an item that is blocked.
-pub(crate) fn add_answer(
+///
+/// # Errors
+///
+/// `OutOfMemory` if there is too little memory for what is added.
+pub fn add_answer(
     alloc: Global,
     keys: &PresetKeys,
     pending: Pending,

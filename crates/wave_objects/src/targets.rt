@@ -12,7 +12,7 @@ use object_types::Attribute;
 use site_model::Object;
 
 /// An object as a target of rules, if it is one: a service if its host is there.
-pub(crate) fn target_of<'a>(objects: &'a Committed, object: &'a Object) -> Option<Target<'a>>
+pub fn target_of<'a>(objects: &'a Committed, object: &'a Object) -> Option<Target<'a>>
     ensures { option_to_list (option_map plain_target result) ≡ targets_of_one (map object_view objects.now) (object_view object.now) }
 {
     if object.kind.as_str() != "Service" {

@@ -39,6 +39,7 @@ finish-requires-clause-few g c =
     let few = committed_few (plain_parts c.args.loaded.parts) (sym c.in_ok-made.ensures.diags ∙ none) in
     let same = ap length (c.in_ok-made.ensures.objects none) in
     omega (arith, few, same, length-map c.in_ok-made.made.objects.items object_view)
+
 pub returns-clause-stands : goal.returns-clause-stands
 returns-clause-stands g c = λ stood.
     let none = nothing c.in_ok-made.made.list (sym c.is_empty.ensures ∙ c.if-not-is_empty.false) in

@@ -3,7 +3,7 @@ use Rattle.std.proofs.Common.{◌≤◌, ◌++◌, length, sym, ap, ◌∙◌, a
 use Rattle.std.proofs.lemmas.List.{drop_all}
 use Rattle.wave_objects.specs.ByType.{rules_going_to, type_rules}
 use Rattle.wave_objects.proofs.TypeLaws.{next_rule}
-use Rattle.wave_objects.proofs.by_type.by_type.Goals as goal
+use Rattle.wave_objects.proofs.by_type.rules_by_type.Goals as goal
 
 pub loop-place-init : goal.loop-place-init
 loop-place-init c = λ kind. ap (λ ts. type_rules kind ts ++ rules_going_to kind 0 c.args.rules.now) c.new-types.ensures.items
