@@ -40,7 +40,7 @@ use Rattle.site_answers.proofs.OneAnswer.{IsOne, kept_one, queried_one, replayed
 -- What can't be otherwise is so: texts and statuses are told apart.
 
 -- a fact can't be undecided
-undecided : (P : Type 0) → ((b : Bool) → Decides b P → ⊥) → ⊥
+pub undecided : (P : Type 0) → ((b : Bool) → Decides b P → ⊥) → ⊥
 undecided P h =
     let no : P → ⊥ = λ p. h true ((λ _. p), (λ _. refl)) in
     h false ((λ e. absurd cc), (λ p. absurd (no p)))
@@ -75,13 +75,13 @@ numbered status.OutOfMemory = refl
 numbered status.TurnsSpent = refl
 numbered status.NotLegal = refl
 
-same_status : (s t : Status) → ((s ≡ t → ⊥) → ⊥) → s ≡ t
+pub same_status : (s t : Status) → ((s ≡ t → ⊥) → ⊥) → s ≡ t
 same_status s t h =
     let numbers = same_text (number_of s ∷ []) (number_of t ∷ []) (λ no. h (λ same. no (ap (λ x. number_of x ∷ []) same))) in
     let number : number_of s ≡ number_of t = cc in
     sym (numbered s) ∙ ap status_numbered number ∙ numbered t
 
-same_whole : (v w : Whole) → ((v ≡ w → ⊥) → ⊥) → v ≡ w
+pub same_whole : (v w : Whole) → ((v ≡ w → ⊥) → ⊥) → v ≡ w
 same_whole v w h =
     let text = same_text v.text w.text (λ no. h (λ same. no (ap (λ x. x.text) same))) in
     let ends = same_status v.ends w.ends (λ no. h (λ same. no (ap (λ x. x.ends) same))) in

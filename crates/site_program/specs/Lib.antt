@@ -1,2 +1,3 @@
 pub mod Runs
 pub mod TaskAnswers
+pub mod Complete

@@ -20,6 +20,7 @@ ghost use Rattle.site_words.specs.Tasks.{is_audit};
 ghost use Rattle.site_run.specs.Callers.{AreCallers};
 ghost use Rattle.site_run.specs.Logs.{EndsRun};
 ghost use Rattle.site_run.specs.Ends.{HandsOn, outside};
+ghost use Rattle.site_program.specs.Complete.{IsComplete};
 ghost use Rattle.site_program.specs.TaskAnswers.{Answers, Came, Remarked, is_daemon, is_generate};
 
 use crate::committers::ManyCommitters;
@@ -61,6 +62,11 @@ pub fn run<F: Files, W: World, S: Sink, N: Remarks, R: Wait + Threads + Sync, G:
     // What was written is what answers to the words over the files and the turns of the world, or after a fault a prefix of it.
     ensures written { IfSome (command_in words.now) (λ c.
         EndsRun result (Answers c.workers c.task (F.told files.old) (W.turns world.old)) (S.written out.old) (S.written out.new)) }
+
+    // Unless a fault ended it or there was no memory for it, it wrote the whole answer and ended as that does: over lawful files with
+    // status 0, and with diagnostics with status 1.
+    ensures complete { IfSome (command_in words.now) (λ c.
+        IsComplete result c.workers c.task (F.told files.old) (W.turns world.old) (S.written out.old) (S.written out.new)) }
 
     // What is remarked of a site is told by `check` and `daemon`, before anything is written.
     ensures remarked { IfSome (command_in words.now) (λ c.

@@ -6,6 +6,7 @@ ghost use Rattle.site_words.specs.Tasks.{is_audit, task_view};
 ghost use Rattle.site_run.specs.Callers.{AreCallers};
 ghost use Rattle.site_run.specs.Logs.{EndsRun};
 ghost use Rattle.site_run.specs.Ends.{HandsOn, outside};
+ghost use Rattle.site_program.specs.Complete.{IsComplete};
 ghost use Rattle.site_program.specs.TaskAnswers.{Answers, AskForMany, Came, Remarked, is_daemon, is_generate};
 
 use crate::audit::audit_log;
@@ -43,6 +44,11 @@ pub fn run_one<F: Files, W: World, S: Sink, N: Remarks>(
     // What was written is what answers to the words over the files and the turns of the world, or after a fault a prefix of it.
     ensures written { IfSome (command_in words.now) (λ c. IfSome result (λ status.
         EndsRun status (Answers c.workers c.task (F.told files.old) (W.turns world.old)) (S.written out.old) (S.written out.new))) }
+
+    // Unless a fault ended it or there was no memory for it, it wrote the whole answer and ended as that does: over lawful files with
+    // status 0, and with diagnostics with status 1.
+    ensures complete { IfSome (command_in words.now) (λ c. IfSome result (λ status.
+        IsComplete status c.workers c.task (F.told files.old) (W.turns world.old) (S.written out.old) (S.written out.new))) }
 
     // What is remarked of a site is told by `check` and `daemon`, before anything is written.
     ensures remarked { IfSome (command_in words.now) (λ c. IfSome result (λ status.
