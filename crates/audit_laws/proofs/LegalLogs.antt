@@ -16,7 +16,7 @@ use Rattle.run_text.specs.declared.style.Style.TheVariants.{One, Two}
 use Rattle.turn_engine.specs.Orders.{command_of}
 use Rattle.turn_engine.specs.Ready.{IsZoneOf}
 use Rattle.turn_engine.specs.Stages.{basis_of_site}
-use Rattle.site_run.specs.Logs.{Whole}
+use Rattle.site_run.specs.Logs.{Output}
 use Rattle.site_run.proofs.Zones.{same_holds}
 use Rattle.site_audit.specs.Audit.{is_cut_off, IsLegal, IsVerdict, IsVerdictBy, IsVerdictOf, IsVerdictTwo}
 use Rattle.site_audit.specs.Blocks.{begins_turn}
@@ -78,7 +78,7 @@ pub run_is_legal : (style : Style) (s : PlainSite) (zone : Option Tzif) (callers
 run_is_legal One s zone callers can some most turns logs run = run_is_legal_untold s zone can callers some most turns logs run.run.turns run.fits
 run_is_legal Two s zone callers can some most turns logs run = run_is_legal_by s zone can callers some most turns logs run.run.turns run.fits
 
-module _ (style : Style) (limit : ℕ) (s : PlainSite) (callers : ℕ) (can : CanBeRun s) (some : 1 ≤ callers) (most : callers ≤ 64) (turns : List Turn) (w : Whole) (h : IsLogInMemory callers style limit s turns w) where
+module _ (style : Style) (limit : ℕ) (s : PlainSite) (callers : ℕ) (can : CanBeRun s) (some : 1 ≤ callers) (most : callers ≤ 64) (turns : List Turn) (w : Output) (h : IsLogInMemory callers style limit s turns w) where
   abbrev zone : Option Tzif
   zone = h.log.are.zone
 

@@ -14,7 +14,7 @@ use Rattle.run_text.specs.TurnReading.{turn_read}
 use Rattle.run_text.specs.declared.style.Style.{Style}
 use Rattle.turn_engine.specs.Orders.{command_of}
 use Rattle.turn_engine.specs.Stages.{basis_of_site}
-use Rattle.site_run.specs.Logs.{nothing_given, IsLog, Whole}
+use Rattle.site_run.specs.Logs.{nothing_given, IsLog, Output}
 use Rattle.site_audit.specs.Blocks.{blocks_of, lines_of}
 use Rattle.site_audit.specs.LogLines.{IsOfTexts}
 use Rattle.audit_laws.specs.Fitting.{entries_in, FitsLog, FitsTurn}
@@ -48,7 +48,7 @@ blocks_written style s logs = blocks_of (lines_of (concat (flat_map (turn_lines 
 
 -- what is written of such a run over the first so many of these turns: each of them can stand in memory, they are at most 2^40, and no checkable
 -- gets 2^64 entries
-pub record IsLogInMemory (callers : ℕ) (style : Style) (limit : ℕ) (s : PlainSite) (turns : List Turn) (w : Whole) : Type 0 where
+pub record IsLogInMemory (callers : ℕ) (style : Style) (limit : ℕ) (s : PlainSite) (turns : List Turn) (w : Output) : Type 0 where
   pub log : IsLog callers style limit s (nothing_given s) turns w
   pub turns_fit : AllByRecursion FitsTurn (take limit turns)
   pub few_turns : length (take limit turns) ≤ 2 ^ 40

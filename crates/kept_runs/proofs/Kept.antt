@@ -17,7 +17,7 @@ use Rattle.site_run.specs.Feeds.{basis_with}
 use Rattle.site_run.specs.Logs.{AreLogs, Given, nothing_given}
 use Rattle.site_run.proofs.Going.{behind_joined, logs_then}
 use Rattle.site_run.proofs.OneLog.{one_run, same_basis}
-use Rattle.turn_engine.specs.Ready.{Held, IsZoneOf}
+use Rattle.turn_engine.specs.Ready.{EngineView, IsZoneOf}
 use Rattle.turn_engine.specs.Stages.{Running, TellsTurn, basis_of_site, stage_of}
 use Rattle.turn_engine.specs.declared.turn_out.TurnOut.{TurnOut}
 use Rattle.kept_runs.specs.Keeping.{Keeps, course}
@@ -41,7 +41,7 @@ module _ (callers : ℕ) (r : Running) where
   abbrev s : PlainSite
   s = site_view r.site
 
-  pub begun : stage_of r [] ≡ start s (no_entries s) → (turns left : List Turn) (engine : Held) (lines : List (List (List ℕ))) → left ≡ turns → engine.run ≡ r → engine.spent ≡ false → lines ≡ lines_of s (no_entries s)
+  pub begun : stage_of r [] ≡ start s (no_entries s) → (turns left : List Turn) (engine : EngineView) (lines : List (List (List ℕ))) → left ≡ turns → engine.run ≡ r → engine.spent ≡ false → lines ≡ lines_of s (no_entries s)
       → Keeps callers r turns left engine lines
   begun begin turns left engine lines is at fresh none = record {
     done = [];
@@ -57,7 +57,7 @@ module _ (callers : ℕ) (r : Running) where
     turns = ap (λ (x : Running). x.turns) at ∙ ap (λ (st : Stage). st.turns) begin;
   }
 
-  module _ (turns left : List Turn) (t : Turn) (engine : Held) (lines : List (List (List ℕ))) (k : Keeps callers r turns (t ∷ left) engine lines) where
+  module _ (turns left : List Turn) (t : Turn) (engine : EngineView) (lines : List (List (List ℕ))) (k : Keeps callers r turns (t ∷ left) engine lines) where
     abbrev pub ahead : List Begun
     ahead = (behind_over c k.done k.logs).stage.begun
 
@@ -65,11 +65,11 @@ module _ (callers : ℕ) (r : Running) where
     pub fewer : (limit : ℕ) → length turns ≤ limit → engine.run.turns < limit
     fewer limit few = let n = k.turns in let l = ap length k.both in let m = length-append k.done (t ∷ left) in omega (arith, few, n, l, m)
 
-    abbrev Taken : TurnOut → Held → Type 0
+    abbrev Taken : TurnOut → EngineView → Type 0
     Taken out moved =
         TellsTurn (basis_of_site (site_view engine.run.site) engine.run.zone) callers (stage_of engine.run ahead) (turn_read (site_view engine.run.site) t) out (stage_of moved.run (begun_by (stage_of engine.run ahead) moved.run.moment))
 
-    module _ (out : TurnOut) (moved : Held) (x : Taken out moved) where
+    module _ (out : TurnOut) (moved : EngineView) (x : Taken out moved) where
       is_turn : IsTurn (basis_of_site s r.zone) callers (stage_of engine.run ahead) (turn_read s t) x.log
       is_turn =
           subst (λ (z : Option Tzif). IsTurn (basis_of_site s z) callers (stage_of engine.run ahead) (turn_read s t) x.log) k.zone
@@ -118,7 +118,7 @@ module _ (callers : ℕ) (r : Running) where
         record { logs = ls; are = are_logs turns ls are; is = is ∙ ap (λ (st : Stage). state_file s (stage_by c.basis st (reads c turns) ls).histories) begin }
 
     -- the state file of what is left when no turn is left
-    pub kept : (turns left : List Turn) (engine : Held) (lines : List (List (List ℕ))) (text : List ℕ) → length left ≡ 0 → Keeps callers r turns left engine lines → text ≡ state_file s engine.run.histories → IsKept callers s (nothing_given s) turns text
+    pub kept : (turns left : List Turn) (engine : EngineView) (lines : List (List (List ℕ))) (text : List ℕ) → length left ≡ 0 → Keeps callers r turns left engine lines → text ≡ state_file s engine.run.histories → IsKept callers s (nothing_given s) turns text
     kept turns (t ∷ left) engine lines text none k is = absurd (omega (arith, none))
     kept turns [] engine lines text none k is =
         let all : k.done ≡ turns = sym (append-nil k.done) ∙ k.both in

@@ -7,7 +7,7 @@ use Rattle.site_keep.specs.StateFile.{lines_of}
 use Rattle.site_model.specs.PlainSite.{site_view}
 use Rattle.site_run.specs.Courses.{AreLogsOf, Course, behind_over}
 use Rattle.site_run.specs.Feeds.{basis_with, no_lines}
-use Rattle.turn_engine.specs.Ready.{Held}
+use Rattle.turn_engine.specs.Ready.{EngineView}
 use Rattle.turn_engine.specs.Stages.{Running, stage_of}
 
 -- a run with nothing fed, which goes on from an engine as it is
@@ -15,7 +15,7 @@ abbrev pub course : Running → Course
 course r = record { basis = basis_with (site_view r.site) r.zone no_lines; stage = stage_of r []; style = style.One }
 
 -- some turns were taken, after which this is the engine, and these are the lines of its entries
-pub record Keeps (callers : ℕ) (r : Running) (all left : List Turn) (engine : Held) (kept : List (List (List ℕ))) : Type 0 where
+pub record Keeps (callers : ℕ) (r : Running) (all left : List Turn) (engine : EngineView) (kept : List (List (List ℕ))) : Type 0 where
   pub done : List Turn
   pub logs : List TurnLog
   pub both : done ++ left ≡ all

@@ -16,7 +16,7 @@ use Rattle.site_audit.specs.declared.auditing.Verdict.{Verdict}
 use Rattle.site_audit.specs.declared.auditing.Verdict.TheVariants as verdict
 use Rattle.site_model.specs.PlainSite.{PlainSite}
 use Rattle.site_run.proofs.Zones.{same_holds}
-use Rattle.site_run.specs.Logs.{Whole}
+use Rattle.site_run.specs.Logs.{Output}
 use Rattle.turn_engine.specs.Orders.{command_of}
 use Rattle.turn_engine.specs.Ready.{IsZoneOf}
 use Rattle.turn_engine.specs.Stages.{basis_of_site}
@@ -62,6 +62,6 @@ module _ (callers : ℕ) (s : PlainSite) where
   one_verdict log v w p q = one_by log (behind log_two log) v w p q
 
 -- what is written of it is one
-pub audited_one : (callers : ℕ) (name : List ℕ) (found : Option (List ℕ)) (s : PlainSite) (v w : Whole) → AnswersAudited callers name s found v → AnswersAudited callers name s found w → v ≡ w
+pub audited_one : (callers : ℕ) (name : List ℕ) (found : Option (List ℕ)) (s : PlainSite) (v w : Output) → AnswersAudited callers name s found v → AnswersAudited callers name s found w → v ≡ w
 audited_one callers name None s v w p q = p ∙ sym q
 audited_one callers name (Some log) s v w p q = p.2 ∙ ap judged (one_verdict callers s log p.0 q.0 p.1 q.1) ∙ sym q.2

@@ -7,7 +7,7 @@ use Rattle.site_audit.specs.declared.auditing.Verdict.{Verdict}
 use Rattle.site_audit.specs.declared.auditing.Verdict.TheVariants as verdict
 use Rattle.site_model.specs.PlainSite.{PlainSite}
 use Rattle.site_replies.specs.Replies.{no_file}
-use Rattle.site_run.specs.Logs.{Whole}
+use Rattle.site_run.specs.Logs.{Output}
 use Rattle.site_run.specs.declared.status.Status.{Status}
 use Rattle.site_run.specs.declared.status.Status.TheVariants as status
 
@@ -22,10 +22,10 @@ ends_by verdict.Legal = status.Done
 ends_by (verdict.Illegal line) = status.NotLegal
 
 -- that run
-abbrev pub judged : Verdict → Whole
+abbrev pub judged : Verdict → Output
 judged v = record { text = verdict_line v; ends = ends_by v }
 
 -- the verdict on the log that the bytes of its file are, as one of so many workers, or that there is none
-abbrev pub AnswersAudited : ℕ → List ℕ → PlainSite → Option (List ℕ) → Whole → Type 0
+abbrev pub AnswersAudited : ℕ → List ℕ → PlainSite → Option (List ℕ) → Output → Type 0
 AnswersAudited callers name s None w = w ≡ replied (no_file name)
 AnswersAudited callers name s (Some log) w = (v : Verdict) × IsVerdict callers s log v × (w ≡ judged v)

@@ -4,7 +4,7 @@ ghost use Rattle.std.specs.List.{concat};
 ghost use Rattle.site_edge.specs.Told.{Rose};
 ghost use Rattle.site_audit.specs.declared.auditing.Verdict.TheVariants as verdict_as;
 ghost use Rattle.site_run.specs.Ends.{HandsOn};
-ghost use Rattle.site_run.specs.Logs.{EndsWhole};
+ghost use Rattle.site_run.specs.Logs.{EndsOutput};
 ghost use Rattle.log_audits.specs.Audits.{judged, verdict_line as line_of};
 
 use run_text::write_lines;
@@ -18,7 +18,7 @@ use std::alloc::Global;
 pub(crate) fn write_verdict<S: Sink>(alloc: Global, verdict: Verdict, out: &mut S) -> Status
     ensures never_usage { result ≢ Status.Usage }
     ensures no_read_fault { result ≢ Status.ReadFault }
-    ensures written { EndsWhole result (judged verdict) (S.written out.old) (S.written out.new) }
+    ensures written { EndsOutput result (judged verdict) (S.written out.old) (S.written out.new) }
     ensures through { HandsOn result (S.kept_back out.new) }
     ensures write_fault { result ≡ Status.WriteFault → Rose (S.faults out.old) (S.faults out.new) }
     ensures calm_sink { S.calm out.old → result ≢ Status.WriteFault }
@@ -35,7 +35,7 @@ fn write_lines_of<S: Sink>(lines: &Texts, verdict: Verdict, out: &mut S) -> Stat
     requires { concat lines.now ≡ line_of verdict }
     ensures never_usage { result ≢ Status.Usage }
     ensures no_read_fault { result ≢ Status.ReadFault }
-    ensures written { EndsWhole result (judged verdict) (S.written out.old) (S.written out.new) }
+    ensures written { EndsOutput result (judged verdict) (S.written out.old) (S.written out.new) }
     ensures through { HandsOn result (S.kept_back out.new) }
     ensures write_fault { result ≡ Status.WriteFault → Rose (S.faults out.old) (S.faults out.new) }
     ensures calm_sink { S.calm out.old → result ≢ Status.WriteFault }

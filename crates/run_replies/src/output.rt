@@ -4,7 +4,7 @@ ghost use Rattle.site_edge.specs.Told.{Rose};
 ghost use Rattle.site_replies.specs.Replies.{PlainReply, reply_view};
 ghost use Rattle.run_replies.specs.Runs.{replied};
 ghost use Rattle.site_run.specs.Ends.{HandsOn};
-ghost use Rattle.site_run.specs.Logs.{EndsWhole};
+ghost use Rattle.site_run.specs.Logs.{EndsOutput};
 
 use run_text::write_lines;
 use site_base::OutOfMemory;
@@ -17,7 +17,7 @@ pub fn write_reply<S: Sink>(reply: &Reply, out: &mut S) -> Status
     ensures never_usage { result ≢ Status.Usage }
     ensures never_illegal { result ≢ Status.NotLegal }
     ensures no_read_fault { result ≢ Status.ReadFault }
-    ensures written { EndsWhole result (replied (reply_view reply.now)) (S.written out.old) (S.written out.new) }
+    ensures written { EndsOutput result (replied (reply_view reply.now)) (S.written out.old) (S.written out.new) }
     ensures through { HandsOn result (S.kept_back out.new) }
     ensures write_fault { result ≡ Status.WriteFault → Rose (S.faults out.old) (S.faults out.new) }
     ensures calm_sink { S.calm out.old → result ≢ Status.WriteFault }
@@ -36,7 +36,7 @@ pub fn write_made<S: Sink>(reply: Result<Reply, OutOfMemory>, out: &mut S) -> St
     ensures never_usage { result ≢ Status.Usage }
     ensures never_illegal { result ≢ Status.NotLegal }
     ensures no_read_fault { result ≢ Status.ReadFault }
-    ensures written { (r : PlainReply) → IfOk reply (λ x. reply_view x ≡ r) → EndsWhole result (replied r) (S.written out.old) (S.written out.new) }
+    ensures written { (r : PlainReply) → IfOk reply (λ x. reply_view x ≡ r) → EndsOutput result (replied r) (S.written out.old) (S.written out.new) }
     ensures through { HandsOn result (S.kept_back out.new) }
     ensures write_fault { result ≡ Status.WriteFault → Rose (S.faults out.old) (S.faults out.new) }
     ensures calm_sink { S.calm out.old → result ≢ Status.WriteFault }

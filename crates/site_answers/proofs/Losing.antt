@@ -6,7 +6,7 @@ use Rattle.site_answers.specs.SiteAnswers.{Before, OnBefore, absent, bad, has, h
 use Rattle.site_answers.specs.declared.before.Lost.{Lost}
 use Rattle.site_answers.specs.declared.before.Lost.TheVariants as lost
 use Rattle.site_replies.specs.Replies.{bad_state, no_file}
-use Rattle.site_run.specs.Logs.{EndsRun, EndsWhole, Whole}
+use Rattle.site_run.specs.Logs.{EndsRun, EndsOutput, Output}
 use Rattle.site_run.specs.declared.status.Status.{Status}
 use Rattle.site_run.specs.declared.status.Status.TheVariants as status
 use Rattle.run_replies.proofs.Finding.{always}
@@ -24,8 +24,8 @@ each (Some files) P f = f files
 
 module _ (told : Option Files) (at : Files → Before) (state : Option (List ℕ)) (why : Lost) (is_absent : (files : Files) → told ≡ Some files → why ≡ lost.NoFile → at files ≡ absent) (is_bad : (files : Files) → told ≡ Some files → why ≡ lost.BadState → at files ≡ bad) where
   -- a run that writes why has that as its answer
-  pub lost_ends : (Is : Files → Histories → Whole → Type 0) (end : Status) (old new : Option (List ℕ)) → (why ≡ lost.NoFile → EndsWhole end (replied (no_file (name_of state))) old new)
-      → (why ≡ lost.BadState → EndsWhole end (replied (bad_state (name_of state))) old new) → (why ≡ lost.Failed → (end ≡ status.ReadFault) × (new ≡ old)) → (why ≡ lost.OutOfMemory → (end ≡ status.OutOfMemory) × (new ≡ old))
+  pub lost_ends : (Is : Files → Histories → Output → Type 0) (end : Status) (old new : Option (List ℕ)) → (why ≡ lost.NoFile → EndsOutput end (replied (no_file (name_of state))) old new)
+      → (why ≡ lost.BadState → EndsOutput end (replied (bad_state (name_of state))) old new) → (why ≡ lost.Failed → (end ≡ status.ReadFault) × (new ≡ old)) → (why ≡ lost.OutOfMemory → (end ≡ status.OutOfMemory) × (new ≡ old))
       → EndsRun end (λ w. IfSome told (λ all. OnBefore (Is all) state (at all) w)) old new
   lost_ends Is end old new none wrong failed memory = by why refl
     where

@@ -6,7 +6,7 @@ ghost use Rattle.site_model.specs.Sound.{IsSound};
 ghost use Rattle.site_posts.specs.Books.{histories_of};
 ghost use Rattle.site_replies.specs.Replies.{bad_state as bad_state_of, no_file as no_file_of};
 ghost use Rattle.site_run.specs.Ends.{HandsOn};
-ghost use Rattle.site_run.specs.Logs.{EndsWhole};
+ghost use Rattle.site_run.specs.Logs.{EndsOutput};
 ghost use Rattle.turn_engine.specs.Checkables.{AreOf};
 ghost use Rattle.run_replies.specs.Runs.{Files as ToldFiles, replied};
 ghost use Rattle.site_answers.specs.SiteAnswers.{absent, bad, before, before_in, has, name_of};
@@ -112,8 +112,8 @@ pub(crate) fn write_lost<S: Sink>(
 ) -> Status
     ensures never_usage { result ≢ Status.Usage }
     ensures never_illegal { result ≢ Status.NotLegal }
-    ensures no_file { lost ≡ Lost.NoFile → EndsWhole result (replied (no_file_of (name_of (option_map (λ name. name.now) state.entry)))) (S.written out.old) (S.written out.new) }
-    ensures bad_state { lost ≡ Lost.BadState → EndsWhole result (replied (bad_state_of (name_of (option_map (λ name. name.now) state.entry)))) (S.written out.old) (S.written out.new) }
+    ensures no_file { lost ≡ Lost.NoFile → EndsOutput result (replied (no_file_of (name_of (option_map (λ name. name.now) state.entry)))) (S.written out.old) (S.written out.new) }
+    ensures bad_state { lost ≡ Lost.BadState → EndsOutput result (replied (bad_state_of (name_of (option_map (λ name. name.now) state.entry)))) (S.written out.old) (S.written out.new) }
     ensures failed { lost ≡ Lost.Failed → (result ≡ Status.ReadFault) × (out.new ≡ out.old) }
     ensures memory { lost ≡ Lost.OutOfMemory → (result ≡ Status.OutOfMemory) × (out.new ≡ out.old) }
     ensures read { result ≡ Status.ReadFault → lost ≡ Lost.Failed }

@@ -9,7 +9,7 @@ ghost use Rattle.site_query.specs.Reading.{Tells};
 ghost use Rattle.site_replies.specs.Replies.{reply_view};
 ghost use Rattle.site_run.specs.Callers.{AreCallers};
 ghost use Rattle.site_run.specs.Ends.{HandsOn};
-ghost use Rattle.site_run.specs.Logs.{EndsRun, EndsWhole};
+ghost use Rattle.site_run.specs.Logs.{EndsRun, EndsOutput};
 ghost use Rattle.run_replies.specs.Runs.{replied};
 ghost use Rattle.site_answers.specs.SiteAnswers.{AnswersAsked, AnswersQueried, answered};
 
@@ -167,7 +167,7 @@ fn write_answer<S: Sink>(alloc: Global, answer: Option<Text>, out: &mut S) -> St
     ensures never_usage { result ≢ Status.Usage }
     ensures never_illegal { result ≢ Status.NotLegal }
     ensures no_read_fault { result ≢ Status.ReadFault }
-    ensures written { EndsWhole result (answered answer) (S.written out.old) (S.written out.new) }
+    ensures written { EndsOutput result (answered answer) (S.written out.old) (S.written out.new) }
     ensures through { HandsOn result (S.kept_back out.new) }
     ensures write_fault { result ≡ Status.WriteFault → Rose (S.faults out.old) (S.faults out.new) }
     ensures calm_sink { S.calm out.old → result ≢ Status.WriteFault }

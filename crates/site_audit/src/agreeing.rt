@@ -6,12 +6,10 @@ ghost use Rattle.std.specs.Str.{bytes_eq};
 ghost use Rattle.depend_graph.specs.Cycles.{IsOnCycle};
 ghost use Rattle.log_text.specs.SiteNames.{names_of};
 ghost use Rattle.time_range.specs.Zone.{IsBadFile};
-ghost use Rattle.run_meaning.specs.Runs.{begun_by};
 ghost use Rattle.run_meaning.specs.Turns.{Begun};
-ghost use Rattle.run_text.specs.TurnReading.{turn_read};
 ghost use Rattle.site_model.specs.PlainSite.{site_view};
 ghost use Rattle.site_model.specs.Sound.{IsSound};
-ghost use Rattle.turn_engine.specs.Stages.{basis_of_site, stage_of};
+ghost use Rattle.turn_engine.specs.Stages.{basis_of_run, stage_from, stage_of, turn_as_read};
 ghost use Rattle.site_audit.specs.Agreeing.{AgreeBy, AgreeUpTo};
 ghost use Rattle.site_audit.specs.Blocks.{blocks_of, lines_of};
 ghost use Rattle.site_audit.specs.ByCallers.{round_of, turn_of, AgreesSo, AreToldIn, IsToldIn};
@@ -76,7 +74,7 @@ fn agreed(
     requires sound { IsSound (site_view engine.old.run.site) }
     requires callers { (1 ≤ callers) × (callers ≤ 64) }
     requires rounds { 2 ≤ callers → AreToldIn style (names_of (site_view engine.old.run.site)) (map round_of turns.items) (blocks_of (lines_of log.now)) }
-    ensures { (begun : List Begun) → IfOk result (AgreeUpTo style (basis_of_site (site_view engine.old.run.site) engine.old.run.zone) callers (stage_of engine.old.run begun) (map (turn_read (site_view engine.old.run.site)) (map turn_of turns.items)) (blocks_of (lines_of log.now))) }
+    ensures { (begun : List Begun) → IfOk result (AgreeUpTo style (basis_of_run engine.old.run) callers (stage_of engine.old.run begun) (map (turn_as_read engine.old.run) (map turn_of turns.items)) (blocks_of (lines_of log.now))) }
 {
     let mut rest = log;
     let mut count = 0;
@@ -108,7 +106,7 @@ fn agrees(
     requires callers { (1 ≤ callers) × (callers ≤ 64) }
     requires round { 2 ≤ callers → IsToldIn style (names_of (site_view engine.old.run.site)) (lines_of block.now) told.round.items }
     ensures agrees { (begun : List Begun) →
-        IfOk result (AgreesSo style (basis_of_site (site_view engine.old.run.site) engine.old.run.zone) callers (stage_of engine.old.run begun) (turn_read (site_view engine.old.run.site) told.turn) (lines_of block.now) (stage_of engine.new.run (begun_by (stage_of engine.old.run begun) engine.new.run.moment))) }
+        IfOk result (AgreesSo style (basis_of_run engine.old.run) callers (stage_of engine.old.run begun) (turn_as_read engine.old.run told.turn) (lines_of block.now) (stage_from engine.old.run begun engine.new.run)) }
     ensures site { OnOk result (engine.new.run.site ≡ engine.old.run.site) }
     ensures zone { OnOk result (engine.new.run.zone ≡ engine.old.run.zone) }
     ensures fresh { IfOk result (λ same. OnTrue same (engine.new.spent ≡ false)) }
@@ -135,7 +133,7 @@ fn agrees_alone(
     requires few { engine.old.run.turns < 2 ^ 40 }
     requires sound { IsSound (site_view engine.old.run.site) }
     ensures agrees { (begun : List Begun) →
-        IfOk result (AgreesSo style (basis_of_site (site_view engine.old.run.site) engine.old.run.zone) 1 (stage_of engine.old.run begun) (turn_read (site_view engine.old.run.site) turn.now) (lines_of block.now) (stage_of engine.new.run (begun_by (stage_of engine.old.run begun) engine.new.run.moment))) }
+        IfOk result (AgreesSo style (basis_of_run engine.old.run) 1 (stage_of engine.old.run begun) (turn_as_read engine.old.run turn.now) (lines_of block.now) (stage_from engine.old.run begun engine.new.run)) }
     ensures site { OnOk result (engine.new.run.site ≡ engine.old.run.site) }
     ensures zone { OnOk result (engine.new.run.zone ≡ engine.old.run.zone) }
     ensures fresh { IfOk result (λ same. OnTrue same (engine.new.spent ≡ false)) }
@@ -160,7 +158,7 @@ fn agrees_told(
     requires callers { (1 ≤ callers) × (callers ≤ 64) }
     requires round { IsToldIn style (names_of (site_view engine.old.run.site)) (lines_of block.now) told.round.items }
     ensures agrees { (begun : List Begun) →
-        IfOk result (AgreesSo style (basis_of_site (site_view engine.old.run.site) engine.old.run.zone) callers (stage_of engine.old.run begun) (turn_read (site_view engine.old.run.site) told.turn) (lines_of block.now) (stage_of engine.new.run (begun_by (stage_of engine.old.run begun) engine.new.run.moment))) }
+        IfOk result (AgreesSo style (basis_of_run engine.old.run) callers (stage_of engine.old.run begun) (turn_as_read engine.old.run told.turn) (lines_of block.now) (stage_from engine.old.run begun engine.new.run)) }
     ensures site { OnOk result (engine.new.run.site ≡ engine.old.run.site) }
     ensures zone { OnOk result (engine.new.run.zone ≡ engine.old.run.zone) }
     ensures fresh { IfOk result (λ same. OnTrue same (engine.new.spent ≡ false)) }

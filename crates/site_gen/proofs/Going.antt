@@ -8,7 +8,7 @@ use Rattle.site_model.specs.PlainSite.{PlainSite, site_view}
 use Rattle.site_model.specs.Sound.{HasNames}
 use Rattle.site_run.specs.Feeds.{no_lines}
 use Rattle.site_run.proofs.OnSite.{runs_alone}
-use Rattle.turn_engine.specs.Ready.{Held, IsZoneOf}
+use Rattle.turn_engine.specs.Ready.{EngineView, IsZoneOf}
 use Rattle.turn_engine.specs.Stages.{basis_of_site, stage_of}
 use Rattle.site_gen.specs.Counting.{with_turn}
 use Rattle.site_gen.specs.Counts.{AreCounts, counts_of}
@@ -21,7 +21,7 @@ use Rattle.site_gen.proofs.Turning.{log_at, logs_first, logs_last, logs_next, st
 abbrev pub nothing_counted : Counts
 nothing_counted = record { entries = 0; sent = 0; suppressed = 0; orders = 0 }
 
-pub at_first : (n : ℕ) (s : PlainSite) (e : Held) → site_view e.run.site ≡ s → IsZoneOf s.zone e.run.zone → e.spent ≡ false → stage_of e.run [] ≡ start s (no_entries s) → IsSoFar n s 1 e nothing_counted
+pub at_first : (n : ℕ) (s : PlainSite) (e : EngineView) → site_view e.run.site ≡ s → IsZoneOf s.zone e.run.zone → e.spent ≡ false → stage_of e.run [] ≡ start s (no_entries s) → IsSoFar n s 1 e nothing_counted
 at_first n s e site zone fresh is =
     let first = stage_first n s e.run.zone in
     record {
@@ -36,13 +36,13 @@ at_first n s e site zone fresh is =
     }
 
 -- the log of the next turn of an engine, and the stage behind it
-abbrev pub next_log : ℕ → PlainSite → ℕ → Held → Turn → TurnLog
+abbrev pub next_log : ℕ → PlainSite → ℕ → EngineView → Turn → TurnLog
 next_log n s k e t = log_at (site_view e.run.site) e.run.zone (stage_of e.run (stage_before n s e.run.zone k).begun) t
 
-abbrev pub next_stage : ℕ → PlainSite → ℕ → Held → Turn → Stage
+abbrev pub next_stage : ℕ → PlainSite → ℕ → EngineView → Turn → Stage
 next_stage n s k e t = stage_at (site_view e.run.site) e.run.zone (stage_of e.run (stage_before n s e.run.zone k).begun) t
 
-pub at_next : (n : ℕ) (s : PlainSite) (k : ℕ) (old new : Held) (c d : Counts) (turn : Turn) → IsSoFar n s k old c → k < 7 → turn ≡ turn_of n k
+pub at_next : (n : ℕ) (s : PlainSite) (k : ℕ) (old new : EngineView) (c d : Counts) (turn : Turn) → IsSoFar n s k old c → k < 7 → turn ≡ turn_of n k
     → stage_of new.run (begun_by (stage_of old.run (stage_before n s old.run.zone k).begun) new.run.moment) ≡ next_stage n s k old turn
     → new.run.site ≡ old.run.site → new.run.zone ≡ old.run.zone → new.spent ≡ false → d ≡ with_turn c (next_log n s k old turn) → IsSoFar n s (k + 1) new d
 at_next n s k old new c d turn so_far more is after site zone fresh counted =
@@ -66,7 +66,7 @@ at_next n s k old new c d turn so_far more is after site zone fresh counted =
       counts = subst (λ x. d ≡ counts_of (logs_before n s x (k + 1))) (sym zone) counts;
     }
 
-pub at_last : (n : ℕ) (s : PlainSite) (k : ℕ) (e : Held) (c : Counts) → 7 ≤ k → HasNames s → IsSoFar n s k e c → AreCounts n s c
+pub at_last : (n : ℕ) (s : PlainSite) (k : ℕ) (e : EngineView) (c : Counts) → 7 ≤ k → HasNames s → IsSoFar n s k e c → AreCounts n s c
 at_last n s k e c over names so_far =
     let few = so_far.few in
     let seven : k ≡ 7 = omega (arith, few, over) in

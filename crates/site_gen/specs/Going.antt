@@ -7,7 +7,7 @@ use Rattle.run_meaning.specs.Turns.{from_on}
 use Rattle.run_text.specs.TurnReading.{turn_read}
 use Rattle.site_edge.specs.declared.turn.Turn.{Turn}
 use Rattle.site_model.specs.PlainSite.{PlainSite, site_view}
-use Rattle.turn_engine.specs.Ready.{Held, IsZoneOf}
+use Rattle.turn_engine.specs.Ready.{EngineView, IsZoneOf}
 use Rattle.turn_engine.specs.Stages.{basis_of_site, stage_of}
 use Rattle.site_gen.specs.Counts.{counts_of}
 use Rattle.site_gen.specs.Turns.{turn_of}
@@ -25,7 +25,7 @@ unfoldable pub stage_before : ℕ → PlainSite → Option Tzif → ℕ → Stag
 stage_before n s zone k = stage_by (basis_of_site s zone) (start s (no_entries s)) (map (turn_read s) (turns_before n k)) (run_alone (basis_of_site s zone) (start s (no_entries s)) (map (turn_read s) (turns_before n k)))
 
 -- engine and counts stand before the turn of this number
-pub record IsSoFar (n : ℕ) (s : PlainSite) (k : ℕ) (e : Held) (c : Counts) : Type 0 where
+pub record IsSoFar (n : ℕ) (s : PlainSite) (k : ℕ) (e : EngineView) (c : Counts) : Type 0 where
   pub some : 1 ≤ k
   pub few : k ≤ 7
   pub turns : e.run.turns + 1 ≡ k

@@ -12,7 +12,7 @@ use Rattle.site_phases.specs.Phases.{FilesStay, answer_view}
 use Rattle.site_phases.specs.declared.answer.Answer.{Answer}
 use Rattle.site_phases.specs.declared.answer.Answer.TheVariants as answer
 use Rattle.run_replies.specs.Runs.{Files, replied}
-use Rattle.site_run.specs.Logs.{Whole}
+use Rattle.site_run.specs.Logs.{Output}
 use Rattle.site_program.specs.TaskAnswers.{AnswersOver, AnswersRoot, AnswersShown, AnswersSite, HasNoSite, IsSiteOf}
 use Rattle.site_replies.specs.Replies.{config_reply, diagnoses, files_in}
 use Rattle.site_replies.specs.declared.replies.Shown.{Shown}
@@ -39,14 +39,14 @@ shown_answers how root None a h = tt
 shown_answers how root (Some files) a h =
     root_answers (λ names c. replied (config_reply how (files_in a) (answer_view a)) ≡ replied (config_reply how names c)) root files a (h files refl).0 (h files refl).1 refl
 
-by_site : (Is : Files → PlainSite → Whole → Type 0) (root : List ℕ) (told : Option Files) (s : Site) → IsTold told root (answer.Site s)
-    → (w : Whole) → IfSome told (λ all. Is all (site_view s) w) → IfSome told (λ all. AnswersSite all root (Is all) w)
+by_site : (Is : Files → PlainSite → Output → Type 0) (root : List ℕ) (told : Option Files) (s : Site) → IsTold told root (answer.Site s)
+    → (w : Output) → IfSome told (λ all. Is all (site_view s) w) → IfSome told (λ all. AnswersSite all root (Is all) w)
 by_site Is root None s h w is = tt
 by_site Is root (Some files) s h w is = root_answers (AnswersOver (Is files) w) root files (answer.Site s) (h files refl).0 (h files refl).1 is
 
 -- what is asked of its site
-pub site_answers : (Is : Files → PlainSite → Whole → Type 0) (root : List ℕ) (told : Option Files) (a : Answer) (s : Site) → a ≡ answer.Site s → IsTold told root a
-    → (w : Whole) → IfSome told (λ all. Is all (site_view s) w) → IfSome told (λ all. AnswersSite all root (Is all) w)
+pub site_answers : (Is : Files → PlainSite → Output → Type 0) (root : List ℕ) (told : Option Files) (a : Answer) (s : Site) → a ≡ answer.Site s → IsTold told root a
+    → (w : Output) → IfSome told (λ all. Is all (site_view s) w) → IfSome told (λ all. AnswersSite all root (Is all) w)
 site_answers Is root told a s e h w is = by_site Is root told s (subst (IsTold told root) e h) w is
 
 site_is : (root : List ℕ) (told : Option Files) (s : Site) → IsTold told root (answer.Site s) → IfSome told (λ all. IsSiteOf all root (site_view s))
@@ -66,13 +66,13 @@ no_site_is root (Some files) names list h =
 pub no_site_found : (root : List ℕ) (told : Option Files) (a : Answer) (names : List (List ℕ)) (list : List Diag) → a ≡ answer.Diags names list → IsTold told root a → IfSome told (λ all. HasNoSite all root)
 no_site_found root told a names list e h = no_site_is root told names list (subst (IsTold told root) e h)
 
-by_diags : (Is : Files → PlainSite → Whole → Type 0) (root : List ℕ) (told : Option Files) (names : List (List ℕ)) (list : List Diag) → IsTold told root (answer.Diags names list)
+by_diags : (Is : Files → PlainSite → Output → Type 0) (root : List ℕ) (told : Option Files) (names : List (List ℕ)) (list : List Diag) → IsTold told root (answer.Diags names list)
     → IfSome told (λ all. AnswersSite all root (Is all) (replied (diagnoses names list)))
 by_diags Is root None names list h = tt
 by_diags Is root (Some files) names list h =
     root_answers (AnswersOver (Is files) (replied (diagnoses names list))) root files (answer.Diags names list) (h files refl).0 (h files refl).1 refl
 
 -- its diagnostics
-pub diags_answer : (Is : Files → PlainSite → Whole → Type 0) (root : List ℕ) (told : Option Files) (a : Answer) (names : List (List ℕ)) (list : List Diag) → a ≡ answer.Diags names list → IsTold told root a
+pub diags_answer : (Is : Files → PlainSite → Output → Type 0) (root : List ℕ) (told : Option Files) (a : Answer) (names : List (List ℕ)) (list : List Diag) → a ≡ answer.Diags names list → IsTold told root a
     → IfSome told (λ all. AnswersSite all root (Is all) (replied (diagnoses names list)))
 diags_answer Is root told a names list e h = by_diags Is root told names list (subst (IsTold told root) e h)

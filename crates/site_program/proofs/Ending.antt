@@ -5,11 +5,11 @@ use Rattle.conf_sources.specs.declared.load_fault.LoadFault.TheVariants as load
 use Rattle.site_program.specs.Runs.{status_by}
 use Rattle.site_answers.specs.SiteAnswers.{IsUnanswered}
 use Rattle.site_run.specs.Ends.{HandsOn, Outside}
-use Rattle.site_run.specs.Logs.{EndsRun, Whole}
+use Rattle.site_run.specs.Logs.{EndsRun, Output}
 use Rattle.site_run.specs.declared.status.Status.{Status}
 
 -- files that can't be read leave nothing written
-pub unread : (fault : LoadFault) (end : Status) (Is : Whole → Type 0) (old : Option (List ℕ)) → end ≡ status_by fault → EndsRun end Is old old
+pub unread : (fault : LoadFault) (end : Status) (Is : Output → Type 0) (old : Option (List ℕ)) → end ≡ status_by fault → EndsRun end Is old old
 unread load.Failed end Is old e = subst (λ s. EndsRun s Is old old) (sym e) refl
 unread load.OutOfMemory end Is old e = subst (λ s. EndsRun s Is old old) (sym e) (inl refl)
 

@@ -28,7 +28,7 @@ use Rattle.site_replies.specs.Replies.{listed}
 use Rattle.site_replies.specs.declared.replies.Shown.{Shown}
 use Rattle.site_replies.specs.declared.replies.Shown.TheVariants as shown
 use Rattle.site_run.proofs.OneLog.{one_run}
-use Rattle.site_run.specs.Logs.{EndsRun, EndsWhole, Whole, nothing_given}
+use Rattle.site_run.specs.Logs.{EndsRun, EndsOutput, Output, nothing_given}
 use Rattle.site_run.specs.Statuses.{number_of}
 use Rattle.site_run.specs.declared.status.Status.{Status}
 use Rattle.site_run.specs.declared.status.Status.TheVariants as status
@@ -81,7 +81,7 @@ same_status s t h =
     let number : number_of s ≡ number_of t = cc in
     sym (numbered s) ∙ ap status_numbered number ∙ numbered t
 
-pub same_whole : (v w : Whole) → ((v ≡ w → ⊥) → ⊥) → v ≡ w
+pub same_whole : (v w : Output) → ((v ≡ w → ⊥) → ⊥) → v ≡ w
 same_whole v w h =
     let text = same_text v.text w.text (λ no. h (λ same. no (ap (λ x. x.text) same))) in
     let ends = same_status v.ends w.ends (λ no. h (λ same. no (ap (λ x. x.ends) same))) in
@@ -102,17 +102,17 @@ configured bad (refuses names list) s e = absurd cc
 
 -- Answers over a root.
 
-over_one : (Is : PlainSite → Whole → Type 0) → IsOne Is → (names : List (List ℕ)) (c : Committed PlainSite) → ((s : PlainSite) → c ≡ commits.site s → HasNames s)
-    → (v w : Whole) → AnswersOver Is v names c → AnswersOver Is w names c → v ≡ w
+over_one : (Is : PlainSite → Output → Type 0) → IsOne Is → (names : List (List ℕ)) (c : Committed PlainSite) → ((s : PlainSite) → c ≡ commits.site s → HasNames s)
+    → (v w : Output) → AnswersOver Is v names c → AnswersOver Is w names c → v ≡ w
 over_one Is one names (commits.site s) named v w p q = one s (named s refl) v w p q
 over_one Is one names (commits.refused list) named v w p q = p ∙ sym q
 
-site_one : (files : Files) (root : List ℕ) (Is : PlainSite → Whole → Type 0) → IsOne Is → (v w : Whole) → AnswersSite files root Is v → AnswersSite files root Is w → v ≡ w
+site_one : (files : Files) (root : List ℕ) (Is : PlainSite → Output → Type 0) → IsOne Is → (v w : Output) → AnswersSite files root Is v → AnswersSite files root Is w → v ≡ w
 site_one files root Is one v w p q =
     let load = load_outcome files root in
     same_whole v w (λ no. undecided (IsBadZone load) (λ bad d. no (over_one Is one (names_of load) (config_outcome bad load) (configured bad load) v w (p bad d) (q bad d))))
 
-shown_one : (files : Files) (how : Shown) (root : List ℕ) (v w : Whole) → AnswersShown files how root v → AnswersShown files how root w → v ≡ w
+shown_one : (files : Files) (how : Shown) (root : List ℕ) (v w : Output) → AnswersShown files how root v → AnswersShown files how root w → v ≡ w
 shown_one files how root v w p q =
     same_whole v w (λ no. undecided (IsBadZone (load_outcome files root)) (λ bad d. no (p bad d ∙ sym (q bad d))))
 
@@ -124,7 +124,7 @@ counted_one hosts s names v w p q =
     p.is ∙ ap (λ c. replied (record { lines = count_lines (length (listed s.objects)) c; diagnosed = false })) counts ∙ sym q.is
 
 -- what answers to a task over files and turns
-pub one_answer : (t : Task) (files : Files) (turns : List Turn) (v w : Whole) → Answers 1 t (Some files) (Some turns) v → Answers 1 t (Some files) (Some turns) w → v ≡ w
+pub one_answer : (t : Task) (files : Files) (turns : List Turn) (v w : Output) → Answers 1 t (Some files) (Some turns) v → Answers 1 t (Some files) (Some turns) w → v ≡ w
 one_answer (check root) files turns v w p q = shown_one files shown.Count root v w p q
 one_answer (objects root) files turns v w p q = shown_one files shown.Listing root v w p q
 one_answer (replay style recur root script) files turns v w p q = site_one files root (AnswersReplayed 1 style recur None script files) (replayed_one style recur None script files) v w p q
@@ -138,14 +138,14 @@ one_answer (generate hosts) files turns v w p q = site_one (files_of hosts) root
 
 -- Calm runs.
 
-ended : (s : Status) (t : Task) (files : Files) (turns : List Turn) (old new : Option (List ℕ)) (w : Whole) → Answers 1 t (Some files) (Some turns) w
-    → (v : Whole) × Answers 1 t (Some files) (Some turns) v × EndsWhole s v old new → EndsWhole s w old new
-ended s t files turns old new w is e = subst (λ x. EndsWhole s x old new) (one_answer t files turns e.0 w e.1 is) e.2
+ended : (s : Status) (t : Task) (files : Files) (turns : List Turn) (old new : Option (List ℕ)) (w : Output) → Answers 1 t (Some files) (Some turns) w
+    → (v : Output) × Answers 1 t (Some files) (Some turns) v × EndsOutput s v old new → EndsOutput s w old new
+ended s t files turns old new w is e = subst (λ x. EndsOutput s x old new) (one_answer t files turns e.0 w e.1 is) e.2
 
 -- where no fault of files, world or output ended it, a run wrote the whole answer, or there was no memory for it
-pub calm_runs_end : (s : Status) (t : Task) (files : Files) (turns : List Turn) (old new : Option (List ℕ)) (w : Whole)
+pub calm_runs_end : (s : Status) (t : Task) (files : Files) (turns : List Turn) (old new : Option (List ℕ)) (w : Output)
     → EndsRun s (Answers 1 t (Some files) (Some turns)) old new → (s ≡ status.ReadFault → ⊥) → (s ≡ status.WriteFault → ⊥) → (s ≡ status.WorldFault → ⊥)
-    → Answers 1 t (Some files) (Some turns) w → (s ≡ status.OutOfMemory) ⊎ EndsWhole s w old new
+    → Answers 1 t (Some files) (Some turns) w → (s ≡ status.OutOfMemory) ⊎ EndsOutput s w old new
 calm_runs_end status.Done t files turns old new w e read write world is = inr (ended status.Done t files turns old new w is e)
 calm_runs_end status.Diagnosed t files turns old new w e read write world is = inr (ended status.Diagnosed t files turns old new w is e)
 calm_runs_end status.Usage t files turns old new w e read write world is = inr (ended status.Usage t files turns old new w is e)

@@ -16,7 +16,7 @@ use Rattle.site_model.specs.PlainSite.{PlainSite}
 use Rattle.site_query.specs.Lines as query_lines
 use Rattle.site_query.specs.declared.query.Query.{Query}
 use Rattle.site_replies.specs.Replies.{bad_query, bad_script, bad_state, diagnoses, no_file}
-use Rattle.site_run.specs.Logs.{Whole}
+use Rattle.site_run.specs.Logs.{Output}
 use Rattle.site_run.specs.declared.status.Status.{Status}
 use Rattle.site_run.specs.declared.status.Status.TheVariants as status
 use Rattle.site_text.specs.Scripts.{Has, bad_line, told}
@@ -122,10 +122,10 @@ abbrev pub IsFault : Status → Type 0
 IsFault end = (end ≡ status.ReadFault) ⊎ ((end ≡ status.WriteFault) ⊎ (end ≡ status.WorldFault))
 
 -- unless a fault ended it or there was no memory for it, a run wrote the whole of such an answer, and ended as that does
-abbrev pub Completes : Status → (Whole → Type 0) → Option (List ℕ) → Option (List ℕ) → Type 0
-Completes end Is old new = IsFault end ⊎ ((end ≡ status.OutOfMemory) ⊎ ((w : Whole) × Is w × (end ≡ w.ends) × Adds w.text old new))
+abbrev pub Completes : Status → (Output → Type 0) → Option (List ℕ) → Option (List ℕ) → Type 0
+Completes end Is old new = IsFault end ⊎ ((end ≡ status.OutOfMemory) ⊎ ((w : Output) × Is w × (end ≡ w.ends) × Adds w.text old new))
 
-abbrev pub diagnosed_by : List (List ℕ) → Whole
+abbrev pub diagnosed_by : List (List ℕ) → Output
 diagnosed_by lines = record { text = concat lines; ends = status.Diagnosed }
 
 -- So it wrote the whole of what answers to its task. Over lawful files that ends with status 0, and diagnostics are all that is written,

@@ -24,7 +24,7 @@ use Rattle.site_replies.specs.declared.remarks.Remark.{Remark}
 use Rattle.site_replies.specs.declared.replies.Shown.{Shown}
 use Rattle.site_replies.specs.declared.replies.Shown.TheVariants as shown
 use Rattle.site_run.specs.Ends.{Outside}
-use Rattle.site_run.specs.Logs.{Whole}
+use Rattle.site_run.specs.Logs.{Output}
 use Rattle.site_run.specs.declared.status.Status.{Status}
 use Rattle.site_run.specs.declared.status.Status.TheVariants as status
 use Rattle.site_words.specs.Commands.{Command}
@@ -38,21 +38,21 @@ AnswersRoot files root Is =
     (bad : Bool) → Decides bad (IsBadZone (load_outcome files root)) → Is (names_of (load_outcome files root)) (config_outcome bad (load_outcome files root))
 
 -- its objects, as they are asked for, or its diagnostics
-abbrev pub AnswersShown : Files → Shown → List ℕ → Whole → Type 0
+abbrev pub AnswersShown : Files → Shown → List ℕ → Output → Type 0
 AnswersShown files how root w = AnswersRoot files root (λ names c. w ≡ replied (config_reply how names c))
 
 -- what is asked of its site, or its diagnostics
-abbrev pub AnswersOver : (PlainSite → Whole → Type 0) → Whole → List (List ℕ) → Committed PlainSite → Type 0
+abbrev pub AnswersOver : (PlainSite → Output → Type 0) → Output → List (List ℕ) → Committed PlainSite → Type 0
 AnswersOver Is w names (commits.site s) = Is s w
 AnswersOver Is w names (commits.refused list) = w ≡ replied (diagnoses names list)
 
-abbrev pub AnswersSite : Files → List ℕ → (PlainSite → Whole → Type 0) → Whole → Type 0
+abbrev pub AnswersSite : Files → List ℕ → (PlainSite → Output → Type 0) → Output → Type 0
 AnswersSite files root Is w = AnswersRoot files root (AnswersOver Is w)
 
 -- Generated sites.
 
 -- how many objects a site lists, and what is counted of its run over so many hosts
-pub record IsCounted (hosts : ℕ) (s : PlainSite) (w : Whole) : Type 0 where
+pub record IsCounted (hosts : ℕ) (s : PlainSite) (w : Output) : Type 0 where
   pub counts : Counts
   pub are : AreCounts hosts s counts
   pub is : w ≡ replied (record { lines = count_lines (length (listed s.objects)) counts; diagnosed = false })
@@ -64,14 +64,14 @@ root_name = codes "gen"
 abbrev pub files_of : ℕ → Files
 files_of hosts = (root_name, root_text hosts) ∷ []
 
-abbrev pub AnswersGenerated : ℕ → Whole → Type 0
+abbrev pub AnswersGenerated : ℕ → Output → Type 0
 AnswersGenerated hosts w = AnswersSite (files_of hosts) root_name (IsCounted hosts) w
 
 -- Tasks.
 
 -- what answers to a task that so many workers do. If it is over files and they aren't told, anything does. What is counted of a generated
 -- site is the same for each number, for all its events are dealt to the first.
-abbrev pub Answers : ℕ → Task → Option Files → Option (List Turn) → Whole → Type 0
+abbrev pub Answers : ℕ → Task → Option Files → Option (List Turn) → Output → Type 0
 Answers callers (check root) files turns w = IfSome files (λ all. AnswersShown all shown.Count root w)
 Answers callers (objects root) files turns w = IfSome files (λ all. AnswersShown all shown.Listing root w)
 Answers callers (replay style recur root script) files turns w =

@@ -6,13 +6,12 @@ ghost use Rattle.site_phases.specs.Phases.{FilesStay, IfSite, IsReady, answer_vi
 ghost use Rattle.site_load.specs.Configs.{IsBadZone, config_outcome, names_of};
 ghost use Rattle.site_load.specs.Idle.{idle_by, rules_of};
 ghost use Rattle.site_load.specs.Loads.{load_outcome};
-ghost use Rattle.run_meaning.specs.Runs.{TurnLog, begun_by};
+ghost use Rattle.run_meaning.specs.Runs.{TurnLog};
 ghost use Rattle.run_meaning.specs.Turns.{Begun};
 ghost use Rattle.run_text.specs.LogText.{turn_lines};
-ghost use Rattle.run_text.specs.TurnReading.{turn_read};
 ghost use Rattle.site_model.specs.PlainSite.{site_view};
 ghost use Rattle.site_model.specs.Sound.{IsSound};
-ghost use Rattle.turn_engine.specs.Stages.{Tells, TellsTurn, basis_of_site, stage_of};
+ghost use Rattle.turn_engine.specs.Stages.{Tells, TellsTurn, basis_of_run, stage_from, stage_of, turn_as_read};
 ghost use Rattle.engine_log.specs.OnSite.{IsTurnOf};
 ghost use Rattle.site_edge.specs.Told.{Rose};
 ghost use Rattle.site_words.specs.Commands.{command_of as command_in};
@@ -105,7 +104,7 @@ pub fn run<F: Files, W: World, S: Sink, N: Remarks, R: Wait + Threads + Sync, G:
             requires few { engine.old.run.turns < 2 ^ 40 }
             requires workers { AreCallers count }
             ensures turn { (begun : List Begun) →
-                IfOk result (λ out. TellsTurn (basis_of_site (site_view engine.old.run.site) engine.old.run.zone) count (stage_of engine.old.run begun) (turn_read (site_view engine.old.run.site) turn.now) out (stage_of engine.new.run (begun_by (stage_of engine.old.run begun) engine.new.run.moment))) }
+                IfOk result (λ out. TellsTurn (basis_of_run engine.old.run) count (stage_of engine.old.run begun) (turn_as_read engine.old.run turn.now) out (stage_from engine.old.run begun engine.new.run)) }
             ensures site { OnOk result (engine.new.run.site ≡ engine.old.run.site) }
             ensures zone { OnOk result (engine.new.run.zone ≡ engine.old.run.zone) }
             ensures fresh { OnOk result (engine.new.spent ≡ false) }

@@ -10,7 +10,7 @@ use Rattle.site_edge.specs.declared.turn.Turn.{Turn}
 use Rattle.site_edge.specs.declared.world_error.WorldError.{WorldError}
 use Rattle.site_edge.specs.declared.world_error.WorldError.TheVariants as world
 use Rattle.site_model.specs.PlainSite.{site_view}
-use Rattle.turn_engine.specs.Ready.{Held}
+use Rattle.turn_engine.specs.Ready.{EngineView}
 use Rattle.turn_engine.specs.Stages.{Running, stage_of}
 use Rattle.site_run.specs.Courses.{AreLogsOf, Course, IsNextLog, behind_over, calls_over, course_of, orders_over, text_of, text_over}
 use Rattle.site_run.specs.Ends.{Ends, EndsBehind, HandsOn, IsAt, IsBefore, IsBetween, IsGone, IsInLines, IsInOrders, IsPartStarted, IsPartWritten, Outside, Stands, StopsIn, StopsTurn, Takes}
@@ -26,7 +26,7 @@ use Rattle.site_run.proofs.Fed.{feed_more}
 use Rattle.site_run.proofs.Going.{behind_joined, calls_then, logs_then, orders_then, text_then}
 
 -- so many turns are done, and engine and feed stand behind them
-pub record IsOnWay {F : Type 0} (callers : ℕ) (c : Course) (after : Changing F) (first : F) (count : ℕ) (engine : Held) (feed : F) (old new : Outside) : Type 0 where
+pub record IsOnWay {F : Type 0} (callers : ℕ) (c : Course) (after : Changing F) (first : F) (count : ℕ) (engine : EngineView) (feed : F) (old new : Outside) : Type 0 where
   pub done : List Turn
   pub logs : List TurnLog
   pub many : length done ≡ count
@@ -144,7 +144,7 @@ hands_on s callers c limit stands o n e h = by s e.ends
 
 -- From turn to turn.
 
-module _ {F : Type 0} (callers : ℕ) (r : Running) (style : Style) (gives : Giving F) (after : Changing F) (first : F) (count limit : ℕ) (engine : Held) (feed : F) (o m : Outside) where
+module _ {F : Type 0} (callers : ℕ) (r : Running) (style : Style) (gives : Giving F) (after : Changing F) (first : F) (count limit : ℕ) (engine : EngineView) (feed : F) (o m : Outside) where
   abbrev c : Course
   c = course_of r [] style gives after first
 
@@ -196,7 +196,7 @@ module _ {F : Type 0} (callers : ℕ) (r : Running) (style : Style) (gives : Giv
           stopped callers why c limit stands way.done way.logs t o n x (omega (arith, k, more)) way.are before (subst (λ (d : Course). StopsTurn callers d t why n x) next_is p)
 
       -- or behind which it goes on
-      pub goes_on : (x : Outside) (moved : Held) (fed : F) → IsGone callers next t (stage_of moved.run (begun_by (stage_of engine.run begun) moved.run.moment)) n x → moved.spent ≡ false
+      pub goes_on : (x : Outside) (moved : EngineView) (fed : F) → IsGone callers next t (stage_of moved.run (begun_by (stage_of engine.run begun) moved.run.moment)) n x → moved.spent ≡ false
           → fed ≡ after feed engine.run.histories moved.run.moment → IsOnWay callers c after first (count + 1) moved fed o x
       goes_on x moved fed gone fresh fed_is =
           let reached_by = stage_of moved.run (begun_by (stage_of engine.run begun) moved.run.moment) in

@@ -18,8 +18,8 @@ use Rattle.turn_engine.specs.Ready.{IsZoneOf}
 use Rattle.turn_engine.specs.Stages.{Running, stage_of}
 use Rattle.site_run.specs.Courses.{AreLogsOf, Course, behind_over, course_of, reads, text_over}
 use Rattle.site_run.specs.Feeds.{Changing, Giving, basis_with, lines_fed}
-use Rattle.site_run.specs.Ends.{Came, Ends, Outside, Takes, WritesText, outside}
-use Rattle.site_run.specs.Logs.{AnswersWorld, EndsOne, EndsRun, EndsWhole, Given, IsAtFirst, IsLog, IsOverTurns, Whole, course_from_start, given_by}
+use Rattle.site_run.specs.Ends.{TurnsCame, Ends, Outside, Takes, WritesText, outside}
+use Rattle.site_run.specs.Logs.{AnswersWorld, EndsOne, EndsRun, EndsOutput, Given, IsAtFirst, IsLog, IsOverTurns, Output, course_from_start, given_by}
 use Rattle.site_run.specs.declared.status.Status.{Status}
 use Rattle.site_run.specs.declared.status.Status.TheVariants as status
 use Rattle.site_run.proofs.Adding.{adds_more, adds_none, adds_part, part_of, takes_none}
@@ -43,7 +43,7 @@ nothing_taken : (o n : Option (List Turn)) → Takes [] o n → n ≡ o
 nothing_taken None n p = p
 nothing_taken (Some all) n p = p.2 ∙ ap Some (sym p.1)
 
-some_came : (told : Option (List Turn)) → (came : List Turn) × Came told came
+some_came : (told : Option (List Turn)) → (came : List Turn) × TurnsCame told came
 some_came None = ([], tt)
 some_came (Some ts) = (ts, refl)
 
@@ -56,7 +56,7 @@ module _ (callers : ℕ) (someone : 1 ≤ callers) (style : Style) (limit : ℕ)
   abbrev c : Course
   c = course_from_start s zone given style
 
-  abbrev whole : List Turn → List TurnLog → Whole
+  abbrev whole : List Turn → List TurnLog → Output
   whole came ls = record { text = log_text style s ls; ends = end_of (nat_lt limit (length came)) }
 
   is_log : (came : List Turn) (ls : List TurnLog) → AreLogsOf callers c (take limit came) ls → IsLog callers style limit s given came (whole came ls)
@@ -76,7 +76,7 @@ module _ (callers : ℕ) (someone : 1 ≤ callers) (style : Style) (limit : ℕ)
   text_is : (came : List Turn) (ls : List TurnLog) → (whole came ls).text ≡ concat (first_lines style) ++ text_over c ls
   text_is came ls = concat-append (first_lines style) (flat_map (turn_lines style s) ls)
 
-  one : (x : Status) (turns : Option (List Turn)) (came : List Turn) (ls : List TurnLog) (o n : Option (List ℕ)) → Came turns came → AreLogsOf callers c (take limit came) ls → EndsWhole x (whole came ls) o n → EndsOne x (AnswersWorld callers style limit given turns s) o n
+  one : (x : Status) (turns : Option (List Turn)) (came : List Turn) (ls : List TurnLog) (o n : Option (List ℕ)) → TurnsCame turns came → AreLogsOf callers c (take limit came) ls → EndsOutput x (whole came ls) o n → EndsOne x (AnswersWorld callers style limit given turns s) o n
   one x turns came ls o n told are e = (whole came ls, record { came = came; told = told; log = is_log came ls are }, e)
 
   -- in what stands before the first turn
@@ -92,7 +92,7 @@ module _ (callers : ℕ) (someone : 1 ≤ callers) (style : Style) (limit : ℕ)
       ]
 
   -- over turns
-  module _ (turns : Option (List Turn)) (o m n : Option (List ℕ)) (first : Adds (concat (first_lines style)) o m) (came : List Turn) (ls : List TurnLog) (told : Came turns came) (are : AreLogsOf callers c (take limit came) ls) where
+  module _ (turns : Option (List Turn)) (o m n : Option (List ℕ)) (first : Adds (concat (first_lines style)) o m) (came : List Turn) (ls : List TurnLog) (told : TurnsCame turns came) (are : AreLogsOf callers c (take limit came) ls) where
     all_written : Adds (text_over c ls) m n → Adds (whole came ls).text o n
     all_written p = subst (λ xs. Adds xs o n) (sym (text_is came ls)) (adds_more (concat (first_lines style)) (text_over c ls) o m n first p)
 
@@ -129,7 +129,7 @@ over_written callers someone style limit s given names x old new p =
     let ends : t.more ≡ [] → rest.0 ≡ [] = λ e. subst (λ ts. AreLogsOf callers behind ts rest.0) e rest.1 in
     let all : AreLogsOf callers c (take limit t.came) (t.logs ++ rest.0) = subst (λ ts. AreLogsOf callers c ts (t.logs ++ rest.0)) (sym t.front) (logs_joined callers c t.taken t.more t.logs rest.0 t.are rest.1) in
     over callers someone style limit s given names p.zone p.is_zone old.turns old.written p.begun.written new.written p.first.written t.came (t.logs ++ rest.0)
-    (subst (λ turns. Came turns t.came) (nothing_taken old.turns p.begun.turns p.first.turns) t.told) all x none.0 none.1 none.2 none.3 (t.written rest.0 ends)
+    (subst (λ turns. TurnsCame turns t.came) (nothing_taken old.turns p.begun.turns p.first.turns) t.told) all x none.0 none.1 none.2 none.3 (t.written rest.0 ends)
 
 module _ {F : Type 0} (gives : Giving F) (after : Changing F) (first : F) (histories : Histories) where
   -- the run of an engine before its first turn

@@ -15,7 +15,7 @@ use Rattle.site_model.specs.Sound.{HasNames}
 use Rattle.turn_engine.specs.Orders.{command_of}
 use Rattle.turn_engine.specs.Ready.{IsZoneOf}
 use Rattle.site_run.specs.Feeds.{Fed, basis_with}
-use Rattle.site_run.specs.Logs.{AreLogs, Given, IsLog, Whole}
+use Rattle.site_run.specs.Logs.{AreLogs, Given, IsLog, Output}
 use Rattle.site_run.proofs.Zones.{same_holds}
 
 pub same_basis : (s : PlainSite) (fed : Fed) (a b : Option Tzif) → IsZoneOf s.zone a → IsZoneOf s.zone b → basis_with s a fed ≡ basis_with s b fed
@@ -34,7 +34,7 @@ one_run s given turns ls ms names p q =
     ∙ ap (λ b. run_alone b (start s given.histories) (map (turn_read s) turns)) (same_basis s given.fed p.zone q.zone p.is_zone q.is_zone)
     ∙ sym (logs_are s given turns ms names q)
 
-pub one_log : (style : Style) (limit : ℕ) (s : PlainSite) (given : Given) (turns : List Turn) (v w : Whole) → HasNames s → IsLog 1 style limit s given turns v → IsLog 1 style limit s given turns w → v ≡ w
+pub one_log : (style : Style) (limit : ℕ) (s : PlainSite) (given : Given) (turns : List Turn) (v w : Output) → HasNames s → IsLog 1 style limit s given turns v → IsLog 1 style limit s given turns w → v ≡ w
 one_log style limit s given turns v w names p q =
     let text : v.text ≡ w.text = p.text ∙ ap (log_text style s) (one_run s given (take limit turns) p.logs q.logs names p.are q.are) ∙ sym q.text in
     let ends = p.ends ∙ sym q.ends in

@@ -6,7 +6,7 @@ use Rattle.site_edge.specs.Lists.{Adds, AddsPart}
 use Rattle.site_edge.specs.declared.order.Order.{Order}
 use Rattle.site_edge.specs.declared.turn.Turn.{Turn}
 use Rattle.site_run.specs.Courses.{AreLogsOf, Course, IsNextLog, behind, logs, orders_over, text_of, text_over}
-use Rattle.site_run.specs.Ends.{Came, Ends, EndsBehind, IsBefore, IsBetween, IsInLines, IsInOrders, NoneLeft, Outside, Takes, TellsOf, WritesText}
+use Rattle.site_run.specs.Ends.{TurnsCame, Ends, EndsBehind, IsBefore, IsBetween, IsInLines, IsInOrders, NoneLeft, Outside, Takes, TellsOf, WritesText}
 use Rattle.site_run.specs.Starts.{started_of}
 use Rattle.site_run.specs.declared.status.Status.{Status}
 use Rattle.site_run.specs.declared.status.Status.TheVariants as status
@@ -17,7 +17,7 @@ use Rattle.site_run.proofs.Going.{logs_are, logs_both, logs_then, orders_joined,
 
 pub record Coming (taken : List Turn) (old new : Option (List Turn)) : Type 0 where
   pub left : List Turn
-  pub told : Came old (taken ++ left)
+  pub told : TurnsCame old (taken ++ left)
   pub none : NoneLeft new → left ≡ []
 
 coming : (taken : List Turn) (o n : Option (List Turn)) → Takes taken o n → Coming taken o n
@@ -52,7 +52,7 @@ within all first middle last part rest e are =
 -- all, where the run says so, for then there are no others.
 pub record TellsAs (s : Status) (callers : ℕ) (c : Course) (limit : ℕ) (o n : Outside) : Type 0 where
   pub came : List Turn
-  pub told : Came o.turns came
+  pub told : TurnsCame o.turns came
   pub taken : List Turn
   pub logs : List TurnLog
   pub are : AreLogsOf callers c taken logs

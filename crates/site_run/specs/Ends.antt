@@ -4,7 +4,7 @@ use Rattle.run_meaning.specs.Runs.{Stage, TurnLog}
 use Rattle.site_edge.specs.Lists.{Adds, AddsPart}
 use Rattle.site_edge.specs.declared.order.Order.{Order}
 use Rattle.site_edge.specs.declared.turn.Turn.{Turn}
-use Rattle.turn_engine.specs.Ready.{Held}
+use Rattle.turn_engine.specs.Ready.{EngineView}
 use Rattle.turn_engine.specs.Stages.{stage_of}
 use Rattle.site_run.specs.Courses.{AreLogsOf, Course, IsNextLog, behind_over, calls_over, orders, orders_over, text, text_of, text_over}
 use Rattle.site_run.specs.Feeds.{Changing, feed_after}
@@ -107,7 +107,7 @@ abbrev pub NoneLeft : Option (List Turn) → Type 0
 NoneLeft turns = MatchOption turns (Unit {0}) (λ left. left ≡ [])
 
 -- the engine and its feed are as these turns leave them
-pub record Stands {F : Type 0} (c : Course) (after : Changing F) (first : F) (done : List Turn) (ls : List TurnLog) (engine : Held) (now : F) : Type 0 where
+pub record Stands {F : Type 0} (c : Course) (after : Changing F) (first : F) (done : List Turn) (ls : List TurnLog) (engine : EngineView) (now : F) : Type 0 where
   pub fresh : engine.spent ≡ false
   pub stage : stage_of engine.run (behind_over c done ls).stage.begun ≡ (behind_over c done ls).stage
   pub feed : now ≡ feed_after after first (behind_over c done ls).stage.begun
@@ -145,8 +145,8 @@ pub record Ends (s : Status) (callers : ℕ) (c : Course) (limit : ℕ) (stands 
   pub ends : EndsBehind s callers c limit stands done logs old new
 
 -- the turns that came to a run: those that are told, and else some
-abbrev pub Came : Option (List Turn) → List Turn → Type 0
-Came told came = IfSome told (λ ts. came ≡ ts)
+abbrev pub TurnsCame : Option (List Turn) → List Turn → Type 0
+TurnsCame told came = IfSome told (λ ts. came ≡ ts)
 
 -- what was written, by the status, if this is the text of as many of the turns that came as may be taken: all of it, or after a fault a
 -- prefix
@@ -164,7 +164,7 @@ WritesOf s c limit came old new = WritesText s limit came (text c (take limit ca
 -- so, and of their orders a prefix was started
 pub record TellsOf (s : Status) (c : Course) (limit : ℕ) (old new : Outside) : Type 0 where
   pub came : List Turn
-  pub told : Came old.turns came
+  pub told : TurnsCame old.turns came
   pub written : WritesOf s c limit came old.written new.written
   pub started : AddsPart (orders c (take limit came)) old.started new.started
 

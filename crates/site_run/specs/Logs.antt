@@ -13,7 +13,7 @@ use Rattle.site_model.specs.PlainSite.{PlainSite}
 use Rattle.turn_engine.specs.Ready.{IsZoneOf}
 use Rattle.site_run.specs.Courses.{Course}
 use Rattle.site_run.specs.Feeds.{Changing, Fed, Giving, basis_with, lines_fed, no_lines}
-use Rattle.site_run.specs.Ends.{Came, Ends, IsAt, IsPartWritten, Outside}
+use Rattle.site_run.specs.Ends.{TurnsCame, Ends, IsAt, IsPartWritten, Outside}
 use Rattle.site_run.specs.declared.status.Status.{Status}
 use Rattle.site_run.specs.declared.status.Status.TheVariants as status
 
@@ -41,41 +41,41 @@ pub record AreLogs (callers : ℕ) (s : PlainSite) (given : Given) (turns : List
   pub run : IsRun (basis_with s zone given.fed) callers (start s given.histories) reads logs
 
 -- what a run writes in which nothing fails, and how it ends
-pub record Whole : Type 0 where
+pub record Output : Type 0 where
   pub text : List ℕ
   pub ends : Status
 
 -- the log of the first so many of these turns
-pub record IsLog (callers : ℕ) (style : Style) (limit : ℕ) (s : PlainSite) (given : Given) (turns : List Turn) (w : Whole) : Type 0 where
+pub record IsLog (callers : ℕ) (style : Style) (limit : ℕ) (s : PlainSite) (given : Given) (turns : List Turn) (w : Output) : Type 0 where
   pub logs : List TurnLog
   pub are : AreLogs callers s given (take limit turns) logs
   pub text : w.text ≡ log_text style s logs
   pub ends : w.ends ≡ (if nat_lt limit (length turns) then status.TurnsSpent else status.Done)
 
 -- that of the world's turns: of those that are told, and else of some
-pub record AnswersWorld (callers : ℕ) (style : Style) (limit : ℕ) (given : Given) (turns : Option (List Turn)) (s : PlainSite) (w : Whole) : Type 0 where
+pub record AnswersWorld (callers : ℕ) (style : Style) (limit : ℕ) (given : Given) (turns : Option (List Turn)) (s : PlainSite) (w : Output) : Type 0 where
   pub came : List Turn
-  pub told : Came turns came
+  pub told : TurnsCame turns came
   pub log : IsLog callers style limit s given came w
 
 -- what was written, by the status: all of it if the run ends as it does when nothing fails, and a prefix after a fault
-abbrev pub EndsWhole : Status → Whole → Option (List ℕ) → Option (List ℕ) → Type 0
-EndsWhole status.Done w old new = (w.ends ≡ status.Done) × Adds w.text old new
-EndsWhole status.Diagnosed w old new = (w.ends ≡ status.Diagnosed) × Adds w.text old new
-EndsWhole status.TurnsSpent w old new = (w.ends ≡ status.TurnsSpent) × Adds w.text old new
-EndsWhole status.NotLegal w old new = (w.ends ≡ status.NotLegal) × Adds w.text old new
-EndsWhole status.Usage w old new = ⊥
-EndsWhole status.ReadFault w old new = new ≡ old
-EndsWhole status.WriteFault w old new = AddsPart w.text old new
-EndsWhole status.WorldFault w old new = AddsPart w.text old new
-EndsWhole status.OutOfMemory w old new = AddsPart w.text old new
+abbrev pub EndsOutput : Status → Output → Option (List ℕ) → Option (List ℕ) → Type 0
+EndsOutput status.Done w old new = (w.ends ≡ status.Done) × Adds w.text old new
+EndsOutput status.Diagnosed w old new = (w.ends ≡ status.Diagnosed) × Adds w.text old new
+EndsOutput status.TurnsSpent w old new = (w.ends ≡ status.TurnsSpent) × Adds w.text old new
+EndsOutput status.NotLegal w old new = (w.ends ≡ status.NotLegal) × Adds w.text old new
+EndsOutput status.Usage w old new = ⊥
+EndsOutput status.ReadFault w old new = new ≡ old
+EndsOutput status.WriteFault w old new = AddsPart w.text old new
+EndsOutput status.WorldFault w old new = AddsPart w.text old new
+EndsOutput status.OutOfMemory w old new = AddsPart w.text old new
 
 -- a run of these ended so
-abbrev pub EndsOne : Status → (Whole → Type 0) → Option (List ℕ) → Option (List ℕ) → Type 0
-EndsOne s Is old new = (w : Whole) × Is w × EndsWhole s w old new
+abbrev pub EndsOne : Status → (Output → Type 0) → Option (List ℕ) → Option (List ℕ) → Type 0
+EndsOne s Is old new = (w : Output) × Is w × EndsOutput s w old new
 
 -- the same. If the files could not be read, or there was no memory for what they come to, nothing was written.
-abbrev pub EndsRun : Status → (Whole → Type 0) → Option (List ℕ) → Option (List ℕ) → Type 0
+abbrev pub EndsRun : Status → (Output → Type 0) → Option (List ℕ) → Option (List ℕ) → Type 0
 EndsRun status.ReadFault Is old new = new ≡ old
 EndsRun status.OutOfMemory Is old new = (new ≡ old) ⊎ EndsOne status.OutOfMemory Is old new
 EndsRun s Is old new = EndsOne s Is old new

@@ -10,7 +10,7 @@ ghost use Rattle.site_model.specs.Sound.{HasNames};
 ghost use Rattle.turn_engine.specs.Ready.{IsZoneOf};
 ghost use Rattle.site_run.specs.Courses.{AreLogsOf, Course, IsNextLog, behind, log_of, logs};
 ghost use Rattle.site_run.specs.Ends.{Ends, Outside, TellsOf};
-ghost use Rattle.site_run.specs.Logs.{Given, IsLog, Whole};
+ghost use Rattle.site_run.specs.Logs.{Given, IsLog, Output};
 ghost use Rattle.site_run.specs.declared.status.Status.{Status};
 
 /// With whatever a run of one caller ends, of as many as may be taken of the turns that came it wrote a prefix of the text and started a prefix of the
@@ -32,5 +32,5 @@ pub fn a_zone_file_decides_when_periods_hold()
 
 /// So the log of one caller's turns over a site is one: its text, and how the run ends in which nothing fails.
 pub fn a_log_over_a_site_is_one()
-    ensures { (style : Style) (limit : ℕ) (s : PlainSite) (given : Given) (turns : List Turn) (v w : Whole) → HasNames s → IsLog 1 style limit s given turns v → IsLog 1 style limit s given turns w → v ≡ w }
+    ensures { (style : Style) (limit : ℕ) (s : PlainSite) (given : Given) (turns : List Turn) (v w : Output) → HasNames s → IsLog 1 style limit s given turns v → IsLog 1 style limit s given turns w → v ≡ w }
 {}

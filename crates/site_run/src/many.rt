@@ -1,12 +1,11 @@
 // Several workers.
 ghost use Rattle.std.specs.Prelude.{◌≡◌, ◌<◌, ◌^◌, List, false, IfOk, OnOk};
-ghost use Rattle.run_meaning.specs.Runs.{TurnLog, begun_by};
+ghost use Rattle.run_meaning.specs.Runs.{TurnLog};
 ghost use Rattle.run_meaning.specs.Turns.{Begun};
 ghost use Rattle.run_text.specs.LogText.{turn_lines};
-ghost use Rattle.run_text.specs.TurnReading.{turn_read};
 ghost use Rattle.site_model.specs.PlainSite.{site_view};
 ghost use Rattle.site_model.specs.Sound.{IsSound};
-ghost use Rattle.turn_engine.specs.Stages.{Tells, TellsTurn, basis_of_site, stage_of};
+ghost use Rattle.turn_engine.specs.Stages.{Tells, TellsTurn, basis_of_run, stage_from, stage_of, turn_as_read};
 ghost use Rattle.engine_log.specs.OnSite.{IsTurnOf};
 ghost use Rattle.site_run.specs.Callers.{AreCallers};
 
@@ -35,7 +34,7 @@ impl<
 
     ghost apt = { λ w. ((engine : _) (turn : _) → engine.now.spent ≡ false → engine.now.run.turns < 2 ^ 40 → T.pre w.take engine turn) ×
         ((engine : _) (turn : _) (out : _) (left : _) → T.post w.take engine turn out left →
-        ((begun : List Begun) → IfOk out (λ o. TellsTurn (basis_of_site (site_view engine.now.run.site) engine.now.run.zone) w.count (stage_of engine.now.run begun) (turn_read (site_view engine.now.run.site) turn.now) o (stage_of left.now.run (begun_by (stage_of engine.now.run begun) left.now.run.moment)))) ×
+        ((begun : List Begun) → IfOk out (λ o. TellsTurn (basis_of_run engine.now.run) w.count (stage_of engine.now.run begun) (turn_as_read engine.now.run turn.now) o (stage_from engine.now.run begun left.now.run))) ×
         OnOk out (left.now.run.site ≡ engine.now.run.site) × OnOk out (left.now.run.zone ≡ engine.now.run.zone) × OnOk out (left.now.spent ≡ false)) ×
         ((alloc : _) (style : _) (site : _) (turn : _) → IsSound (site_view site.now) → IsTurnOf (site_view site.now) turn.now → L.pre w.tell alloc style site turn) ×
         ((alloc : _) (style : _) (site : _) (turn : _) (out : _) → L.post w.tell alloc style site turn out →

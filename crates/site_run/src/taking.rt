@@ -2,9 +2,8 @@
 ghost use Rattle.std.specs.Prelude.{◌≡◌, ◌<◌, ◌++◌, ◌^◌, List, false, IfOk, OnOk};
 ghost use Rattle.site_model.specs.PlainSite.{site_view};
 ghost use Rattle.site_model.specs.Sound.{IsSound};
-ghost use Rattle.run_meaning.specs.Runs.{begun_by};
 ghost use Rattle.run_meaning.specs.Turns.{Begun};
-ghost use Rattle.turn_engine.specs.Stages.{stage_of};
+ghost use Rattle.turn_engine.specs.Stages.{stage_from};
 ghost use Rattle.site_run.specs.Callers.{AreCallers, IsTaken};
 ghost use Rattle.site_run.specs.Courses.{course_of};
 ghost use Rattle.site_run.specs.Feeds.{feed_after};
@@ -43,7 +42,7 @@ pub(crate) fn take<F: Feed, C: Workers>(
     requires sound { IsSound (site_view engine.old.run.site) }
     requires made { F.made_for feed.old (site_view engine.old.run.site) }
     ensures taken { (begun : List Begun) (first : F) → feed.old ≡ feed_after F.after first begun →
-        IfOk result (λ taken. IsTaken (C.callers workers.now) (course_of engine.old.run begun style F.gives F.after first) turn taken.lines taken.orders.items (stage_of engine.new.run (begun_by (stage_of engine.old.run begun) engine.new.run.moment))) }
+        IfOk result (λ taken. IsTaken (C.callers workers.now) (course_of engine.old.run begun style F.gives F.after first) turn taken.lines taken.orders.items (stage_from engine.old.run begun engine.new.run)) }
     ensures feed { OnOk result (feed.new ≡ F.after feed.old engine.old.run.histories engine.new.run.moment) }
     ensures made { OnOk result (F.made_for feed.new (site_view engine.old.run.site)) }
     ensures site { OnOk result (engine.new.run.site ≡ engine.old.run.site) }

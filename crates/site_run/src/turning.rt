@@ -4,9 +4,8 @@ ghost use Rattle.site_edge.specs.Lists.{Adds, AddsPart};
 ghost use Rattle.site_edge.specs.Told.{Rose};
 ghost use Rattle.site_model.specs.PlainSite.{site_view};
 ghost use Rattle.site_model.specs.Sound.{IsSound};
-ghost use Rattle.run_meaning.specs.Runs.{begun_by};
 ghost use Rattle.run_meaning.specs.Turns.{Begun};
-ghost use Rattle.turn_engine.specs.Stages.{stage_of};
+ghost use Rattle.turn_engine.specs.Stages.{stage_from};
 ghost use Rattle.site_run.specs.Callers.{AreCallers};
 ghost use Rattle.site_run.specs.Courses.{course_of};
 ghost use Rattle.site_run.specs.Ends.{IsGone, StopsTurn, outside};
@@ -40,7 +39,7 @@ pub(crate) fn drive_turn<W: World, S: Sink, F: Feed, C: Workers>(
     requires sound { IsSound (site_view engine.old.run.site) }
     requires made { F.made_for feed.old (site_view engine.old.run.site) }
     ensures goes { (begun : List Begun) (first : F) → feed.old ≡ feed_after F.after first begun →
-        OnOk result (IsGone (C.callers workers.now) (course_of engine.old.run begun style F.gives F.after first) turn (stage_of engine.new.run (begun_by (stage_of engine.old.run begun) engine.new.run.moment)) (outside (W.turns world.old) (W.started world.old) (W.calls world.old) (S.written out.old) (S.kept_back out.old)) (outside (W.turns world.new) (W.started world.new) (W.calls world.new) (S.written out.new) (S.kept_back out.new))) }
+        OnOk result (IsGone (C.callers workers.now) (course_of engine.old.run begun style F.gives F.after first) turn (stage_from engine.old.run begun engine.new.run) (outside (W.turns world.old) (W.started world.old) (W.calls world.old) (S.written out.old) (S.kept_back out.old)) (outside (W.turns world.new) (W.started world.new) (W.calls world.new) (S.written out.new) (S.kept_back out.new))) }
     ensures stops { (begun : List Begun) (first : F) → feed.old ≡ feed_after F.after first begun →
         IfErr result (λ stop. StopsTurn (C.callers workers.now) (course_of engine.old.run begun style F.gives F.after first) turn stop (outside (W.turns world.old) (W.started world.old) (W.calls world.old) (S.written out.old) (S.kept_back out.old)) (outside (W.turns world.new) (W.started world.new) (W.calls world.new) (S.written out.new) (S.kept_back out.new))) }
     ensures feed { OnOk result (feed.new ≡ F.after feed.old engine.old.run.histories engine.new.run.moment) }

@@ -1,12 +1,11 @@
 // Who takes the events of a turn.
 ghost use Rattle.std.specs.Prelude.{◌≡◌, ◌<◌, ◌^◌, ℕ, List, false, IfOk, OnOk};
-ghost use Rattle.run_meaning.specs.Runs.{TurnLog, begun_by};
+ghost use Rattle.run_meaning.specs.Runs.{TurnLog};
 ghost use Rattle.run_meaning.specs.Turns.{Begun};
 ghost use Rattle.run_text.specs.LogText.{turn_lines};
-ghost use Rattle.run_text.specs.TurnReading.{turn_read};
 ghost use Rattle.site_model.specs.PlainSite.{site_view};
 ghost use Rattle.site_model.specs.Sound.{IsSound};
-ghost use Rattle.turn_engine.specs.Stages.{Tells, TellsTurn, basis_of_site, stage_of};
+ghost use Rattle.turn_engine.specs.Stages.{Tells, TellsTurn, basis_of_run, stage_from, stage_of, turn_as_read};
 ghost use Rattle.engine_log.specs.OnSite.{IsTurnOf};
 ghost use Rattle.site_run.specs.Callers.{AreCallers};
 
@@ -41,7 +40,7 @@ pub trait Workers {
         requires fresh { engine.old.spent ≡ false }
         requires few { engine.old.run.turns < 2 ^ 40 }
         ensures turn { (begun : List Begun) →
-            IfOk result (λ out. TellsTurn (basis_of_site (site_view engine.old.run.site) engine.old.run.zone) (callers self.now) (stage_of engine.old.run begun) (turn_read (site_view engine.old.run.site) turn.now) out (stage_of engine.new.run (begun_by (stage_of engine.old.run begun) engine.new.run.moment))) }
+            IfOk result (λ out. TellsTurn (basis_of_run engine.old.run) (callers self.now) (stage_of engine.old.run begun) (turn_as_read engine.old.run turn.now) out (stage_from engine.old.run begun engine.new.run)) }
         ensures site { OnOk result (engine.new.run.site ≡ engine.old.run.site) }
         ensures zone { OnOk result (engine.new.run.zone ≡ engine.old.run.zone) }
         ensures fresh { OnOk result (engine.new.spent ≡ false) };

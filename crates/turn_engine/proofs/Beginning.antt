@@ -16,7 +16,7 @@ use Rattle.site_model.specs.declared.entry.Entry.{Entry}
 use Rattle.site_posts.specs.Books.{AreBooks, histories_of}
 use Rattle.turn_engine.specs.Checkables.{AreOf}
 use Rattle.turn_engine.specs.Ready.{IsReady}
-use Rattle.turn_engine.specs.declared.works.Works.{Works}
+use Rattle.turn_engine.specs.declared.state.EngineState.{EngineState}
 
 -- Watches.
 
@@ -91,7 +91,7 @@ starts s n m p h due is whole at nothing =
     ∙ ap (λ d. stage_with (greatest_moment h) h (record { given = 0; outstanding = []; slots = map (λ _. record { next = 0; forced = false }) s.checkables }) d) nothing
 
 -- all is ready
-pub ready_first : (w : Works) (n : ℕ) → IsGraphOf (site_view w.site) w.graph → AreOf (site_view w.site) w.books.items → w.plan ≡ first_plan n → n ≡ length (site_view w.site).checkables → w.problems ≡ noted (lasting (site_view w.site) (histories_of w.books.items)) → w.moment ≡ greatest_moment (histories_of w.books.items) → w.turns ≡ 0 → (site_view w.site).max_orders ≤ 65535 → IsReady w
+pub ready_first : (w : EngineState) (n : ℕ) → IsGraphOf (site_view w.site) w.graph → AreOf (site_view w.site) w.books.items → w.plan ≡ first_plan n → n ≡ length (site_view w.site).checkables → w.problems ≡ noted (lasting (site_view w.site) (histories_of w.books.items)) → w.moment ≡ greatest_moment (histories_of w.books.items) → w.turns ≡ 0 → (site_view w.site).max_orders ≤ 65535 → IsReady w
 ready_first w n graph are plan whole problems at turns most =
     let s = site_view w.site in
     let given = ap (λ (p : Plan). p.orders.given) plan in

@@ -17,7 +17,7 @@ use Rattle.turn_engine.specs.Ready.{running}
 use Rattle.turn_engine.specs.Stages.{TellsTurn, stage_of}
 use Rattle.turn_engine.specs.Told.{IsNoTurn, IsOnlyTurn}
 use Rattle.turn_engine.specs.declared.turn_out.TurnOut.{TurnOut}
-use Rattle.turn_engine.specs.declared.works.Works.{Works}
+use Rattle.turn_engine.specs.declared.state.EngineState.{EngineState}
 use Rattle.turn_engine.proofs.Rounding.{began, given_to, given_to_are, moment_is}
 
 -- what holds of a value that is there, or where there is none
@@ -37,7 +37,7 @@ same_log b callers st t l k x y same =
     let orders : l.orders ≡ k.orders = x.orders ∙ (λ i. (planned_of b st (when i) (same i)).orders) ∙ sym y.orders in
     λ i. record { number = number i; moment = when i; refusals = refusals i; round = same i; orders = orders i }
 
-module _ {old : Works} {turn : Turn} {m : ℕ} {d : Dealt} {w : Works} (h : IsOpen old turn m d w) (callers : ℕ) (told : List Told) (begun : List Begun) where
+module _ {old : EngineState} {turn : Turn} {m : ℕ} {d : Dealt} {w : EngineState} (h : IsOpen old turn m d w) (callers : ℕ) (told : List Told) (begun : List Begun) where
   abbrev b : Basis
   b = basis_at (began h)
 
@@ -72,7 +72,7 @@ module _ {old : Works} {turn : Turn} {m : ℕ} {d : Dealt} {w : Works} (h : IsOp
         same_log b callers st t l x.log y x.is (one ∙ two);
   }
 
-  pub only_turn : (books : List Contents) (segments : List Segment) (out : TurnOut) (new : Works) → IsOnlyRound (site_view w.site) w.zone m w.books.items books (given_to h callers) told segments → out.segments ≡ segments
+  pub only_turn : (books : List Contents) (segments : List Segment) (out : TurnOut) (new : EngineState) → IsOnlyRound (site_view w.site) w.zone m w.books.items books (given_to h callers) told segments → out.segments ≡ segments
       → TellsTurn b callers st t out (stage_of (running new) (begun_by st new.moment))
       → IsOnlyTurn (basis_at old) callers (stage_of (running old) begun) (read_at old turn) told out (stage_of (running new) (begun_by (stage_of (running old) begun) new.moment))
   only_turn books segments out new found same x =

@@ -27,12 +27,12 @@ use Rattle.turn_engine.specs.Midst.{Deals, IsOpen, IsRounded, basis_at, read_at,
 use Rattle.turn_engine.specs.Ready.{IsReady, running}
 use Rattle.turn_engine.specs.Stages.{TellsTurn, stage_of}
 use Rattle.turn_engine.specs.declared.turn_out.TurnOut.{TurnOut}
-use Rattle.turn_engine.specs.declared.works.Works.{Works}
+use Rattle.turn_engine.specs.declared.state.EngineState.{EngineState}
 use Rattle.turn_engine.proofs.OnSite.{both_on_site, dealt_on_site, lines_on_site, reports_on_site, ticks_on_site}
 use Rattle.turn_engine.proofs.Turning.{later_books}
 
 -- what is dealt opens the turn
-pub opened : {w : Works} {turn : Turn} {m : ℕ} {plan : Plan} {d : Dealt} (left : List Report) → left ≡ w.not_started.items → IsReady w → m ≡ max w.moment turn.moment
+pub opened : {w : EngineState} {turn : Turn} {m : ℕ} {plan : Plan} {d : Dealt} (left : List Report) → left ≡ w.not_started.items → IsReady w → m ≡ max w.moment turn.moment
     → map asked_of d.acts.lines.items ≡ line_events (lines_read (site_view w.site) turn.lines)
     → map taken_of d.acts.reports.items ≡ taken_reports w.plan.orders.outstanding (map report_read left ++ map report_read turn.reports)
     → map asked_of d.acts.ticks.items ≡ map tick_of (late_in m w.problems)
@@ -54,9 +54,9 @@ opened {w = w} {turn = turn} {m = m} left same ready m_is lines reports late ref
 
 -- A turn that is open.
 
-module _ {old : Works} {turn : Turn} {m : ℕ} {d : Dealt} {w : Works} (h : IsOpen old turn m d w) where
+module _ {old : EngineState} {turn : Turn} {m : ℕ} {d : Dealt} {w : EngineState} (h : IsOpen old turn m d w) where
   -- what it began with, in the words of what there is now
-  abbrev pub began : Works
+  abbrev pub began : EngineState
   began = record w { plan = old.plan }
 
   pub still_ready : IsReady began
@@ -66,13 +66,13 @@ module _ {old : Works} {turn : Turn} {m : ℕ} {d : Dealt} {w : Works} (h : IsOp
   deals = subst (λ v. Deals v turn m d w.plan) (sym h.others) h.deals
 
   pub moment_is : m ≡ max w.moment turn.moment
-  moment_is = h.moment_is ∙ ap (λ (v : Works). max v.moment turn.moment) (sym h.others)
+  moment_is = h.moment_is ∙ ap (λ (v : EngineState). max v.moment turn.moment) (sym h.others)
 
   pub books_now : AreBooks (site_view w.site) m w.books.items
   books_now = let e = moment_is in later_books (site_view w.site) w.moment m w.books.items (omega (arith, e)) still_ready.books
 
   pub still_few : old.turns < 2 ^ 40 → w.turns < 2 ^ 40
-  still_few few = subst (λ (v : Works). v.turns < 2 ^ 40) (sym h.others) few
+  still_few few = subst (λ (v : EngineState). v.turns < 2 ^ 40) (sym h.others) few
 
   -- what it gives to its round
 
@@ -155,7 +155,7 @@ module _ {old : Works} {turn : Turn} {m : ℕ} {d : Dealt} {w : Works} (h : IsOp
   })
 
   -- what it tells of what it began with
-  pub taken_so : {E : Type 0} (r : Result TurnOut E) (callers : ℕ) (begun : List Begun) (new : Works)
+  pub taken_so : {E : Type 0} (r : Result TurnOut E) (callers : ℕ) (begun : List Begun) (new : EngineState)
       → IfOk r (λ out. TellsTurn (basis_at began) callers (stage_of (running began) begun) (read_at began turn) out (stage_of (running new) (begun_by (stage_of (running began) begun) new.moment)))
       → IfOk r (λ out. TellsTurn (basis_at old) callers (stage_of (running old) begun) (read_at old turn) out (stage_of (running new) (begun_by (stage_of (running old) begun) new.moment)))
   taken_so r callers begun new is =

@@ -27,7 +27,7 @@ use Rattle.turn_engine.specs.Orders.{command_of, order_as}
 use Rattle.turn_engine.specs.Ready.{running}
 use Rattle.turn_engine.specs.Stages.{TellsTurn, stage_of}
 use Rattle.turn_engine.specs.declared.turn_out.TurnOut.{TurnOut}
-use Rattle.turn_engine.specs.declared.works.Works.{Works}
+use Rattle.turn_engine.specs.declared.state.EngineState.{EngineState}
 
 -- no moment is after a later one
 pub later_books : (s : PlainSite) (m n : ℕ) (books : List Contents) → m ≤ n → AreBooks s m books → AreBooks s n books
@@ -42,13 +42,13 @@ outs_of command [] = refl
 outs_of command (x ∷ xs) = ap (λ os. outstanding_as x ∷ os) (outs_of command xs)
 
 -- what is ordered after a round, by a plan that goes on to this one
-pub record AreOrdered (old : Works) (moment : ℕ) (round : Histories) (plan after : Plan) (ordered : List Ordered) : Type 0 where
+pub record AreOrdered (old : EngineState) (moment : ℕ) (round : Histories) (plan after : Plan) (ordered : List Ordered) : Type 0 where
   pub orders : map (ordered_as (command_of (site_view old.site))) ordered ≡ ((basis_at old).schedule (plans_of old.plan) moment (histories_of old.books.items) round).orders
   pub slots : slots_in after.watches ≡ ((basis_at old).schedule (plans_of old.plan) moment (histories_of old.books.items) round).slots
   pub given : after.orders.given ≡ plan.orders.given + length ordered
   pub outstanding : after.orders.outstanding ≡ plan.orders.outstanding ++ map outstanding_as ordered
 
-module _ {old : Works} {callers : ℕ} {turn : Turn} {m : ℕ} {refusals : List Refusal} {segments : List Segment} {plan : Plan} {books : List Contents} (h : IsRounded old callers turn m refusals segments plan books) where
+module _ {old : EngineState} {callers : ℕ} {turn : Turn} {m : ℕ} {refusals : List Refusal} {segments : List Segment} {plan : Plan} {books : List Contents} (h : IsRounded old callers turn m refusals segments plan books) where
   abbrev s : PlainSite
   s = site_view old.site
 
@@ -164,7 +164,7 @@ module _ {old : Works} {callers : ℕ} {turn : Turn} {m : ℕ} {refusals : List 
     }
 
 -- once the round is made the rest can begin
-pub can_settle : {w : Works} {plan : Plan} {books : Vec Contents Global} {callers : ℕ} {turn : Turn} {m : ℕ} {refusals : List Refusal} {segments : List Segment} → IsRounded (begun_with plan books w) callers turn m refusals segments w.plan w.books.items → w.turns < 2 ^ 40 → CanSettle m segments w
+pub can_settle : {w : EngineState} {plan : Plan} {books : Vec Contents Global} {callers : ℕ} {turn : Turn} {m : ℕ} {refusals : List Refusal} {segments : List Segment} → IsRounded (begun_with plan books w) callers turn m refusals segments w.plan w.books.items → w.turns < 2 ^ 40 → CanSettle m segments w
 can_settle {w = w} {segments = segments} h few = record {
   graph = h.ready.graph;
   books = h.made.books;

@@ -19,26 +19,26 @@ use Rattle.turn_deal.specs.declared.refusal.Refusal.{Refusal}
 use Rattle.site_posts.specs.Many.{IsRoundOf}
 use Rattle.turn_engine.specs.Ready.{IsReady, running}
 use Rattle.turn_engine.specs.Stages.{basis_of_site, stage_of}
-use Rattle.turn_engine.specs.declared.works.Works.{Works}
+use Rattle.turn_engine.specs.declared.state.EngineState.{EngineState}
 
 -- In the words of runs: what a run stands on, how far it has come, not counting what stood when its turns began, and a turn
 -- as it is read.
 
-abbrev pub basis_at : Works → Basis
+abbrev pub basis_at : EngineState → Basis
 basis_at w = basis_of_site (site_view w.site) w.zone
 
-abbrev pub stage_at : Works → Stage
+abbrev pub stage_at : EngineState → Stage
 stage_at w = stage_of (running w) []
 
-abbrev pub read_at : Works → Turn → ReadTurn
+abbrev pub read_at : EngineState → Turn → ReadTurn
 read_at w turn = turn_read (site_view w.site) turn
 
 -- all reports of a turn
-abbrev pub told_at : Works → Turn → List Reported
+abbrev pub told_at : EngineState → Turn → List Reported
 told_at w turn = reports_of (stage_at w) (read_at w turn)
 
 -- what is dealt at the beginning of a turn: the acts of its round, by their kinds, and what is refused; the plan is this one then
-pub record Deals (w : Works) (turn : Turn) (moment : ℕ) (dealt : Dealt) (plan : Plan) : Type 0 where
+pub record Deals (w : EngineState) (turn : Turn) (moment : ℕ) (dealt : Dealt) (plan : Plan) : Type 0 where
   pub lines : map asked_of dealt.acts.lines.items ≡ line_events (lines_read (site_view w.site) turn.lines)
   pub reports : map taken_of dealt.acts.reports.items ≡ taken_reports w.plan.orders.outstanding (told_at w turn)
   pub late : map asked_of dealt.acts.ticks.items ≡ ticks (site_view w.site) (histories_of w.books.items) moment
@@ -46,18 +46,18 @@ pub record Deals (w : Works) (turn : Turn) (moment : ℕ) (dealt : Dealt) (plan 
   pub taken : plan ≡ with_outstanding (still (told_at w turn) w.plan.orders.outstanding) w.plan
 
 -- a turn is open: what it gives is dealt, and nothing but the plan has changed
-pub record IsOpen (old : Works) (turn : Turn) (moment : ℕ) (dealt : Dealt) (w : Works) : Type 0 where
+pub record IsOpen (old : EngineState) (turn : Turn) (moment : ℕ) (dealt : Dealt) (w : EngineState) : Type 0 where
   pub ready : IsReady old
   pub moment_is : moment ≡ max old.moment turn.moment
   pub deals : Deals old turn moment dealt w.plan
   pub others : record w { plan = old.plan } ≡ old
 
 -- so it was with this plan and these books, when the turn began
-abbrev pub begun_with : Plan → Vec Contents Global → Works → Works
+abbrev pub begun_with : Plan → Vec Contents Global → EngineState → EngineState
 begun_with plan books w = record w { plan = plan; books = books }
 
 -- the round of a turn is made, of what is dealt to so many callers
-pub record IsRounded (old : Works) (callers : ℕ) (turn : Turn) (moment : ℕ) (refusals : List Refusal) (segments : List Segment) (plan : Plan) (books : List Contents) : Type 0 where
+pub record IsRounded (old : EngineState) (callers : ℕ) (turn : Turn) (moment : ℕ) (refusals : List Refusal) (segments : List Segment) (plan : Plan) (books : List Contents) : Type 0 where
   pub ready : IsReady old
   pub moment_is : moment ≡ max old.moment turn.moment
   pub someone : 1 ≤ callers
@@ -66,7 +66,7 @@ pub record IsRounded (old : Works) (callers : ℕ) (turn : Turn) (moment : ℕ) 
   pub made : IsRoundOf (site_view old.site) old.zone moment old.books.items books (events_of (basis_at old) callers (stage_at old) (read_at old turn) moment) segments
 
 -- what follows a round can begin
-pub record CanSettle (moment : ℕ) (segments : List Segment) (w : Works) : Type 0 where
+pub record CanSettle (moment : ℕ) (segments : List Segment) (w : EngineState) : Type 0 where
   pub graph : IsGraphOf (site_view w.site) w.graph
   pub books : AreBooks (site_view w.site) moment w.books.items
   pub whole : length w.plan.watches ≡ length (site_view w.site).checkables

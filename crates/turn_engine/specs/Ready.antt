@@ -11,9 +11,9 @@ use Rattle.site_model.specs.PlainSite.{site_view}
 use Rattle.site_posts.specs.Books.{AreBooks, histories_of}
 use Rattle.run_text.specs.TurnReading.{report_read}
 use Rattle.turn_engine.specs.Stages.{Running}
-use Rattle.turn_engine.specs.declared.works.Works.{Works}
+use Rattle.turn_engine.specs.declared.state.EngineState.{EngineState}
 
-abbrev pub running : Works → Running
+abbrev pub running : EngineState → Running
 running w = record {
   site = w.site;
   zone = w.zone;
@@ -25,7 +25,7 @@ running w = record {
 }
 
 -- all that is kept is of the site and of the entries so far, and no turn gave more orders than may be outstanding
-pub record IsReady (w : Works) : Type 0 where
+pub record IsReady (w : EngineState) : Type 0 where
   pub graph : IsGraphOf (site_view w.site) w.graph
   pub books : AreBooks (site_view w.site) w.moment w.books.items
   pub plan : IsPlan (site_view w.site) w.plan
@@ -35,7 +35,7 @@ pub record IsReady (w : Works) : Type 0 where
   pub turns : w.turns ≤ 2 ^ 40
 
 -- how far the run has come, and whether a turn of it was left half taken
-pub record Held : Type 0 where
+pub record EngineView : Type 0 where
   pub run : Running
   pub spent : Bool
 

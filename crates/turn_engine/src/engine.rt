@@ -3,13 +3,11 @@ ghost use Rattle.std.specs.Prelude.{◌≡◌, ◌<◌, ◌≤◌, ◌-◌, ◌^
 ghost use Rattle.site_model.specs.PlainSite.{site_view};
 ghost use Rattle.site_model.specs.Sound.{IsSound};
 ghost use Rattle.depend_graph.specs.Cycles.{IsOnCycle};
-ghost use Rattle.run_meaning.specs.Alone.{turn_alone};
-ghost use Rattle.run_meaning.specs.Runs.{IsTurn, begun_by, no_entries, stage_after, start};
+ghost use Rattle.run_meaning.specs.Runs.{IsTurn, no_entries, stage_after, start};
 ghost use Rattle.run_meaning.specs.Turns.{Begun};
 ghost use Rattle.time_range.specs.Zone.{IsBadFile, IsTableOf};
 ghost use Rattle.site_posts.specs.Books.{AreBooks, histories_of};
-ghost use Rattle.run_text.specs.TurnReading.{turn_read};
-ghost use Rattle.turn_engine.specs.Stages.{Tells, TellsTurn, basis_of_site, stage_of};
+ghost use Rattle.turn_engine.specs.Stages.{Tells, TellsTurn, basis_of_run, log_alone, stage_from, stage_of, turn_as_read};
 ghost use Rattle.turn_engine.specs.Checkables.{AreOf};
 ghost use Rattle.turn_engine.specs.Ready.{IsZoneOf};
 ghost use Rattle.turn_engine.specs.Told.{IsNoTurn, IsOnlyTurn};
@@ -17,9 +15,9 @@ ghost use Rattle.turn_engine.specs.Told.{IsNoTurn, IsOnlyTurn};
 use crate::books::books_of;
 use crate::given::take_given;
 use crate::moments::greatest_moment_of;
+use crate::state::EngineState;
 use crate::turn_out::TurnOut;
 use crate::turns::{take_alone, take_by_many};
-use crate::works::Works;
 use check_plan::CheckPlan;
 use checkable_core::Checkable;
 use depend_graph::Graph;
@@ -39,7 +37,7 @@ use time_range::Zone;
 /// want of memory may leave a turn half taken.
 #[derive(Drop)]
 pub struct Engine {
-    works: Works,
+    state: EngineState,
     spent: bool,
 }
 
@@ -47,15 +45,15 @@ impl Model for Engine {
     ghost use Rattle.std.specs.Coded.{codes};
     ghost use Rattle.std.specs.Prelude.{◌≡◌, false};
     ghost use Rattle.site_base.specs.contracts.tree.Tree as tree;
-    ghost use Rattle.turn_engine.specs.Ready.{Held, IsReady, running};
+    ghost use Rattle.turn_engine.specs.Ready.{EngineView, IsReady, running};
 
-    ghost Value = { Held };
+    ghost Value = { EngineView };
 
     ghost coded = { Prim.hlevel (codes, tree.the_row.coded) };
 
-    ghost view = { λ e. record { run = running e.works; spent = e.spent } };
+    ghost view = { λ e. record { run = running e.state; spent = e.spent } };
 
-    ghost invariant = { λ e. e.spent ≡ false → IsReady e.works };
+    ghost invariant = { λ e. e.spent ≡ false → IsReady e.state };
 }
 
 impl Engine {
@@ -106,7 +104,7 @@ impl Engine {
         let problems = Problems::of(alloc, books.as_slice())?;
         let moment = greatest_moment_of(books.as_slice());
         Ok(Engine {
-            works: Works {
+            state: EngineState {
                 alloc,
                 site,
                 graph,
@@ -129,7 +127,7 @@ impl Engine {
         ensures are { self.spent ≡ false → AreBooks (site_view self.run.site) self.run.moment result.1.items }
         ensures each { self.spent ≡ false → AreOf (site_view self.run.site) result.1.items }
     {
-        self.works.into_parts()
+        self.state.into_parts()
     }
 
     /// Takes a turn, and gives what is refused of it, the entries that checkables get, and the checks that are to be started. Reports of orders
@@ -145,21 +143,21 @@ impl Engine {
         requires fresh { self.old.spent ≡ false }
         requires few { self.old.run.turns < 2 ^ 40 }
         ensures tells { (begun : List Begun) →
-            IfOk result (λ out. Tells out (turn_alone (basis_of_site (site_view self.old.run.site) self.old.run.zone) (stage_of self.old.run begun) (turn_read (site_view self.old.run.site) turn.now))) }
+            IfOk result (λ out. Tells out (log_alone self.old.run begun turn.now)) }
         ensures turn { (begun : List Begun) →
-            OnOk result (IsTurn (basis_of_site (site_view self.old.run.site) self.old.run.zone) 1 (stage_of self.old.run begun) (turn_read (site_view self.old.run.site) turn.now)
-            (turn_alone (basis_of_site (site_view self.old.run.site) self.old.run.zone) (stage_of self.old.run begun) (turn_read (site_view self.old.run.site) turn.now))) }
+            OnOk result (IsTurn (basis_of_run self.old.run) 1 (stage_of self.old.run begun) (turn_as_read self.old.run turn.now)
+            (log_alone self.old.run begun turn.now)) }
         ensures stage { (begun : List Begun) →
-            OnOk result (stage_of self.new.run (begun_by (stage_of self.old.run begun) self.new.run.moment)
-            ≡ stage_after (basis_of_site (site_view self.old.run.site) self.old.run.zone) (stage_of self.old.run begun) (turn_read (site_view self.old.run.site) turn.now)
-            (turn_alone (basis_of_site (site_view self.old.run.site) self.old.run.zone) (stage_of self.old.run begun) (turn_read (site_view self.old.run.site) turn.now))) }
+            OnOk result (stage_from self.old.run begun self.new.run
+            ≡ stage_after (basis_of_run self.old.run) (stage_of self.old.run begun) (turn_as_read self.old.run turn.now)
+            (log_alone self.old.run begun turn.now)) }
         ensures site { OnOk result (self.new.run.site ≡ self.old.run.site) }
         ensures zone { OnOk result (self.new.run.zone ≡ self.old.run.zone) }
         ensures fresh { OnOk result (self.new.spent ≡ false) }
         ensures spent { OnErr result (self.new.spent ≡ true) }
     {
         self.spent = true;
-        let out = take_alone(&mut self.works, turn)?;
+        let out = take_alone(&mut self.state, turn)?;
         self.spent = false;
         Ok(out)
     }
@@ -182,8 +180,8 @@ impl Engine {
         requires few { self.old.run.turns < 2 ^ 40 }
         requires workers { (1 ≤ workers) × (workers ≤ 64) }
         ensures turn { (begun : List Begun) →
-            IfOk result (λ out. TellsTurn (basis_of_site (site_view self.old.run.site) self.old.run.zone) workers (stage_of self.old.run begun) (turn_read (site_view self.old.run.site) turn.now) out
-            (stage_of self.new.run (begun_by (stage_of self.old.run begun) self.new.run.moment))) }
+            IfOk result (λ out. TellsTurn (basis_of_run self.old.run) workers (stage_of self.old.run begun) (turn_as_read self.old.run turn.now) out
+            (stage_from self.old.run begun self.new.run)) }
         ensures site { OnOk result (self.new.run.site ≡ self.old.run.site) }
         ensures zone { OnOk result (self.new.run.zone ≡ self.old.run.zone) }
         ensures fresh { OnOk result (self.new.spent ≡ false) }
@@ -193,7 +191,7 @@ impl Engine {
             return self.turn_one(turn);
         }
         self.spent = true;
-        let out = take_by_many(rt, &mut self.works, turn, workers, gate)?;
+        let out = take_by_many(rt, &mut self.state, turn, workers, gate)?;
         self.spent = false;
         Ok(out)
     }
@@ -217,15 +215,15 @@ impl Engine {
         requires few { self.old.run.turns < 2 ^ 40 }
         requires callers { 1 ≤ callers }
         ensures turn { (begun : List Begun) →
-            IfOk result (λ r. MatchOption r (IsNoTurn (basis_of_site (site_view self.old.run.site) self.old.run.zone) callers (stage_of self.old.run begun) (turn_read (site_view self.old.run.site) turn.now) told.items)
-            (λ out. IsOnlyTurn (basis_of_site (site_view self.old.run.site) self.old.run.zone) callers (stage_of self.old.run begun) (turn_read (site_view self.old.run.site) turn.now) told.items out
-            (stage_of self.new.run (begun_by (stage_of self.old.run begun) self.new.run.moment)))) }
+            IfOk result (λ r. MatchOption r (IsNoTurn (basis_of_run self.old.run) callers (stage_of self.old.run begun) (turn_as_read self.old.run turn.now) told.items)
+            (λ out. IsOnlyTurn (basis_of_run self.old.run) callers (stage_of self.old.run begun) (turn_as_read self.old.run turn.now) told.items out
+            (stage_from self.old.run begun self.new.run))) }
         ensures site { OnOk result (self.new.run.site ≡ self.old.run.site) }
         ensures zone { OnOk result (self.new.run.zone ≡ self.old.run.zone) }
         ensures fresh { IfOk result (λ r. IfSome r (λ _. self.new.spent ≡ false)) }
     {
         self.spent = true;
-        let Some(out) = take_given(&mut self.works, turn, callers, told)? else {
+        let Some(out) = take_given(&mut self.state, turn, callers, told)? else {
             return Ok(None);
         };
         self.spent = false;
@@ -236,7 +234,7 @@ impl Engine {
     pub fn site(&self) -> &Site
         ensures { result.now ≡ self.now.run.site }
     {
-        &self.works.site
+        &self.state.site
     }
 
     /// The checkables with their entries, by index.
@@ -244,14 +242,14 @@ impl Engine {
         ensures entries { histories_of result.now ≡ self.now.run.histories }
         ensures are { self.now.spent ≡ false → AreBooks (site_view self.now.run.site) self.now.run.moment result.now }
     {
-        self.works.books.as_slice()
+        self.state.books.as_slice()
     }
 
     /// The moment of the last turn; 0 before the first.
     pub fn moment(&self) -> Moment
         ensures { result ≡ self.now.run.moment }
     {
-        self.works.moment
+        self.state.moment
     }
 
     /// How many orders have no report yet. There are never more than may be.
@@ -259,14 +257,14 @@ impl Engine {
         ensures orders { result ≡ length self.now.run.plans.outstanding }
         ensures few { self.now.spent ≡ false → result ≤ (site_view self.now.run.site).max_orders }
     {
-        self.works.plan.outstanding()
+        self.state.plan.outstanding()
     }
 
     /// How many turns were taken.
     pub fn turns(&self) -> u64
         ensures { result ≡ self.now.run.turns }
     {
-        self.works.turns
+        self.state.turns
     }
 }
 

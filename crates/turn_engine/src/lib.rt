@@ -2,7 +2,7 @@
 //! entries checkables get, and which checks are ordered.
 //!
 //! In reading order: an order with its words (`order_out`), what a turn gives (`turn_out`), how orders get their words (`starting`),
-//! the checkables without entries (`books`), the greatest moment of entries (`moments`), what the engine keeps (`works`), the round that
+//! the checkables without entries (`books`), the greatest moment of entries (`moments`), what the engine keeps (`state`), the round that
 //! several workers make (`callers`), what follows the round of a turn (`settling`), a turn from its beginning on (`turns`), and the engine
 //! (`engine`).
 #![tactic(auto)]
@@ -15,9 +15,9 @@ mod moments;
 mod order_out;
 mod settling;
 mod starting;
+mod state;
 mod turn_out;
 mod turns;
-mod works;
 
 pub use books::books_of;
 pub use engine::{Engine, zone_of};

@@ -11,8 +11,8 @@ ghost use Rattle.turn_engine.specs.Ready.{IsReady, running};
 ghost use Rattle.turn_engine.specs.Stages.{TellsTurn, stage_of};
 
 use crate::starting::start;
+use crate::state::EngineState;
 use crate::turn_out::TurnOut;
-use crate::works::Works;
 use site_base::{Moment, OutOfMemory};
 use site_posts::{Segments, Setting};
 use turn_deal::Refusal;
@@ -20,39 +20,39 @@ use turn_deal::Refusal;
 /// Settles a turn whose round is made, whoever made it: orders checks, follows the problems that last, and gives what the turn tells. The
 /// books have the entries of the round.
 pub(crate) fn settle(
-    works: &mut Works,
+    state: &mut EngineState,
     moment: Moment,
     refusals: Vec<Refusal>,
     segments: Segments,
 ) -> Result<TurnOut, OutOfMemory>
-    requires { CanSettle moment segments works.old }
-    ensures takes { (plan : Plan) (books : Vec Contents Global) (callers : ℕ) (turn : Turn) (begun : List Begun) → IsRounded (begun_with plan books works.old) callers turn moment refusals.items segments works.old.plan works.old.books.items →
-        IfOk result (λ out. TellsTurn (basis_at works.old) callers (stage_of (running (begun_with plan books works.old)) begun) (read_at works.old turn) out (stage_of (running works.new) (begun_by (stage_of (running (begun_with plan books works.old)) begun) works.new.moment))) }
-    ensures ready { (plan : Plan) (books : Vec Contents Global) (callers : ℕ) (turn : Turn) → IsRounded (begun_with plan books works.old) callers turn moment refusals.items segments works.old.plan works.old.books.items →
-        OnOk result (IsReady works.new) }
+    requires { CanSettle moment segments state.old }
+    ensures takes { (plan : Plan) (books : Vec Contents Global) (callers : ℕ) (turn : Turn) (begun : List Begun) → IsRounded (begun_with plan books state.old) callers turn moment refusals.items segments state.old.plan state.old.books.items →
+        IfOk result (λ out. TellsTurn (basis_at state.old) callers (stage_of (running (begun_with plan books state.old)) begun) (read_at state.old turn) out (stage_of (running state.new) (begun_by (stage_of (running (begun_with plan books state.old)) begun) state.new.moment))) }
+    ensures ready { (plan : Plan) (books : Vec Contents Global) (callers : ℕ) (turn : Turn) → IsRounded (begun_with plan books state.old) callers turn moment refusals.items segments state.old.plan state.old.books.items →
+        OnOk result (IsReady state.new) }
     ensures segments { IfOk result (λ out. out.segments ≡ segments) }
-    ensures site { OnOk result (works.new.site ≡ works.old.site) }
-    ensures zone { OnOk result (works.new.zone ≡ works.old.zone) }
+    ensures site { OnOk result (state.new.site ≡ state.old.site) }
+    ensures zone { OnOk result (state.new.zone ≡ state.old.zone) }
 {
     let setting = Setting {
-        alloc: works.alloc,
-        site: &works.site,
-        graph: &works.graph,
-        zone: &works.zone,
+        alloc: state.alloc,
+        site: &state.site,
+        graph: &state.graph,
+        zone: &state.zone,
         moment,
     };
-    let ordered = works
+    let ordered = state
         .plan
-        .after_round(&setting, works.books.as_slice(), segments.as_slice())?;
-    works
+        .after_round(&setting, state.books.as_slice(), segments.as_slice())?;
+    state
         .problems
-        .follow(works.books.as_slice(), segments.as_slice())?;
-    let started = start(works.alloc, &works.site, ordered.as_slice())?;
-    works.not_started = started.not_started;
-    works.turns += 1;
-    works.moment = moment;
+        .follow(state.books.as_slice(), segments.as_slice())?;
+    let started = start(state.alloc, &state.site, ordered.as_slice())?;
+    state.not_started = started.not_started;
+    state.turns += 1;
+    state.moment = moment;
     Ok(TurnOut {
-        number: works.turns,
+        number: state.turns,
         moment,
         refusals,
         segments,

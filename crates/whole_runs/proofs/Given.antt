@@ -11,7 +11,7 @@ use Rattle.down_recur.specs.Contents.{after, begun, gives}
 use Rattle.down_recur.specs.Recurrings.{recurrings}
 use Rattle.down_recur.specs.declared.recurring.Recurring.{Recurring}
 use Rattle.site_run.specs.Feeds.{Changing, lines_fed}
-use Rattle.site_run.specs.Logs.{IsLog, Given, Whole, given_by}
+use Rattle.site_run.specs.Logs.{IsLog, Given, Output, given_by}
 use Rattle.site_run.proofs.Fed.{none_fed}
 use Rattle.site_run.proofs.OneLog.{one_log}
 use Rattle.whole_runs.specs.Logs.{IsGiven, IsSiteLog, plain_given, recurring_given}
@@ -52,6 +52,6 @@ one_given true s histories a b p q =
     ∙ sym q.2
 one_given false s histories a b p q = p ∙ sym q
 
-pub one_site_log : (style : Style) (recur : Bool) (limit : ℕ) (s : PlainSite) (histories : Histories) (turns : List Turn) (v w : Whole) → HasNames s → IsSiteLog 1 style recur limit s histories turns v → IsSiteLog 1 style recur limit s histories turns w → v ≡ w
+pub one_site_log : (style : Style) (recur : Bool) (limit : ℕ) (s : PlainSite) (histories : Histories) (turns : List Turn) (v w : Output) → HasNames s → IsSiteLog 1 style recur limit s histories turns v → IsSiteLog 1 style recur limit s histories turns w → v ≡ w
 one_site_log style recur limit s histories turns v w names p q =
     one_log style limit s q.0 turns v w names (subst (λ given. IsLog 1 style limit s given turns v) (one_given recur s histories p.0 q.0 p.1 q.1) p.2) q.2

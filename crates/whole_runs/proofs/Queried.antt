@@ -18,7 +18,7 @@ use Rattle.site_run.specs.Ends.{Ends, NoneLeft, Outside, Stands, Takes, outside}
 use Rattle.site_run.specs.Feeds.{Changing, Giving, basis_with}
 use Rattle.site_run.specs.Logs.{AreLogs, Given, given_by}
 use Rattle.site_run.specs.declared.status.Status.TheVariants as status
-use Rattle.turn_engine.specs.Ready.{Held, IsZoneOf}
+use Rattle.turn_engine.specs.Ready.{EngineView, IsZoneOf}
 use Rattle.turn_engine.specs.Stages.{Running, stage_of}
 use Rattle.site_run.proofs.OneLog.{one_run, same_basis}
 use Rattle.whole_runs.specs.Queried.{IsQueried, stage_left}
@@ -84,7 +84,7 @@ module _ {F : Type 0} (gives : Giving F) (after : Changing F) (first : F) (histo
       record { logs = ls; are = are_logs turns ls are; is = is ∙ ap (λ (st : Stage). answer_text s st.histories st.moment query) left }
 
   -- the answer is over what it leaves, and so many turns were taken at most
-  pub queried : (limit : ℕ) (turns : List Turn) (started : Option (List Order)) (calls : Option (List (List Order))) (written : Option (List ℕ)) (kept : ℕ) (engine : Held) (now : F) (out : Outside) (query : Query) (text : List ℕ)
+  pub queried : (limit : ℕ) (turns : List Turn) (started : Option (List Order)) (calls : Option (List (List Order))) (written : Option (List ℕ)) (kept : ℕ) (engine : EngineView) (now : F) (out : Outside) (query : Query) (text : List ℕ)
       → Ends status.Done callers c limit (λ done ls. Stands c after first done ls engine now) (outside (Some turns) started calls written kept) out
       → text ≡ answer_text s engine.run.histories engine.run.moment query → (length turns ≤ limit) × IsQueried callers s given turns query text
   queried limit turns started calls written kept engine now out query text e is =

@@ -6,7 +6,7 @@ use Rattle.run_text.specs.declared.style.Style.{Style}
 use Rattle.site_edge.specs.declared.turn.Turn.{Turn}
 use Rattle.site_model.specs.PlainSite.{PlainSite}
 use Rattle.site_run.specs.Ends.{Outside}
-use Rattle.site_run.specs.Logs.{AnswersWorld, Given, IsLog, Went, Whole}
+use Rattle.site_run.specs.Logs.{AnswersWorld, Given, IsLog, Went, Output}
 use Rattle.site_run.specs.declared.status.Status.{Status}
 use Rattle.site_run.specs.declared.status.Status.TheVariants as status
 use Rattle.site_run.specs.Feeds.{no_lines}
@@ -31,11 +31,11 @@ abbrev pub OnGiven : Bool → PlainSite → Histories → (Given → Type 0) →
 OnGiven recur s histories Is = (given : Given) × IsGiven recur s histories given × Is given
 
 -- the log of the first so many of these turns, after these entries
-abbrev pub IsSiteLog : ℕ → Style → Bool → ℕ → PlainSite → Histories → List Turn → Whole → Type 0
+abbrev pub IsSiteLog : ℕ → Style → Bool → ℕ → PlainSite → Histories → List Turn → Output → Type 0
 IsSiteLog callers style recur limit s histories turns w = OnGiven recur s histories (λ given. IsLog callers style limit s given turns w)
 
 -- that of the world's turns: of those that are told, and else of some
-abbrev pub AnswersTurns : ℕ → Style → Bool → ℕ → Option (List Turn) → PlainSite → Histories → Whole → Type 0
+abbrev pub AnswersTurns : ℕ → Style → Bool → ℕ → Option (List Turn) → PlainSite → Histories → Output → Type 0
 AnswersTurns callers style recur limit turns s histories w = OnGiven recur s histories (λ given. AnswersWorld callers style limit given turns s w)
 
 -- How far it came: nowhere, as there was no memory for what a run stands on; or into the log.

@@ -7,7 +7,7 @@ ghost use Rattle.site_edge.specs.declared.turn.Turn.{Turn};
 ghost use Rattle.site_model.specs.PlainSite.{PlainSite};
 ghost use Rattle.site_model.specs.Sound.{HasNames};
 ghost use Rattle.site_query.specs.declared.query.Query.{Query};
-ghost use Rattle.site_run.specs.Logs.{Given, Whole};
+ghost use Rattle.site_run.specs.Logs.{Given, Output};
 ghost use Rattle.turn_engine.specs.Ready.{IsZoneOf};
 ghost use Rattle.whole_runs.specs.Logs.{IsSiteLog};
 ghost use Rattle.whole_runs.specs.Queried.{IsQueried};
@@ -20,7 +20,7 @@ pub fn a_zone_file_decides_what_recurs()
 
 /// So the log of one caller's turns over a site is one, whether its downtimes recur or not.
 pub fn a_site_log_is_one()
-    ensures { (style : Style) (recur : Bool) (limit : ℕ) (s : PlainSite) (histories : Histories) (turns : List Turn) (v w : Whole) → HasNames s
+    ensures { (style : Style) (recur : Bool) (limit : ℕ) (s : PlainSite) (histories : Histories) (turns : List Turn) (v w : Output) → HasNames s
         → IsSiteLog 1 style recur limit s histories turns v → IsSiteLog 1 style recur limit s histories turns w → v ≡ w }
 {}
 

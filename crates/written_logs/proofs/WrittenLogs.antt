@@ -7,7 +7,7 @@ use Rattle.site_load.specs.Configs.{config_outcome, names_of}
 use Rattle.site_load.specs.Loads.{load_outcome}
 use Rattle.site_model.specs.PlainSite.{PlainSite}
 use Rattle.site_run.specs.Callers.{AreCallers}
-use Rattle.site_run.specs.Logs.{AnswersWorld, IsLog, Whole, nothing_given}
+use Rattle.site_run.specs.Logs.{AnswersWorld, IsLog, Output, nothing_given}
 use Rattle.site_text.specs.Scripts.{Answer, Has, bad_line, told}
 use Rattle.run_meaning.specs.Runs.{no_entries}
 use Rattle.run_replies.specs.Runs.{Files}
@@ -39,7 +39,7 @@ all_taken P (suc n) (x ∷ xs) h = (h.0, all_taken P n xs h.1)
 few_turns : (turns : List Turn) → length (take most_turns turns) ≤ 2 ^ 40
 few_turns turns = let low = few_taken most_turns turns in let most : most_turns ≤ 2 ^ 40 = lit≤ tt in omega (arith, low, most)
 
-module _ (callers : ℕ) (style : Style) (s : PlainSite) (can : CanBeRun s) (many : AreCallers callers) (w : Whole) (few : AreFew w.text) where
+module _ (callers : ℕ) (style : Style) (s : PlainSite) (can : CanBeRun s) (many : AreCallers callers) (w : Output) (few : AreFew w.text) where
   in_memory : (turns : List Turn) → AllByRecursion FitsTurn turns → IsLog callers style most_turns s (nothing_given s) turns w → IsLogInMemory callers style most_turns s turns w
   in_memory turns fits log = record {
     log = log;
@@ -59,31 +59,31 @@ module _ (callers : ℕ) (style : Style) (s : PlainSite) (can : CanBeRun s) (man
 
 -- ---- that of a script
 
-module _ (callers : ℕ) (style : Style) (s : PlainSite) (can : CanBeRun s) (many : AreCallers callers) (w : Whole) (whole : IsWholeLog w) (script : List ℕ) where
+module _ (callers : ℕ) (style : Style) (s : PlainSite) (can : CanBeRun s) (many : AreCallers callers) (w : Output) (whole : IsWholeLog w) (script : List ℕ) where
   turns_legal : (bytes : List ℕ) → AreFew bytes → (a : Answer) → Has bytes a → OnTurns (IsSiteLog callers style false most_turns s (no_entries s)) script a w → IsSaidLegal callers s w
   turns_legal bytes few (told turns) has h = site_log_legal callers style s can many w whole.few turns (script_fits bytes turns has few) h
-  turns_legal bytes few (bad_line n) has h = absurd (whole.ends (ap (λ (x : Whole). x.ends) h))
+  turns_legal bytes few (bad_line n) has h = absurd (whole.ends (ap (λ (x : Output). x.ends) h))
 
   script_legal : (found : Option (List ℕ)) → IfSome found AreFew → OnScript (IsSiteLog callers style false most_turns s (no_entries s)) script found w → IsSaidLegal callers s w
-  script_legal None few h = absurd (whole.ends (ap (λ (x : Whole). x.ends) h))
+  script_legal None few h = absurd (whole.ends (ap (λ (x : Output). x.ends) h))
   script_legal (Some bytes) few h = turns_legal bytes few h.0 h.1 h.2
 
 -- ---- over the site of files
 
 -- what is asked of the site of a root is asked of this one
-of_site : (all : Files) (root : List ℕ) (s : PlainSite) (Is : PlainSite → Whole → Type 0) (w : Whole) → IsSiteInMemory all root s → AnswersSite all root Is w → Is s w
+of_site : (all : Files) (root : List ℕ) (s : PlainSite) (Is : PlainSite → Output → Type 0) (w : Output) → IsSiteInMemory all root s → AnswersSite all root Is w → Is s w
 of_site all root s Is w h answers =
     let sure = decided all root s h.is h.ready in
     subst (AnswersOver Is w (names_of (load_outcome all root))) (h.is false sure) (answers false sure)
 
-pub replayed_legal : (callers : ℕ) (style : Style) (root script : List ℕ) (all : Files) (turns : Option (List Turn)) (s : PlainSite) (w : Whole)
+pub replayed_legal : (callers : ℕ) (style : Style) (root script : List ℕ) (all : Files) (turns : Option (List Turn)) (s : PlainSite) (w : Output)
     → AreCallers callers → IsSiteInMemory all root s → IfSome (find_file script all) AreFew
     → Answers callers (replay style false root script) (Some all) turns w → IsWholeLog w → IsSaidLegal callers s w
 replayed_legal callers style root script all turns s w many h few answers whole =
     script_legal callers style s (runs all root s h) many w whole script (find_file script all) few
     (of_site all root s (AnswersReplayed callers style false None script all) w h answers)
 
-pub watched_legal : (callers : ℕ) (style : Style) (root : List ℕ) (all : Files) (turns : List Turn) (s : PlainSite) (w : Whole)
+pub watched_legal : (callers : ℕ) (style : Style) (root : List ℕ) (all : Files) (turns : List Turn) (s : PlainSite) (w : Output)
     → AreCallers callers → IsSiteInMemory all root s → AllByRecursion FitsTurn turns
     → Answers callers (daemon style false root None) (Some all) (Some turns) w → IsWholeLog w → IsSaidLegal callers s w
 watched_legal callers style root all turns s w many h fits answers whole =

@@ -10,7 +10,7 @@ ghost use Rattle.site_edge.specs.declared.turn.Turn.{Turn};
 ghost use Rattle.site_model.specs.PlainSite.{PlainSite};
 ghost use Rattle.site_program.specs.TaskAnswers.{Answers};
 ghost use Rattle.site_run.specs.Callers.{AreCallers};
-ghost use Rattle.site_run.specs.Logs.{Whole};
+ghost use Rattle.site_run.specs.Logs.{Output};
 ghost use Rattle.site_words.specs.Tasks.{daemon, replay};
 ghost use Rattle.written_logs.specs.Written.{AreFew, IsSaidLegal, IsSiteInMemory, IsWholeLog};
 
@@ -22,10 +22,10 @@ pub fn sites_of_files_can_be_run()
 /// Each log that `replay` or `daemon` writes is legal, with one worker and with up to 64, if its downtimes don't recur and it goes on after no state
 /// file.
 pub fn written_logs_are_legal()
-    ensures replayed { (callers : ℕ) (style : Style) (root script : List ℕ) (all : Files) (turns : Option (List Turn)) (s : PlainSite) (w : Whole)
+    ensures replayed { (callers : ℕ) (style : Style) (root script : List ℕ) (all : Files) (turns : Option (List Turn)) (s : PlainSite) (w : Output)
         → AreCallers callers → IsSiteInMemory all root s → IfSome (find_file script all) AreFew
         → Answers callers (replay style false root script) (Some all) turns w → IsWholeLog w → IsSaidLegal callers s w }
-    ensures watched { (callers : ℕ) (style : Style) (root : List ℕ) (all : Files) (turns : List Turn) (s : PlainSite) (w : Whole)
+    ensures watched { (callers : ℕ) (style : Style) (root : List ℕ) (all : Files) (turns : List Turn) (s : PlainSite) (w : Output)
         → AreCallers callers → IsSiteInMemory all root s → AllByRecursion FitsTurn turns
         → Answers callers (daemon style false root None) (Some all) (Some turns) w → IsWholeLog w → IsSaidLegal callers s w }
 {}

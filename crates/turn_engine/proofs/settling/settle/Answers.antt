@@ -15,13 +15,13 @@ use Rattle.turn_engine.proofs.settling.settle.Goals as goal
 
 pub follow-requires : goal.follow-requires
 follow-requires c =
-    let s = site_view c.args.works.now.site in
+    let s = site_view c.args.state.now.site in
     let whole : length s.checkables ≡ length c.as_slice-3.result.now = sym (ap length c.as_slice-3.ensures.value ∙ c.requires.books.whole) in
     subst (λ n. All (λ x. x.checkable < n) c.as_slice-4.result.now) whole (subst (All (λ x. x.checkable < length s.checkables)) (sym c.as_slice-4.ensures) c.requires.within)
 
 pub returns-clause-takes : goal.returns-clause-takes
 returns-clause-takes c = λ plan books callers turn begun h.
-    let w = c.args.works.now in
+    let w = c.args.state.now in
     let command = command_of (site_view w.site) in
     let made = round h in
     let before = histories_of books.items in
@@ -41,7 +41,7 @@ returns-clause-takes c = λ plan books callers turn begun h.
 
 pub returns-clause-ready : goal.returns-clause-ready
 returns-clause-ready c = λ plan books callers turn h.
-    let w = c.args.works.now in
+    let w = c.args.state.now in
     let s = site_view w.site in
     let command = command_of s in
     let made = round h in

@@ -5,4 +5,4 @@ use Rattle.turn_engine.proofs.turns.deal_turn.Goals as goal
 pub returns : goal.returns
 returns c =
     let deals = c.in_ok-dealt.ensures in
-    opened {w = c.args.works.now} {turn = c.args.turn.now} c.as_slice.result.now c.as_slice.ensures.value c.requires c.later_of-moment.ensures deals.lines deals.reports deals.ticks deals.refusals deals.plan
+    opened {w = c.args.state.now} {turn = c.args.turn.now} c.as_slice.result.now c.as_slice.ensures.value c.requires c.later_of-moment.ensures deals.lines deals.reports deals.ticks deals.refusals deals.plan

@@ -13,7 +13,7 @@ use time_range::Zone;
 
 /// A site with all that is kept of its run.
 #[derive(Drop)]
-pub(crate) struct Works {
+pub(crate) struct EngineState {
     pub(crate) alloc: Global,
     pub(crate) site: Site,
     pub(crate) graph: Graph,
@@ -30,7 +30,7 @@ pub(crate) struct Works {
     pub(crate) moment: Moment,
 }
 
-impl Works {
+impl EngineState {
     /// The site and its checkables.
     pub(crate) fn into_parts(self) -> (Site, Vec<Checkable>)
         ensures site { result.0 ≡ self.site }
