@@ -7,8 +7,8 @@ use Rattle.std.specs.Prelude.{slice_index, slice_set, Option}
 use Rattle.atomic_table.specs.Table.{State, Step, Allows, Act, Valid, carried_after, keeps, takes, stepped}
 use Rattle.atomic_table.proofs.Lists.{at_set, set_here, set_else, set_again}
 use Rattle.post_turn.specs.declared.body.Body.{Body}
-use Rattle.post_turn.specs.declared.caller.Caller.{Caller}
-use Rattle.post_turn.specs.declared.view.View.{View}
+use Rattle.post_turn.specs.declared.pass.Caller.{Caller}
+use Rattle.post_turn.specs.declared.pass.View.{View}
 use Rattle.post_turn.specs.History.{IsFront, entries_of, replay}
 use Rattle.post_turn.specs.Turns.{Kept, Knows, AtHome, IsOut, Each, Mine, Took, waiting, serving, shown, awaited, times, total, ticketed}
 use Rattle.post_turn.proofs.Lists.{below, same_at, front_refl}

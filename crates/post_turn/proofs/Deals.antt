@@ -6,8 +6,8 @@ use Rattle.std.specs.Prelude.{Option}
 use Rattle.atomic_table.specs.Table.{State, Splits}
 use Rattle.atomic_table.proofs.Lists.{at_set, set_else, at_longer}
 use Rattle.post_turn.specs.declared.body.Body.{Body}
-use Rattle.post_turn.specs.declared.caller.Caller.{Caller}
-use Rattle.post_turn.specs.declared.view.View.{View}
+use Rattle.post_turn.specs.declared.pass.Caller.{Caller}
+use Rattle.post_turn.specs.declared.pass.View.{View}
 use Rattle.post_turn.specs.Turns.{Kept, Knows, Each, resting, serving, first_of, rest_of, times, total, ticketed}
 use Rattle.post_turn.proofs.Lists.{snoc_at, same_at}
 use Rattle.post_turn.proofs.Views.{total_set, total_snoc}

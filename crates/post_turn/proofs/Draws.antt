@@ -6,8 +6,8 @@ use Rattle.std.specs.Prelude.{slice_index, slice_set, Option}
 use Rattle.atomic_table.specs.Table.{Step, Allows, keeps, stepped}
 use Rattle.atomic_table.proofs.Lists.{at_set, set_here, set_else, at_longer, at_last}
 use Rattle.post_turn.specs.declared.body.Body.{Body}
-use Rattle.post_turn.specs.declared.caller.Caller.{Caller}
-use Rattle.post_turn.specs.declared.view.View.{View}
+use Rattle.post_turn.specs.declared.pass.Caller.{Caller}
+use Rattle.post_turn.specs.declared.pass.View.{View}
 use Rattle.post_turn.specs.Turns.{Kept, AtHome, IsOut, Each, Mine, resting, waiting, serving, drawn, times, total, ticketed}
 use Rattle.post_turn.proofs.Lists.{snoc_at, below, same_at}
 use Rattle.post_turn.proofs.Views.{first_or, total_set}

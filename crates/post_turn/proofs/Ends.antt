@@ -5,8 +5,8 @@ use lib.ListN.{get_elem?}
 use Rattle.std.specs.Prelude.{Option}
 use Rattle.atomic_table.specs.Table.{State, Final, Seen}
 use Rattle.post_turn.specs.declared.body.Body.{Body}
-use Rattle.post_turn.specs.declared.caller.Caller.{Caller}
-use Rattle.post_turn.specs.declared.view.View.{View}
+use Rattle.post_turn.specs.declared.pass.Caller.{Caller}
+use Rattle.post_turn.specs.declared.pass.View.{View}
 use Rattle.post_turn.specs.History.{entries_of}
 use Rattle.post_turn.specs.Turns.{Kept, Knows, IsBody, IsOut, Each, resting, serving, total}
 use Rattle.post_turn.proofs.Lists.{same_at}

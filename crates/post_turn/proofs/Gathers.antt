@@ -6,8 +6,8 @@ use Rattle.std.specs.Prelude.{Option}
 use Rattle.atomic_table.specs.Table.{State, Joins}
 use Rattle.atomic_table.proofs.Lists.{at_set, set_else}
 use Rattle.post_turn.specs.declared.body.Body.{Body}
-use Rattle.post_turn.specs.declared.caller.Caller.{Caller}
-use Rattle.post_turn.specs.declared.view.View.{View}
+use Rattle.post_turn.specs.declared.pass.Caller.{Caller}
+use Rattle.post_turn.specs.declared.pass.View.{View}
 use Rattle.post_turn.specs.Turns.{Kept, Knows, Each, resting, serving, gathered, nobody, times, total, ticketed}
 use Rattle.post_turn.proofs.Lists.{same_at}
 use Rattle.post_turn.proofs.Views.{total_set, times_append, each_append}

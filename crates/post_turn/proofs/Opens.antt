@@ -3,7 +3,7 @@ use Rattle.std.proofs.Common.{◌≡◌, ℕ, zero, suc, ◌+◌, ◌^◌, ◌<�
 use mathlib.Core.Option.{some-ne-none}
 use Rattle.atomic_table.specs.Table.{opening}
 use Rattle.post_turn.specs.declared.body.Body.{Body}
-use Rattle.post_turn.specs.declared.view.View.{View}
+use Rattle.post_turn.specs.declared.pass.View.{View}
 use Rattle.post_turn.specs.Turns.{Kept, Knows, Each, everyone, newcomers, times, ticketed}
 use Rattle.post_turn.proofs.Lists.{single}
 use Rattle.post_turn.proofs.Views.{newcomers_once, newcomers_length}

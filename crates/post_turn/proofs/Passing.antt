@@ -3,7 +3,7 @@ use Rattle.std.proofs.Common.{◌≡◌, ℕ, List, [], ◌∷◌, refl, sym, ap
 use Rattle.std.specs.Prelude.{Option}
 use Rattle.atomic_table.specs.Table.{Step, rest}
 use Rattle.post_turn.specs.declared.body.Body.{Body}
-use Rattle.post_turn.specs.declared.caller.Caller.{Caller}
+use Rattle.post_turn.specs.declared.pass.Caller.{Caller}
 use Rattle.post_turn.specs.History.{IsFront, entries_of, replay}
 use Rattle.post_turn.specs.Turns.{Mine, Took, caller, resting, waiting, serving, shown, seen_in, mine_in, awaited}
 

@@ -7,8 +7,8 @@ use Rattle.std.specs.Prelude.{slice_index, slice_set, Option, eqb}
 use Rattle.atomic_table.specs.Table.{State, Step, Allows, gives, stepped}
 use Rattle.atomic_table.proofs.Lists.{at_set, set_else}
 use Rattle.post_turn.specs.declared.body.Body.{Body}
-use Rattle.post_turn.specs.declared.caller.Caller.{Caller}
-use Rattle.post_turn.specs.declared.view.View.{View}
+use Rattle.post_turn.specs.declared.pass.Caller.{Caller}
+use Rattle.post_turn.specs.declared.pass.View.{View}
 use Rattle.post_turn.specs.History.{Continues, entries_of, replay}
 use Rattle.post_turn.specs.Turns.{Kept, Knows, IsOut, Each, Mine, resting, serving, grown, served, times, total, ticketed}
 use Rattle.post_turn.proofs.Lists.{same_at, first_is, front_refl, front_trans, own_after}

@@ -1,7 +1,7 @@
 -- All passes of a post, and the callers on them.
 use Rattle.std.proofs.Common.{◌≡◌, ℕ, zero, suc, List, [], ◌∷◌, ◌++◌, length, refl, sym, ap, ◌∙◌, subst, arith, append_assoc, append-nil, length-append}
 use Rattle.std.specs.Prelude.{All}
-use Rattle.post_turn.specs.declared.caller.Caller.{Caller}
+use Rattle.post_turn.specs.declared.pass.Caller.{Caller}
 use Rattle.post_turn.specs.declared.pass.Pass.{Pass}
 use Rattle.post_turn.specs.declared.post.Post.{Post}
 use Rattle.post_turn.specs.History.{IsFront, entries_of}

@@ -3,8 +3,8 @@ use Rattle.std.proofs.Common.{rules, ◌≡◌, ◌≢◌, ℕ, zero, suc, ◌+�
 use mathlib.Core.Option.{some, some-injective, some-ne-none}
 use native.Mathlib.Decide.{ℕ_discrete}
 use lib.ListN.{get_elem?}
-use Rattle.post_turn.specs.declared.caller.Caller.{Caller}
-use Rattle.post_turn.specs.declared.view.View.{View}
+use Rattle.post_turn.specs.declared.pass.Caller.{Caller}
+use Rattle.post_turn.specs.declared.pass.View.{View}
 use Rattle.post_turn.specs.Turns.{caller, newcomers, times, Each, total}
 
 one_at_most : (b : Bool) → cond {A = ℕ} b 1 0 ≤ 1

@@ -3,7 +3,7 @@ use Rattle.std.specs.Prelude.{◌≡◌, ℕ, ◌<◌, List, [], ◌∷◌, ◌+
 use Rattle.post_turn.specs.declared.post.Post.{Post}
 use Rattle.post_turn.specs.declared.pass.Pass.{Pass}
 use Rattle.post_turn.specs.declared.body.Body.{Body}
-use Rattle.post_turn.specs.declared.caller.Caller.{Caller}
+use Rattle.post_turn.specs.declared.pass.Caller.{Caller}
 use Rattle.atomic_table.specs.Seated.{TableId}
 use Rattle.post_turn.specs.History.{IsFront, entries_of, replay}
 use Rattle.post_turn.specs.Turns.{caller, resting, serving, seen_in, mine_in}

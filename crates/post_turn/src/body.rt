@@ -1,8 +1,23 @@
-// What the one slot of a post holds.
+// The state with its history, which one step of the machine makes longer.
 ghost use Rattle.std.specs.Prelude.{◌≡◌, ℕ, ◌∷◌, [], ◌++◌, length, IfOk, IfErr};
 ghost use Rattle.post_turn.specs.History.{Continues};
 
-use crate::{Machine, Receipt, Refused};
+use crate::Machine;
+
+/// The place of an entry and what was seen behind it.
+#[derive(Drop)]
+pub struct Receipt<M: Machine> {
+    /// The place of the call's entry in the history, from 1.
+    pub number: u64,
+    /// The glance of the state that the entry made.
+    pub glance: M::Glance,
+}
+
+/// There was no memory. The event comes back, and the history got no entry.
+#[derive(Drop)]
+pub struct Refused<M: Machine> {
+    pub event: M::Event,
+}
 
 /// The state, and the history of all entries.
 #[derive(Drop)]

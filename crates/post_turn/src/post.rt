@@ -7,7 +7,7 @@ use crate::turns::TurnLock;
 mod acting;
 mod closing;
 mod opening;
-mod steps;
+mod waiting;
 
 /// A machine whose state the callers share. Each caller acts through its own pass, and may do so
 /// while other threads act through theirs.

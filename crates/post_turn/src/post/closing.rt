@@ -5,8 +5,7 @@ ghost use Rattle.post_turn.specs.Turns.{resting, Each, Knows, IsBody};
 ghost use Rattle.post_turn.specs.Passes.{start_of, callers_of, seen_of, mine_of, IsPassOf, IsOn, KnowsOwn, callers_on};
 
 use crate::body::Body;
-use crate::plays::Gather;
-use crate::turns::{Place, TurnLock};
+use crate::turns::{Gather, Place, TurnLock};
 use crate::{Machine, Pass, Post};
 use site_base::Row;
 

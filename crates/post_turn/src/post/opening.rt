@@ -3,10 +3,8 @@ ghost use Rattle.std.specs.Prelude.{◌≡◌, ℕ, ◌<◌, ◌≤◌, ◌+◌,
 ghost use Rattle.post_turn.specs.Turns.{everyone, newcomers, resting};
 ghost use Rattle.post_turn.specs.Passes.{start_of, callers_of, AreDealt};
 
-use crate::about::About;
 use crate::body::Body;
-use crate::plays::Deal;
-use crate::turns::Place;
+use crate::turns::{About, Deal, Place};
 use crate::{Machine, Pass, Post};
 use atomic_table::Table;
 use site_base::{OutOfMemory, Row};

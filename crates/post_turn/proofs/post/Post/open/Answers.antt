@@ -1,7 +1,7 @@
 use Rattle.std.proofs.Common.{◌≡◌, sym, ap, refl, subst, ◌∙◌, [], ◌∷◌, ◌++◌, Some}
 use Rattle.atomic_table.specs.Table.{opening}
 use Rattle.std.specs.Prelude.{Option, List}
-use Rattle.post_turn.specs.declared.about.About.{About}
+use Rattle.post_turn.specs.declared.turns.About.{About}
 use Rattle.post_turn.specs.declared.body.Body.{Body}
 use Rattle.post_turn.specs.Turns.{Kept, everyone}
 use Rattle.post_turn.proofs.Opens.{opens}
