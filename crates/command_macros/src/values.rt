@@ -1,17 +1,20 @@
 // The values of arguments.
-ghost use Rattle.std.specs.Prelude.{[], Some};
+ghost use Rattle.std.specs.Prelude.{◌≡◌, [], IfOk, IfSome, Some};
+ghost use Rattle.site_base.specs.Data.{string};
 ghost use Rattle.site_base.specs.View.{view, items_view};
 ghost use Rattle.command_macros.specs.Arguments.{item_words, values_found, as_word, one_found, each_found};
+ghost use Rattle.command_macros.specs.Cuts.{Lacks};
 ghost use Rattle.command_macros.specs.Macros.{own_made};
 ghost use Rattle.command_macros.specs.Made.{made};
 ghost use Rattle.command_macros.specs.Returns.{Adds, Finds, tree_found};
 ghost use Rattle.command_macros.specs.Scopes.{scope_view};
 ghost use Rattle.command_macros.specs.Values.{value_made};
 
+use crate::cutting::cut;
 use crate::scope::Scope;
 use crate::stop::Stop;
 use crate::texts::{DEPTHS, push_value};
-use site_base::{Text, Texts, Tree};
+use site_base::{OutOfMemory, Text, Texts, Tree};
 use std::alloc::Global;
 
 /// What the value of an argument becomes.
@@ -90,8 +93,22 @@ fn add_word<'a>(
 ) -> Result<(), Stop<'a>>
     ensures { Adds words.old words.new result (as_word (value_made (own_made (scope_view scope.now)) (made []) (view value.now))) }
 {
+    if let Some(word) = plain_word(value)? {
+        words.push(word)?;
+        return Ok(());
+    }
     let mut text = Text::new(alloc);
     push_value(alloc, &mut text, scope, DEPTHS, None, value)?;
     words.push(text)?;
     Ok(())
+}
+
+/// The word that a value is by itself: a text without macros, which isn't copied.
+fn plain_word(value: &Tree) -> Result<Option<Text>, OutOfMemory>
+    ensures { IfOk result (λ word. IfSome word (λ text. (view value.now ≡ string text) × Lacks 36 text)) }
+{
+    match value {
+        Tree::Str(text) if cut(text.as_str(), '$').is_none() => Ok(Some(text.clone()?)),
+        _ => Ok(None),
+    }
 }
