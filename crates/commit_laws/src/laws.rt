@@ -59,8 +59,8 @@ pub fn a_commit_of_files_loses_nothing()
     ensures rises { (files : List PlainFile) (order : List ℕ) (v : Value) (s : State) → load_run files order ≡ gives v s → RisesThroughout (loaded s) }
 {}
 
-/// Of objects whose full names differ in each type no duplicate is told, and where each name in an object is that of one, no missing name is. Together with
-/// `objects_without_faults_stand` of conf_check: these are told where they are wrong, and nowhere else.
+/// Of objects whose full names differ in each type no duplicate is told, and if each name in an object is that of one, no missing name is. Together with
+/// `objects_without_faults_stand` of conf_check: these faults are told of the objects that have them, and of no others.
 pub fn objects_that_stand_have_no_faults()
     ensures apart { (files : List (List ℕ)) (os : List PlainObject) → ((t : ObjectType) → AreDistinct (names_of t os)) → duplicate_faults files os ≡ [] }
     ensures there { (os : List PlainObject) → All (NamesAreThere (has_object os)) os → reference_faults os ≡ [] }
