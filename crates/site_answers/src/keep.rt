@@ -76,7 +76,7 @@ fn keep_bytes<S: Sink, C: Workers>(
     ensures calm_sink { S.calm out.old → result ≢ Status.WriteFault }
     ensures no_world_fault { result ≢ Status.WorldFault }
 {
-    match turns_of(alloc, bytes) {
+    match turns_of(alloc, workers, bytes) {
         Ok(turns) => match keep_turns(alloc, workers, site, turns, MOST_TURNS) {
             Ok(file) => write_file(alloc, file, out),
             Err(_) => Status::OutOfMemory,

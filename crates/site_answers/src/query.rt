@@ -84,7 +84,7 @@ fn after_bytes<F: Files, S: Sink, C: Workers>(
     ensures calm_sink { S.calm out.old → result ≢ Status.WriteFault }
     ensures no_world_fault { result ≢ Status.WorldFault }
 {
-    match turns_of(alloc, bytes) {
+    match turns_of(alloc, workers, bytes) {
         Ok(turns) => after_turns(alloc, workers, query, site, turns, files, out),
         Err(ScriptError::BadScript { line }) => write_made(bad_script(alloc, script, line), out),
         Err(ScriptError::OutOfMemory) => Status::OutOfMemory,

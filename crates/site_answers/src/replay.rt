@@ -21,7 +21,7 @@ use site_edge::{FileFault, Files, Sink, Turn};
 use site_model::Site;
 use site_replies::{bad_script, no_file};
 use site_run::{ScriptWorld, Status, Workers};
-use site_text::{ScriptError, read_script};
+use site_text::ScriptError;
 use std::alloc::Global;
 use whole_runs::write_site_log;
 
@@ -126,7 +126,7 @@ fn replay_bytes<S: Sink, C: Workers>(
     ensures calm_sink { S.calm out.old → result ≢ Status.WriteFault }
     ensures no_world_fault { result ≢ Status.WorldFault }
 {
-    match turns_of(alloc, bytes) {
+    match turns_of(alloc, workers, bytes) {
         Ok(turns) => write_site_log(
             alloc,
             workers,
@@ -144,8 +144,14 @@ fn replay_bytes<S: Sink, C: Workers>(
 }
 
 /// The turns of a script, whose bytes are kept no longer.
-pub(crate) fn turns_of(alloc: Global, bytes: Blob) -> Result<Row<Turn>, ScriptError>
+pub(crate) fn turns_of<C: Workers>(
+    alloc: Global,
+    workers: &C,
+    bytes: Blob,
+) -> Result<Row<Turn>, ScriptError>
+    requires callers { AreCallers (C.callers workers.now) }
+    requires apt { C.apt workers.now }
     ensures { Tells (Has bytes) result }
 {
-    read_script(alloc, bytes.as_slice())
+    workers.read(alloc, bytes.as_slice())
 }

@@ -19,6 +19,8 @@ ghost use Rattle.site_words.specs.Tasks.{is_audit};
 ghost use Rattle.site_run.specs.Callers.{AreCallers};
 ghost use Rattle.site_run.specs.Logs.{EndsRun};
 ghost use Rattle.site_run.specs.Ends.{HandsOn, outside};
+ghost use Rattle.site_text.specs.ScriptReading.{Tells as TellsScript};
+ghost use Rattle.site_text.specs.Scripts.{Has};
 ghost use Rattle.site_program.specs.Complete.{IsComplete};
 ghost use Rattle.site_program.specs.TaskAnswers.{Answers, Came, Remarked, is_daemon, is_generate};
 
@@ -27,7 +29,8 @@ use crate::running::{run_one, run_task};
 use engine_log::turn_lines_by_many;
 use post_turn::Gate;
 use run_text::Style;
-use site_base::{OutOfMemory, Text, Texts};
+use script_parts::read_script_by_many;
+use site_base::{OutOfMemory, Row, Text, Texts};
 use site_conf::LoadFault;
 use site_edge::{Files, Sink, Turn, World};
 use site_load::{Made, config_answer_by_many, config_made_by_many};
@@ -35,6 +38,7 @@ use site_model::Site;
 use site_phases::Answer;
 use site_replies::Remarks;
 use site_run::{ManyWorkers, Status};
+use site_text::ScriptError;
 use site_words::command_of;
 use std::alloc::Global;
 use std::sync::Wait;
@@ -99,6 +103,10 @@ pub fn run<F: Files, W: World, S: Sink, N: Remarks, R: Wait + Threads + Sync, G:
     let count = command.workers;
     let workers = ManyWorkers {
         count,
+        read: |alloc: Global, bytes: &[u8]| -> Result<Row<Turn>, ScriptError>
+            requires { AreCallers count }
+            ensures { TellsScript (Has bytes.now) result }
+        { read_script_by_many(rt, alloc, bytes, count) },
         take: |engine: &mut Engine, turn: &Turn| -> Result<TurnOut, OutOfMemory>
             requires fresh { engine.old.spent ≡ false }
             requires few { engine.old.run.turns < 2 ^ 40 }

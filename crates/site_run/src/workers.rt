@@ -8,12 +8,15 @@ ghost use Rattle.site_model.specs.Sound.{IsSound};
 ghost use Rattle.turn_engine.specs.Stages.{Tells, TellsTurn, basis_of_run, stage_from, stage_of, turn_as_read};
 ghost use Rattle.engine_log.specs.OnSite.{IsTurnOf};
 ghost use Rattle.site_run.specs.Callers.{AreCallers};
+ghost use Rattle.site_text.specs.ScriptReading.{Tells as TellsScript};
+ghost use Rattle.site_text.specs.Scripts.{Has};
 
 use engine_log::turn_lines;
 use run_text::Style;
-use site_base::{OutOfMemory, Texts};
+use site_base::{OutOfMemory, Row, Texts};
 use site_edge::Turn;
 use site_model::Site;
+use site_text::{ScriptError, read_script};
 use std::alloc::Global;
 use turn_engine::{Engine, TurnOut};
 
@@ -28,6 +31,16 @@ pub trait Workers {
     /// How many callers they are.
     fn count(&self) -> u32
         ensures { result ≡ callers self.now };
+
+    /// The turns of a script, as [`read_script`] reads them.
+    ///
+    /// # Errors
+    ///
+    /// As of [`read_script`].
+    fn read(&self, alloc: Global, bytes: &[u8]) -> Result<Row<Turn>, ScriptError>
+        requires callers { AreCallers (callers self.now) }
+        requires apt { apt self.now }
+        ensures { TellsScript (Has bytes.now) result };
 
     /// Takes a turn of an engine. They are 1 to 64 callers, the engine isn't spent, and fewer than 2^40 turns were taken of it.
     ///
@@ -75,6 +88,10 @@ impl Workers for OneWorker {
 
     fn count(&self) -> u32 {
         1
+    }
+
+    fn read(&self, alloc: Global, bytes: &[u8]) -> Result<Row<Turn>, ScriptError> {
+        read_script(alloc, bytes)
     }
 
     fn turn(&self, engine: &mut Engine, turn: &Turn) -> Result<TurnOut, OutOfMemory> {
