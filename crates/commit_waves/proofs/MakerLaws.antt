@@ -1,5 +1,5 @@
 -- The waves that a maker is given are those of the load, one after another.
-use Rattle.std.proofs.Common.{◌≡◌, ℕ, suc, Vec, map, Result, Ok, Err, IfOk, refl}
+use Rattle.std.proofs.Common.{◌≡◌, ℕ, suc, List, Vec, map, Result, Ok, Err, IfOk, refl}
 use Rattle.std.specs.declared.alloc.Global.{Global}
 use Rattle.site_model.specs.declared.object.Object.{Object}
 use Rattle.site_phases.specs.Phases.{IfSite}

@@ -43,4 +43,4 @@ finish-requires-clause-few g c =
 pub returns-clause-stands : goal.returns-clause-stands
 returns-clause-stands g c = λ stood.
     let none = nothing c.in_ok-made.made.list (sym c.is_empty.ensures ∙ c.if-not-is_empty.false) in
-    if_site (g.M.WaveMaker.stands c.in_ok-made.new.maker (plain_parts c.args.loaded.parts) 6) (c.in_ok-made.ensures.stands stood none) c.finish.result
+    if_site (g.M.WaveMaker.stands c.run_waves.new.maker (plain_parts c.args.loaded.parts) 6) (c.in_ok-made.ensures.stands stood none) c.finish.result

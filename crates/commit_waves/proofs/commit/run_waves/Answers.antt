@@ -57,6 +57,24 @@ returns-then-not-is_empty-clause-diags g c =
     last_one p c.loop-wave.objects c.loop-wave.groups.items c.loop-wave.wave (c.loop-wave.wave + 1) c.in_ok-list.list (omega arith) (omega arith) c.loop-wave.invariant.after (c.in_ok-list.ensures.diags ∙ same)
     (something c.in_ok-list.list (sym c.is_empty.ensures ∙ c.if-not-is_empty.true))
 
+pub returns-in_err-list-clause-holds : goal.returns-in_err-list-clause-holds
+returns-in_err-list-clause-holds g c = λ stood held.
+    let p = with_items c.args.items c.args.parts.now in
+    let mine = c.in_ok-of_wave.field-0.of_wave.items in
+    let next : c.loop-wave.wave < c.loop-wave.wave + 1 = omega arith in
+    let here = these p c.loop-wave.left.items c.loop-wave.wave (c.loop-wave.wave + 1) next c.loop-wave.invariant.left mine c.in_ok-of_wave.ensures.of_wave in
+    let following = next_wave p c.loop-wave.objects c.loop-wave.groups.items c.loop-wave.wave (c.loop-wave.wave + 1) c.loop-wave.invariant.after (omega arith) c.in_ok-of_wave.field-0.of_wave here in
+    c.run_wave.ensures.holds (plain_parts p) c.loop-wave.wave following (c.loop-wave.invariant.stands stood) (c.loop-wave.invariant.holds stood held)
+
+pub returns-then-not-is_empty-clause-holds : goal.returns-then-not-is_empty-clause-holds
+returns-then-not-is_empty-clause-holds g c = λ stood held.
+    let p = with_items c.args.items c.args.parts.now in
+    let mine = c.in_ok-of_wave.field-0.of_wave.items in
+    let next : c.loop-wave.wave < c.loop-wave.wave + 1 = omega arith in
+    let here = these p c.loop-wave.left.items c.loop-wave.wave (c.loop-wave.wave + 1) next c.loop-wave.invariant.left mine c.in_ok-of_wave.ensures.of_wave in
+    let following = next_wave p c.loop-wave.objects c.loop-wave.groups.items c.loop-wave.wave (c.loop-wave.wave + 1) c.loop-wave.invariant.after (omega arith) c.in_ok-of_wave.field-0.of_wave here in
+    c.run_wave.ensures.holds (plain_parts p) c.loop-wave.wave following (c.loop-wave.invariant.stands stood) (c.loop-wave.invariant.holds stood held)
+
 pub returns-then-not-is_empty-clause-objects : goal.returns-then-not-is_empty-clause-objects
 returns-then-not-is_empty-clause-objects g c = λ none. absurd (something c.in_ok-list.list (sym c.is_empty.ensures ∙ c.if-not-is_empty.true) none)
 
