@@ -1,5 +1,8 @@
-pub mod Telling
-pub mod Reading
 pub mod Opened
 pub mod Ends
+pub mod Bound
+pub mod Given
+pub mod Telling
 pub mod Finding
+pub mod Reading
+pub mod Answered

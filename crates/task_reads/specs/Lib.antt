@@ -1,3 +1,4 @@
+pub mod Lefts
 pub mod Looks
 pub mod Telling
-pub mod Lefts
+pub mod Given

@@ -9,8 +9,9 @@ ghost use Rattle.task_reads.specs.Looks.{plain_look, reads_of};
 ghost use Rattle.task_reads.specs.Telling.{IsToldOf, looks_told};
 
 use crate::Look;
+use dsl_value::Store;
 use eval_meaning::Read;
-use eval_work::{Committed, Known, WorldView};
+use eval_work::{Committed, Known, Templates, WorldView};
 use name_work::is_absent;
 use site_base::OutOfMemory;
 use site_model::Object;
@@ -40,23 +41,23 @@ impl Told {
         }
     }
 
-    /// The view that shows what was told, and no rules and files. It has the store and the templates of a world.
-    pub(crate) fn view<'a>(&'a self, world: &WorldView<'a>) -> WorldView<'a>
+    /// The view with this store and these templates that shows what was told, and no rules and files.
+    pub(crate) fn view<'a>(&'a self, store: &'a Store, templates: &'a Templates) -> WorldView<'a>
         ensures view { view_of result ≡ record {
-          store = plain_store world.now.store.now;
-          templates = map plain_template world.now.templates.now;
+          store = plain_store store.now;
+          templates = map plain_template templates.now;
           rules = [];
           objects = map shown_object self.now.objects;
           absent = self.now.known.absent.items;
           whole = self.now.known.whole.items;
           files = [];
         } }
-        ensures store { result.store.now ≡ world.now.store.now }
-        ensures templates { result.templates.now ≡ world.now.templates.now }
+        ensures store { result.store.now ≡ store.now }
+        ensures templates { result.templates.now ≡ templates.now }
     {
         WorldView {
-            store: world.store,
-            templates: world.templates,
+            store,
+            templates,
             rules: &[],
             objects: &self.objects,
             known: &self.known,
