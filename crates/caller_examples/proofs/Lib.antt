@@ -1,3 +1,4 @@
+pub mod BothOrders
 pub mod Orders
 pub mod Moves
 pub mod HostAndService

@@ -12,7 +12,7 @@ use Rattle.run_meaning.proofs.Lists.{moves_on, of_index_past}
 use Rattle.run_meaning.proofs.Parts.{apart}
 use Rattle.run_meaning.proofs.Shares.{entries_are_dealt}
 use Rattle.run_meaning.proofs.Sole.{done_by, front}
-use Rattle.run_examples.specs.Callers.{b, first, line, line_first, report_first, reported, run_by, turn_by, turns}
+use Rattle.caller_examples.specs.Callers.{b, first, line, line_first, report_first, reported, run_by, turn_by, turns}
 use Rattle.run_examples.specs.Turns.{empty, ended, on, report, of_status, turn}
 use Rattle.caller_examples.proofs.Orders.{none, two}
 use Rattle.caller_examples.proofs.Moves.{AllSeen, round_is}

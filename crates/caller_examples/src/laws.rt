@@ -4,7 +4,7 @@ ghost use Rattle.run_meaning.specs.Turns.{Histories, of_index};
 ghost use Rattle.run_meaning.specs.Rounds.{IsRound};
 ghost use Rattle.run_meaning.specs.Runs.{IsRun, TurnLog};
 ghost use Rattle.run_meaning.specs.TwoCallers.{events, nothing, rules, sight};
-ghost use Rattle.run_examples.specs.Callers.{b, first, line_first, report_first, turns};
+ghost use Rattle.caller_examples.specs.Callers.{b, first, line_first, report_first, turns};
 ghost use Rattle.caller_examples.specs.Orders.{host_first, service_first};
 
 /// One caller takes an event of a host and another one of its service: the service's entry has seen the host's where the

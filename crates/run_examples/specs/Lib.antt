@@ -4,5 +4,4 @@ pub mod Rows
 pub mod Histories
 pub mod Outlooks
 pub mod Checks
-pub mod Callers
 pub mod Causes

@@ -2,10 +2,9 @@
 //!
 //! In reading order: what results, acknowledgements and switches make of a checkable (`states`), `flapping`, `downtimes`,
 //! `notifications`, which cause of a suppression is told (`causes`), what holds checkables back (`reachability`), which checks
-//! are ordered (`schedule`), runs as a whole (`runs`), and two callers at once (`callers`). The sites and turns that they speak of stand in `specs/`.
+//! are ordered (`schedule`), and runs as a whole (`runs`). The sites and turns that they speak of stand in `specs/`.
 #![tactic(auto)]
 
-mod callers;
 mod causes;
 mod downtimes;
 mod flapping;
@@ -15,7 +14,6 @@ mod runs;
 mod schedule;
 mod states;
 
-pub use callers::two_callers_on_a_service;
 pub use causes::{dependency_in_a_run, each_cause_in_its_turn};
 pub use downtimes::{
     downtime_then_problem, flexible_downtime, live_downtimes, triggered_by_its_own_problem,

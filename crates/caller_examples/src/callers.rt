@@ -4,7 +4,7 @@ ghost use Rattle.run_meaning.specs.Runs.{IsRun};
 ghost use Rattle.run_meaning.specs.Dealing.{refused_report};
 ghost use Rattle.run_examples.specs.Turns.{of_status};
 ghost use Rattle.run_examples.specs.Rows.{order, orders_of};
-ghost use Rattle.run_examples.specs.Callers.{b, done, done_in, first, good, line_first, report_first, turns};
+ghost use Rattle.caller_examples.specs.Callers.{b, done, done_in, first, good, line_first, report_first, turns};
 
 /// Of two callers, one takes a passive problem of a service and one the report of its order: either entry may come first.
 pub fn two_callers_on_a_service()

@@ -3,7 +3,7 @@ use Rattle.std.proofs.Common.{◌≡◌, ◌<◌, ℕ, zero, suc, [], ◌∷◌,
 use Rattle.run_meaning.specs.Runs.{IsRun}
 use Rattle.run_meaning.specs.Alone.{Move}
 use Rattle.run_meaning.proofs.Meeting.{moves_make}
-use Rattle.run_examples.specs.Callers.{b, first, line, line_first, report_first, reported, turns}
+use Rattle.caller_examples.specs.Callers.{b, first, line, line_first, report_first, reported, turns}
 
 none : (P : Move → Type 0) (i : ℕ) (m : Move) → slice_get [] i ≡ Some m → P m
 none P i m h = absurd cc
