@@ -26,8 +26,8 @@ pub fn a_load_takes_all_types()
     ensures { types ≡ map type_name all_types }
 {}
 
-/// Whatever files a load runs: its items and rules are of the types, its rules go to types to which rules of their own go, and both are numbered as they
-/// are registered, so that no two of them have one number.
+/// Whatever files a load runs: its items and rules are of the types, its rules go to types to which rules of their own go, and both
+/// are numbered as they are registered, so that no two of them have one number.
 pub fn a_load_registers_by_types()
     ensures { (files : List PlainFile) (order : List ℕ) → GivesRegistered (load_run files order) }
 {}
@@ -42,8 +42,9 @@ pub fn a_wave_loses_nothing()
     ensures { (load : Loaded) (w : ℕ) → LosesNothing load w }
 {}
 
-/// A commit loses nothing: each item that was registered, each item that a rule made, each rule at each target and each object that groups may take has
-/// its part in the site, or the commit is refused, and then by its own diagnostics, by too many items, by an earlier wave, or by something else.
+/// A commit loses nothing: each item that was registered, each item that a rule made, each rule at each target and each object that
+/// groups may take has its part in the site, or the commit is refused, and then by its own diagnostics, by too many items, by an
+/// earlier wave, or by something else.
 pub fn a_commit_loses_nothing()
     ensures { (phases : List PlainObject → List (List Diag)) (last : List PlainObject → PlainSite) (load : Loaded) → IsRegistered load → CommitLosesNothing load (commit phases last load) }
 {}
@@ -59,8 +60,9 @@ pub fn a_commit_of_files_loses_nothing()
     ensures rises { (files : List PlainFile) (order : List ℕ) (v : Value) (s : State) → load_run files order ≡ gives v s → RisesThroughout (loaded s) }
 {}
 
-/// Of objects whose full names differ in each type no duplicate is told, and if each name in an object is that of one, no missing name is. Together with
-/// `objects_without_faults_stand` of conf_check: these faults are told of the objects that have them, and of no others.
+/// Of objects whose full names differ in each type no duplicate is told, and if each name in an object is that of one, no
+/// missing name is. Together with `objects_without_faults_stand` of conf_check: these faults are told of the objects that have
+/// them, and of no others.
 pub fn objects_that_stand_have_no_faults()
     ensures apart { (files : List (List ℕ)) (os : List PlainObject) → ((t : ObjectType) → AreDistinct (names_of t os)) → duplicate_faults files os ≡ [] }
     ensures there { (os : List PlainObject) → All (NamesAreThere (has_object os)) os → reference_faults os ≡ [] }
