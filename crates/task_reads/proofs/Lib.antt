@@ -1,6 +1,5 @@
 pub mod Opened
 pub mod Ends
-pub mod Bound
 pub mod Given
 pub mod Telling
 pub mod Finding

@@ -18,7 +18,6 @@ ghost use Rattle.item_body.specs.Plain.{plain_answer};
 ghost use Rattle.task_reads.specs.Given.{GivesOnly, item_no, member_no, pair_no};
 ghost use Rattle.task_reads.specs.declared.task_no.TaskNo.{TaskNo as Given};
 
-use crate::answering::answer_of;
 use crate::task_no::number_of_pair;
 use crate::{TaskKind, TaskNo};
 use apply_rules::{PreparedTarget, PresetKeys, RuleAnswer, Target, instances};
@@ -28,6 +27,7 @@ use item_body::ItemAnswer;
 use site_base::{ItemNo, OutOfMemory};
 use site_model::Object;
 use std::alloc::Global;
+use wave_objects::answer_of;
 use wave_order::Pending;
 
 /// Who evaluates the tasks of a commit that aren't kept. Clauses see a baker as the list of the tasks that it was given.
