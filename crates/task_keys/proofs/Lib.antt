@@ -7,3 +7,5 @@ pub mod Unmoved
 pub mod Again
 pub mod Alike
 pub mod AlikeLoads
+pub mod Appends
+pub mod Arms
